@@ -223,6 +223,13 @@ ptrdiff_t linkwire_diff(const uint8_t *old_message, size_t old_len, const uint8_
  * address of the payload, its length, and an offset of 0. Takes no memory. */
 int32_t linkwire_next(const uint8_t *list, size_t len, size_t *at, struct linkwire_attribute *attribute);
 
+/* Finds the last attribute of each of several numbers, as the kernel reads a list. The `kind` of each of the `count`
+ * attributes at `found` says a number, of which the two flag bits do not count, and what is found takes its place. Where
+ * the list has none, `payload` and `payload_len` are 0. Returns 0; or -2, -3 or -4 where no attribute stands, wherever
+ * that is in the list, and then those in front of that place were found. Offsets are counted from the start of the
+ * list, which is that of a message or of a nest, as for `linkwire_next`. Takes no memory. */
+int32_t linkwire_pick(const uint8_t *list, size_t len, struct linkwire_attribute *found, size_t count);
+
 /* Writes an attribute at `*at` of a list that has room for `cap` bytes: 1, and header, payload and the padding up to
  * the next multiple of four, which is zeros, stand there; `*at` moves past them, and all other bytes are kept. -16
  * where the payload has more than 65531 bytes, else -19 where there is no room, padding counted; then nothing changes.

@@ -45,7 +45,7 @@ OPTIONS = {"linkshow--lenient": ["--lenient"], "linkshow--kernel": ["--kernel", 
 OF_OPTIONS = ["dumps", "repeats", "events", "damaged", "settings-64", "swapped-64", "all-refused", "refused-turning"]
 LIBRARY, CRATE, DUMP = "link_c", "rust", "linkdump--read"
 CALLS = ["check", "canonical_len", "canonical", "state", "same_message", "unlike_message", "same_state", "unlike_state",
-         "next", "put", "fault_at", "fault_path", "canonical_lenient_len", "canonical_lenient", "state_lenient",
+         "next", "pick", "put", "fault_at", "fault_path", "canonical_lenient_len", "canonical_lenient", "state_lenient",
          "refusal_next", "show", "show_leniently", "diff", "diff_leniently"]
 OF_CALLS = ["dumps", "requests", "functions-300", "damaged", "names-of-three", "all-refused"]
 OF_CRATE = [f"{CRATE}_{call}" for call in ("check", "parse", "to_vec", "attributes", "view", "unchecked_view")]

@@ -62,6 +62,13 @@ static void next(struct message it, struct message before) {
     }
 }
 
+/* Name, MTU and state. */
+static void pick(struct message it, struct message before) {
+    (void)before;
+    struct linkwire_attribute found[3] = {{.kind = 3}, {.kind = 4}, {.kind = 16}};
+    linkwire_pick(it.bytes + LINKWIRE_HEADER_SIZE, it.len - LINKWIRE_HEADER_SIZE, found, 3);
+}
+
 /* All attributes, which are found by their lengths alone, so that no other call is counted. */
 static void put(struct message it, struct message before) {
     (void)before;
@@ -148,6 +155,7 @@ static const struct {
     {"same_state", same_state},
     {"unlike_state", unlike_state},
     {"next", next},
+    {"pick", pick},
     {"put", put},
     {"fault_at", fault_at},
     {"fault_path", fault_path},

@@ -650,6 +650,15 @@ static void tries_list(const uint8_t *message, size_t len) {
     uint8_t *list = place(&area_of_out, room);
     memcpy(list, message, LINKWIRE_HEADER_SIZE);
     while (linkwire_next(message, len, &at, &it) == 1) {
+        struct linkwire_attribute later = it, found = {it.kind, 0, 0};
+        for (size_t from = at; linkwire_next(message, len, &from, &later) == 1;) {
+            found = linkwire_number(later.kind) == linkwire_number(it.kind) ? later : found;
+        }
+        found = found.payload ? found : it;
+        later = (struct linkwire_attribute){linkwire_number(it.kind), 1, 1};
+        LAW(linkwire_pick(message + LINKWIRE_HEADER_SIZE, len - LINKWIRE_HEADER_SIZE, &later, 1) == 0);
+        LAW(later.kind == found.kind && later.payload + LINKWIRE_HEADER_SIZE == found.payload &&
+            later.payload_len == found.payload_len);
         size_t before = to, end = (it.payload + it.payload_len + 3) & ~(size_t)3;
         LAW(it.payload_len <= len - it.payload && at == (end < len ? end : len));
         LAW(linkwire_put(list, it.payload + it.payload_len - 1, &to, it.kind, message + it.payload, it.payload_len) ==

@@ -1,4 +1,5 @@
 /* Reads and writes lists of attributes, nested ones too, and calls the static functions of linkwire.h. */
+#include <linux/if_link.h>
 #include <stdio.h>
 #include <string.h>
 
@@ -60,6 +61,54 @@ static void ends(void) {
     EXPECT(linkwire_next(list, sizeof list, &at, &found), 0);
     EXPECT(at, -1);
     EXPECT(is_dirty(found), 1);
+}
+
+/* Two of one number, one with a flag, and numbers that the list has not. */
+static void picks(void) {
+    static const uint8_t twice[] = {5, 0, 3, 0, 1, 0, 0, 0, 6, 0, 4, 0, 1, 2, 0, 0, 4, 0, 3, 0x80};
+    struct linkwire_attribute found[] = {dirty, dirty, dirty, dirty};
+    for (uint16_t i = 0; i < 3; i++) {
+        found[i].kind = (uint16_t)(i + 3);
+    }
+    found[3].kind = 0xc004;
+    for (int turn = 0; turn < 2; turn++) {
+        EXPECT(linkwire_pick(twice, sizeof twice, found, 4), 0);
+        EXPECT(is(found[0], 0x8003, 20, 0), 1);
+        EXPECT(is(found[1], 4, 12, 2), 1);
+        EXPECT(is(found[2], 5, 0, 0), 1);
+        EXPECT(is(found[3], 4, 12, 2), 1);
+    }
+    EXPECT(linkwire_pick(twice, 0, found, 4), 0);
+    EXPECT(is(found[0], 0x8003, 0, 0) && is(found[1], 4, 0, 0), 1);
+    EXPECT(linkwire_pick(twice, sizeof twice, found, 0), 0);
+    EXPECT(is(found[0], 0x8003, 0, 0), 1);
+}
+
+/* Three attributes of a message, as docs/C.md has it. */
+static void picks_three(void) {
+    static const uint8_t message[] = {0, 0, 1, 0, 1, 0, 0, 0, 0, 0, 0, 0, 0, 0, 0, 0,
+                                      7, 0, 3, 0, 'l', 'o', 0, 0, 8, 0, 4, 0, 0xdc, 5, 0, 0};
+    size_t len = sizeof message;
+    struct linkwire_attribute found[3] = {{.kind = IFLA_IFNAME}, {.kind = IFLA_MTU}, {.kind = IFLA_OPERSTATE}};
+    const uint8_t *attributes = message + LINKWIRE_HEADER_SIZE;
+    int32_t fault = linkwire_pick(attributes, len - LINKWIRE_HEADER_SIZE, found, 3);
+    uint32_t mtu = 0;
+    EXPECT(fault, 0);
+    EXPECT(found[0].payload_len == 3 && memcmp(attributes + found[0].payload, "lo", 3) == 0, 1);
+    EXPECT(linkwire_u32(attributes, &found[1], &mtu) && mtu == 1500, 1);
+    EXPECT(found[2].payload, 0);
+}
+
+/* What stands in front of a fault is found, and the fault is told though nothing is looked for behind it. */
+static void picks_in_front_of_a_fault(void) {
+    static const uint8_t bytes[] = {7, 0, 3, 0, 'l', 'o', 0, 0, 9, 0, 3, 0, 1, 2, 3, 4};
+    struct linkwire_attribute found = dirty;
+    found.kind = 3;
+    EXPECT(linkwire_pick(bytes, sizeof bytes, &found, 1), LINKWIRE_FRAME_OVER);
+    EXPECT(is(found, 3, 4, 3), 1);
+    EXPECT(linkwire_pick(bytes, 10, &found, 1), LINKWIRE_FRAME_SHORT);
+    EXPECT(is(found, 3, 4, 3), 1);
+    EXPECT(linkwire_pick(bytes, sizeof bytes, &found, 0), LINKWIRE_FRAME_OVER);
 }
 
 /* A whole attribute and then one at fault, cut after so many bytes. */
@@ -241,6 +290,9 @@ static void tells_answers_apart(void) {
 int main(void) {
     goes_over_a_list();
     ends();
+    picks();
+    picks_three();
+    picks_in_front_of_a_fault();
     refuses_each();
     goes_into_nests();
     puts_each();

@@ -1,4 +1,5 @@
 pub mod Faults
+pub mod Picking
 pub mod Refusals
 pub mod Steps
 pub mod Texts

@@ -4,6 +4,7 @@ pub mod Leniently
 pub mod Lists
 pub mod Messages
 pub mod Paths
+pub mod Picks
 pub mod Refused
 pub mod Shown
 pub mod Diffs

@@ -8,6 +8,7 @@ ghost use Rattle.link_c.specs.Diffs.{IsDiff};
 ghost use Rattle.link_c.specs.Leniently.{IsLenientLength, IsLenientText, IsLenientState};
 ghost use Rattle.link_c.specs.Lists.{IsNext, IsPut};
 ghost use Rattle.link_c.specs.Paths.{IsLookAlong};
+ghost use Rattle.link_c.specs.Picks.{IsPicked};
 ghost use Rattle.link_c.specs.Refused.{IsNextRefused};
 ghost use Rattle.link_c.specs.Shown.{IsShown, numbered_order, release_number};
 
@@ -19,6 +20,7 @@ use crate::message::{
     write_state,
 };
 use crate::path::{Path, look_along};
+use crate::pick::pick_attributes;
 use crate::refusal::{done_code, fault_code, length_code, whether_code};
 use crate::refused::{Refused, next_refused};
 use crate::show::{numbered_order, release_number, write_shown};
@@ -64,6 +66,14 @@ pub extern "C" fn linkwire_next(list: &[u8], at: &mut usize, attribute: &mut Att
     ensures { Says as_bit (IsNext list.now at.old at.new attribute.old attribute.new) result }
 {
     whether_code(next_attribute(list, at, attribute))
+}
+
+/// `linkwire_pick` of linkwire.h.
+#[unsafe(no_mangle)]
+pub extern "C" fn linkwire_pick(list: &[u8], found: &mut [Attribute]) -> i32
+    ensures { Says as_zero (IsPicked list.now found.old found.new) result }
+{
+    fault_code(pick_attributes(list, found))
 }
 
 /// `linkwire_put` of linkwire.h.

@@ -1,0 +1,6 @@
+use Rattle.std.proofs.Common.{◌≡◌, ◌++◌, map, take, drop}
+use Rattle.link_c.specs.Picks.{cleared}
+use Rattle.link_c.proofs.pick.clear.Given as goal
+
+abbrev pub invariant-loop-place : goal.invariant-loop-place
+invariant-loop-place l = l.found ≡ map cleared (take l.place-index l.fn.found) ++ drop l.place-index l.fn.found
