@@ -1,5 +1,5 @@
 #!/usr/bin/env python3
-"""Compares what frame_shown says of lines with what linkshow says of them.
+"""Compares what linkshow says of lines, by their frames, with what is shown of them by their values.
 
     python3 scripts/show_beside.py BESIDE LINKSHOW [ROUNDS [FILE..]]
 

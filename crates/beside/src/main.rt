@@ -1,21 +1,22 @@
-//! Shows lines of hexadecimal link messages as lines of JSON, by their frames: what linkshow writes of those that are
-//! messages, and of others what can be read of them. A word `before` or `since` says which order the counters of IPv6
-//! have, and a word `lenient` that attributes which are refused do not hide the others.
+//! Shows lines of hexadecimal link messages as lines of JSON, by their values, as linkdiff compares them: what linkshow
+//! writes of those that are messages, and of others what can be read of them. A word `before` or `since` says which
+//! order the counters of IPv6 have, and a word `lenient` that attributes which are refused do not hide the others.
 #![tactic(auto)]
 
 ghost use Rattle.std.specs.Prelude.{OnOk};
 ghost use Rattle.beside.specs.Grown.{Grows};
 
-use frame_shown::accepted::{are_frames, show_before, show_leniently};
-use frame_shown::checked::push_message;
-use frame_shown::form::{Around, Order};
 use line_filter::answers::Take;
 use line_filter::digits::{decode, values};
 use line_filter::program::{ended, refuse_all};
 use line_filter::run::read_lines;
-use link_info::tables::can::CAN_STATS;
 use link_info::{Tables, all_rows};
-use shown::Room;
+use link_msg::{Cause, LinkMessage};
+use message_shown::accepted::parse_accepted;
+use message_shown::context::{Context, Order};
+use message_shown::marked::{show_attributes, show_message};
+use nla_wire::fields::{i32_at, u8_at};
+use shown::{Nest, Page, Room};
 use std::alloc::{AllocError, Global};
 use std::env::{self, Args};
 use std::process::ExitCode;
@@ -34,25 +35,37 @@ struct Lines {
     alloc: Global,
 }
 
+/// Adds what stands in front of a fault: family and index, and the attributes in front of the one that is refused.
+fn show_before(cx: &Context<'_>, page: &mut Page, bytes: &[u8]) -> Result<(), AllocError> {
+    match LinkMessage::parse_before_fault(cx.alloc, bytes) {
+        Ok((message, _)) => {
+            page.number("ifi-family", u8_at(bytes, 0).into())?;
+            page.keyed_signed("ifi-index", i32_at(bytes, 4).into())?;
+            page.begin("before", Nest::Object)?;
+            show_attributes(cx, page, message.attributes.as_slice())?;
+            page.end()
+        }
+        Err(error) => match error.cause {
+            Cause::OutOfMemory => Err(AllocError),
+            _ => Ok(()),
+        },
+    }
+}
+
 /// Adds what is read of bytes that are no message.
-fn push_refused(
-    lines: &mut Lines,
-    cx: &Around<'_>,
+fn show_refused(
+    cx: &Context<'_>,
+    page: &mut Page,
     bytes: &[u8],
-    waiting: &mut Vec<u8>,
-) -> Result<(), AllocError>
-    ensures { OnOk result (Grows waiting.old.items waiting.new.items) }
-{
-    let mut page = lines.room.begin()?;
-    if lines.is_lenient && bytes.len() >= 16 && are_frames(&bytes[16..]) {
-        show_leniently(cx, &mut page, lines.alloc, bytes)?;
-    } else {
-        page.string("fault", "refused")?;
-        if bytes.len() >= 16 {
-            show_before(cx, &mut page, lines.alloc, bytes)?;
+    is_lenient: bool,
+) -> Result<(), AllocError> {
+    if is_lenient {
+        if let Some(part) = parse_accepted(cx.alloc, bytes)? {
+            return show_message(cx, page, bytes, &part);
         }
     }
-    lines.room.finish(page, waiting)
+    page.string("fault", "refused")?;
+    show_before(cx, page, bytes)
 }
 
 /// Adds what bytes say.
@@ -60,15 +73,18 @@ fn push_bytes(lines: &mut Lines, bytes: &[u8], waiting: &mut Vec<u8>) -> Result<
     ensures { OnOk result (Grows waiting.old.items waiting.new.items) }
 {
     let tables = lines.tables;
-    let cx = Around {
-        tables: &tables,
-        can_stats: CAN_STATS,
-        order: lines.order,
-        address_len: 0,
-    };
-    if push_message(&cx, &mut lines.room, bytes, waiting)?.is_some() {
-        push_refused(lines, &cx, bytes, waiting)?;
+    let cx = Context::new(lines.alloc, &tables, lines.order);
+    let mut page = lines.room.begin()?;
+    match LinkMessage::parse(cx.alloc, bytes) {
+        Ok(message) => show_message(&cx, &mut page, bytes, &message)?,
+        Err(error) => {
+            if let Cause::OutOfMemory = error.cause {
+                return Err(AllocError);
+            }
+            show_refused(&cx, &mut page, bytes, lines.is_lenient)?;
+        }
     }
+    lines.room.finish(page, waiting)?;
     waiting.extend_from_slice(b"\n")
 }
 

@@ -2,7 +2,6 @@ pub mod Elements
 pub mod Items
 pub mod Steps
 pub mod Named
-pub mod Texts
 pub mod Bare
 pub mod ValuesMeant
 pub mod RecordsMeant

@@ -21,13 +21,13 @@ use Rattle.nla_wire.specs.Fields.{number_at}
 use Rattle.nla_wire.specs.Frames.{Frame, IsBytes, number}
 use Rattle.nla_wire.specs.Grammar.{list}
 use Rattle.nla_wire.specs.Items.{items}
-use Rattle.shown.specs.Drafts.{Members, object_of}
+use Rattle.shown.specs.Drafts.{Members}
 use Rattle.shown.specs.Values.{flags_of, numbered}
 use Rattle.frame_shown.specs.Frames.{frame_item, levels}
 use Rattle.frame_shown.specs.Items.{Item, members_of}
 use Rattle.frame_shown.specs.Meaning.{MeanOne, MessagesAreMeant}
 use Rattle.frame_shown.specs.Messages.{address_len, attribute_members, frames_shown, header_members, link_flag_names}
-use Rattle.frame_shown.specs.Messages.{message_text, printed, with_address_len}
+use Rattle.frame_shown.specs.Messages.{message_members, with_address_len}
 use Rattle.frame_shown.specs.Values.{Nesting}
 use Rattle.frame_shown.specs.declared.form.Around.{Around}
 use Rattle.frame_shown.specs.declared.form.List.TheVariants as Shapes
@@ -145,14 +145,13 @@ same_header a b m h kinds =
     let mask : number_at w32 a 12 ≡ number_at w32 b 12 = mask_is a m h.2 ∙ sym (mask_is b m h.3) in
     λ i. header_with (family i) (kinds i) (index i) (flags i) (mask i)
 
-same_text : (cx : Around) (a b : List ℕ) (m : LinkMessage) → MeanOne a b m → number_at w16 a 2 ≡ number_at w16 b 2
-    → message_text cx a ≡ message_text cx b
-unfolding message_text
-same_text cx a b m h kinds =
+same_members : (cx : Around) (a b : List ℕ) (m : LinkMessage) → MeanOne a b m → number_at w16 a 2 ≡ number_at w16 b 2
+    → message_members cx a ≡ message_members cx b
+same_members cx a b m h kinds =
     let heads : header_members a ≡ header_members b = same_header a b m h kinds in
     let attributes : attribute_members cx (slice_index a 0) (drop 16 a)
     ≡ attribute_members cx (slice_index b 0) (drop 16 b) = same_attributes cx a b m h in
-    λ i. printed (object_of (heads i ++ attributes i))
+    λ i. heads i ++ attributes i
 
 pub messages_meant : (cx : Around) → MessagesAreMeant cx
-messages_meant cx = record { attributes = same_attributes cx; whole = same_text cx }
+messages_meant cx = record { attributes = same_attributes cx; whole = same_members cx }

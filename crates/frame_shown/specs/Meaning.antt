@@ -5,7 +5,7 @@ use Rattle.link_msg.specs.Messages.{Means}
 use Rattle.link_msg.specs.declared.message.LinkMessage.{LinkMessage}
 use Rattle.nla_wire.specs.Fields.{number_at}
 use Rattle.nla_wire.specs.Frames.{IsBytes}
-use Rattle.frame_shown.specs.Messages.{attribute_members, message_text}
+use Rattle.frame_shown.specs.Messages.{attribute_members, message_members}
 use Rattle.frame_shown.specs.declared.form.Around.{Around}
 
 -- a and b mean one message
@@ -19,4 +19,4 @@ pub record MessagesAreMeant (cx : Around) : Type 0 where
   -- and the whole of them, where they have one type of link: a message does not tell types without a name apart, and
   -- the number is shown
   pub whole : (a b : List ℕ) (m : LinkMessage) → MeanOne a b m → number_at w16 a 2 ≡ number_at w16 b 2
-      → message_text cx a ≡ message_text cx b
+      → message_members cx a ≡ message_members cx b

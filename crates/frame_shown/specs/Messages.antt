@@ -2,13 +2,12 @@
 use Rattle.std.specs.Prelude.{ℕ, ◌==◌, List, [], ◌∷◌, ◌++◌, codes, cond, drop, length, map, slice_index}
 use Rattle.std.specs.Int.{w16, w32}
 use Rattle.std.specs.Fmt.{signed_decimal}
-use Rattle.json.specs.Token.{Token, number as number_token}
-use Rattle.shown.specs.Print.{print}
+use Rattle.json.specs.Token.{number as number_token}
 use Rattle.nla_wire.specs.Fields.{number_at, signed_at}
 use Rattle.nla_wire.specs.Frames.{Frame, number}
 use Rattle.nla_wire.specs.Items.{items}
 use Rattle.link_info.specs.Tables.{frames_in}
-use Rattle.shown.specs.Drafts.{Members, object_of}
+use Rattle.shown.specs.Drafts.{Members}
 use Rattle.shown.specs.Values.{BitNames, numbered, flags_of}
 use Rattle.frame_shown.specs.Items.{members_of}
 use Rattle.frame_shown.specs.Frames.{items_in, levels}
@@ -50,10 +49,3 @@ attribute_members cx family bytes =
 
 abbrev pub message_members : Around → List ℕ → Members
 message_members cx bytes = header_members bytes ++ attribute_members cx (slice_index bytes 0) (drop 16 bytes)
-
--- how tokens are written
-abbrev pub printed : List Token → List ℕ
-printed tokens = print tokens
-
-unfoldable pub message_text : Around → List ℕ → List ℕ
-message_text cx bytes = printed (object_of (message_members cx bytes))

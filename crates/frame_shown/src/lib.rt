@@ -2,7 +2,6 @@
 #![tactic(auto)]
 
 pub mod accepted;
-pub mod checked;
 pub mod depth;
 pub mod form;
 mod kept;

@@ -1,6 +1,6 @@
 //! What the bytes of a message say.
 
-ghost use Rattle.std.specs.Prelude.{◌≡◌, ◌++◌, [], ◌∷◌, OnOk, codes, drop};
+ghost use Rattle.std.specs.Prelude.{◌≡◌, [], ◌∷◌, OnOk, codes, drop};
 ghost use Rattle.std.specs.Int.{w32};
 ghost use Rattle.std.specs.Fmt.{signed_decimal};
 ghost use Rattle.json.specs.Token.{number};
@@ -10,7 +10,7 @@ ghost use Rattle.link_info.specs.Tables.{frames_in};
 ghost use Rattle.shown.specs.Values.{flags_of};
 ghost use Rattle.shown.specs.Drafts.{with_members, with_value};
 ghost use Rattle.frame_shown.specs.Messages.{address_len, attribute_members, frames_shown, header_members};
-ghost use Rattle.frame_shown.specs.Messages.{link_flag_names, rest_members, message_members, message_text};
+ghost use Rattle.frame_shown.specs.Messages.{link_flag_names, rest_members, message_members};
 
 use crate::depth::{Above, Bottom};
 use crate::form::{Around, List};
@@ -18,7 +18,7 @@ use crate::list::show_members;
 use crate::tables::LINK_FLAGS;
 use nla_wire::NlasIterator;
 use nla_wire::fields::{i32_at, u8_at, u16_at, u32_at};
-use shown::{Page, Room};
+use shown::Page;
 use std::alloc::AllocError;
 
 /// The number of the hardware address among the attributes of a link (linux/if_link.h).
@@ -118,19 +118,4 @@ pub fn show_message(cx: &Around<'_>, page: &mut Page, bytes: &[u8]) -> Result<()
 {
     show_header(page, bytes)?;
     show_attributes(cx, page, u8_at(bytes, 0), rest_of(bytes))
-}
-
-/// Adds the text of what bytes say as a message, as one JSON object.
-pub fn push_shown(
-    cx: &Around<'_>,
-    room: &mut Room,
-    bytes: &[u8],
-    out: &mut Vec<u8>,
-) -> Result<(), AllocError>
-    ensures { OnOk result
-        (out.new.items ≡ out.old.items ++ message_text cx.now bytes.now) }
-{
-    let mut page = room.begin()?;
-    show_message(cx, &mut page, bytes)?;
-    room.finish(page, out)
 }

@@ -1,14 +1,26 @@
 -- How the answer to a line is added.
 use Rattle.std.proofs.Common.{◌≡◌, ℕ, Bool, true, false, List, [], ◌∷◌, ◌++◌, refl, sym, ap, subst, ◌∙◌, append_assoc}
+use Rattle.std.proofs.Common.{arith, length, slice_index}
+use Rattle.std.proofs.lemmas.List.{get_or_append_left}
 use Rattle.std.specs.Prelude.{Result, Ok, Err, OnOk, codes, MatchBool}
 use Rattle.std.specs.List.{flat_map}
 use Rattle.std.proofs.lemmas.List.Concat.{flat_map-append}
 use Rattle.std.proofs.lemmas.List.Sums.{fold-append}
 use Rattle.hex.specs.Hex.{decode_of}
 use Rattle.hex.specs.declared.error.FromHexError.{FromHexError}
+use Rattle.nla_wire.specs.Frames.{Frame}
+use Rattle.nla_wire.specs.Grammar.{Grammar}
 use Rattle.nla_wire.specs.declared.error.Cause.{Cause}
 use Rattle.nla_wire.specs.declared.error.DecodeError.{DecodeError}
+use Rattle.link_vals.specs.AddressFamilyTable.{address_family_number}
+use Rattle.link_vals.specs.declared.address_family.AddressFamily.{AddressFamily}
+use Rattle.link_vals.proofs.Numbers.{address_family_again}
+use Rattle.link_msg.specs.Header.{header_of}
+use Rattle.link_msg.specs.Lenient.{MeansBy}
 use Rattle.link_msg.specs.Messages.{Means, FirstFault}
+use Rattle.link_msg.specs.Tables.{attribute_place}
+use Rattle.link_msg.specs.declared.attribute.LinkAttribute.{LinkAttribute}
+use Rattle.link_msg.specs.declared.header.LinkHeader.{LinkHeader}
 use Rattle.link_msg.specs.declared.message.LinkMessage.{LinkMessage}
 use Rattle.line_filter.specs.Lines.{with_lf}
 use Rattle.line_filter.specs.Words.{are_alone, digits_of, front_of, rest_of}
@@ -19,11 +31,13 @@ use Rattle.shown.specs.Pages.{AddsText}
 use Rattle.shown.proofs.Drafts.{members_added}
 use Rattle.shown.proofs.Pages.{object_found, whole_text}
 use Rattle.link_msg.proofs.Reading.{message_agrees}
-use Rattle.message_shown.specs.Attributes.{message_line, message_members, TellsMessage}
+use Rattle.shown.specs.Values.{numbered}
+use Rattle.frame_shown.specs.Messages.{message_members}
 use Rattle.message_shown.specs.Causes.{cause_text, cause_members}
+use Rattle.message_shown.specs.Contexts.{for_frames}
 use Rattle.message_shown.specs.Faults.{AddsFault}
 use Rattle.message_shown.specs.Lines.{Answering, IsAnswer, IsAnswerTo, IsAnswerToSpelled, IsAnswerOf, head}
-use Rattle.message_shown.specs.Lines.{whole_object}
+use Rattle.message_shown.specs.Lines.{TellsMessage, message_line, whole_object}
 use Rattle.message_shown.specs.Lines.{AddsAnswerOf, AddsAnswerTo, AddsSpelled}
 use Rattle.message_shown.specs.Lines.{fault_member, fault_head, family_member, nothex_member}
 use Rattle.message_shown.specs.Whole.{Whole, BeginsAs, TellsAs, IsWholeAnswer, IsWholeAnswerTo, ToLine}
@@ -45,15 +59,35 @@ begins words more member page is =
     ∙ ap (λ (l : List Token). begin_object ∷ l) (ap tokens (sym (append_assoc words (member ∷ []) more))
     ∙ flat_map-append (λ m. key m.0 ∷ m.1) (words ++ member ∷ []) more)
 
-pub adds_message : (cx : Context) (words : Members) (page : Draft) (bytes old mid new : List ℕ) (m : LinkMessage)
-    → Means bytes m → page ≡ with_members (words ++ message_members cx bytes m) empty_object
+-- the first byte is the family, whatever is read behind the header
+module _ (place : AddressFamily → Grammar Frame LinkAttribute) (b : List ℕ) (m : LinkMessage)
+    (means : MeansBy place b m) where
+  pub family_is : slice_index b 0 ≡ address_family_number m.header.interface_family
+  unfolding header_of
+  family_is =
+      ap (λ x. slice_index x 0) means.2
+      ∙ get_or_append_left means.0 means.1 0 0 (omega (arith, means.3.size))
+      ∙ sym (address_family_again (slice_index means.0 0))
+      ∙ ap (λ (v : LinkHeader). address_family_number v.interface_family) (sym means.3.says)
+
+  -- a page that begins with that byte
+  pub family_begins : (words more : Members) (page : Draft)
+      → page ≡ with_members (words ++ numbered (codes "ifi-family") (slice_index b 0) ∷ more) empty_object
+      → page ≡ with_members (words ++ family_member m ∷ more) empty_object
+  family_begins words more page is =
+      is ∙ ap (λ n. with_members (words ++ numbered (codes "ifi-family") n ∷ more) empty_object) family_is
+
+pub adds_message : (cx : Context) (words : Members) (page : Draft) (bytes old mid new : List ℕ)
+    → (m : LinkMessage) × Means bytes m
+    → page ≡ with_members (words ++ message_members (for_frames cx) bytes) empty_object
     → AddsText page old mid → new ≡ mid ++ 10 ∷ [] → AddsAnswerTo (IsWholeAnswerTo cx) words bytes old new
 unfolding message_line
-adds_message cx words page bytes old mid new m means is s k = (
+adds_message cx words page bytes old mid new (m, means) is s k = (
   s.0,
   IsWholeAnswerTo.message m means
-      (object_found page (head words (family_member m)) _ s.0 (begins words _ (family_member m) page is) s.1)
-      (whole_text (words ++ message_members cx bytes m) page s.0 is s.1),
+      (object_found page (head words (family_member m)) _ s.0
+      (begins words _ (family_member m) page (family_begins attribute_place bytes m means words _ page is)) s.1)
+      (whole_text (words ++ message_members (for_frames cx) bytes) page s.0 is s.1),
   lf_after old s.0 mid new s.2 k,
 )
 
@@ -220,19 +254,12 @@ line_begins To Head begin order line answer =
     (spelled_begins (ToLine To order front) Head (λ ms b a h. begin h.0 ms b a h.2) words
     (decode_of (digits_of (rest_of line))) answer)
 
--- bytes mean one message
-pub one_line : (cx : Context) (words : Members) (b answer old new : List ℕ) (m n : LinkMessage) → Means b m
-    → Means b n → answer ≡ message_line words cx b m → new ≡ old ++ with_lf answer
-    → new ≡ old ++ with_lf (message_line words cx b n)
-one_line cx words b answer old new m n means too is added =
-    added ∙ ap (λ t. old ++ with_lf t) (is ∙ ap (message_line words cx b) (same_message b m n means too))
-
 tells_by : (cx : Context) (words : Members) (b answer old new : List ℕ) → IsWholeAnswerTo cx words b answer
     → new ≡ old ++ with_lf answer → TellsMessage words cx b old new
 tells_by cx words b answer old new (IsWholeAnswerTo.fault c fault o ms are is) added n means =
     absurd (means_nothing b c n fault means)
 tells_by cx words b answer old new (IsWholeAnswerTo.message m means o is) added n too =
-    one_line cx words b answer old new m n means too is added
+    added ∙ ap (λ t. old ++ with_lf t) is
 
 pub tells_as : TellsAs IsWholeAnswerTo TellsMessage
 tells_as cx words b old new s = tells_by cx words b s.0 old new s.1 s.2

@@ -1,10 +1,8 @@
 -- Contexts that have the same rows, and know the same of a message, show it the same.
 use Rattle.std.proofs.Common.{◌≡◌, ℕ, zero, suc, Bool, true, false, List, [], ◌∷◌, ◌++◌, refl, sym, ap, ◌∙◌}
-use Rattle.std.specs.Prelude.{◌==◌, ◌&&◌, Option, None, Some, bit_and, codes, cond, map, nat_lt, slice_index, take}
-use Rattle.std.specs.Int.{w32}
+use Rattle.std.specs.Prelude.{◌==◌, ◌&&◌, Option, None, Some, bit_and, codes, cond, map, nat_lt, take}
 use Rattle.hex.specs.Hex.{encode_lower}
 use Rattle.json.specs.Token.{string}
-use Rattle.nla_wire.specs.Fields.{signed_at}
 use Rattle.nla_wire.specs.Frames.{Frame, number}
 use Rattle.nla_wire.specs.Items.{items}
 use Rattle.link_afspec.specs.Tables.{af_spec_bridge_place, af_spec_inet6_place, af_spec_unspec_place}
@@ -49,9 +47,9 @@ use Rattle.shown.specs.Drafts.{object_of}
 use Rattle.shown.specs.Values.{hardware_address, numbered}
 use Rattle.message_shown.specs.Attributes.{around, attribute_name, attribute_said, form_of, info_shown, unless_kept}
 use Rattle.message_shown.specs.Attributes.{frame_in, header_members, message_members, viewed_shown}
-use Rattle.message_shown.specs.Contexts.{IsPlain, Known, info_row, nest_row, of_row, with_address, with_kinds}
-use Rattle.message_shown.specs.Contexts.{xstats_row}
-use Rattle.message_shown.specs.Counters.{inet6_stats_shown, signed}
+use Rattle.message_shown.specs.Contexts.{IsPlain, Known, for_frames, frame_order, info_row, nest_row, of_row}
+use Rattle.message_shown.specs.Contexts.{with_address, with_kinds, xstats_row}
+use Rattle.message_shown.specs.Counters.{inet6_stats_shown}
 use Rattle.message_shown.specs.Leniently.{accepted_part}
 use Rattle.message_shown.specs.Functions.{function_address, function_members, objects_under, port_members}
 use Rattle.message_shown.specs.Functions.{vf_info_said, vf_port_said}
@@ -64,6 +62,7 @@ use Rattle.message_shown.specs.Settings.{conf_members, inet6_said, proto_inet6_s
 use Rattle.message_shown.specs.declared.context.Context.{Context}
 use Rattle.message_shown.specs.declared.context.Order.{Order}
 use Rattle.message_shown.specs.declared.form.Form.{Form}
+use Rattle.message_shown.proofs.Frames as frames
 use Rattle.message_shown.proofs.Plain.{by_rows, known_now, said_same}
 
 -- the same but for where in memory it stands
@@ -269,14 +268,23 @@ plain_alike order cx other own its = record {
   address = own.address ∙ sym its.address;
 }
 
+frames_alike : (cx other : Context) → AreAlike cx other → frames.AreAlike (for_frames cx) (for_frames other)
+frames_alike cx other s = record {
+  tables = s.tables;
+  counters = s.counters;
+  order = ap frame_order s.order;
+  address = refl;
+}
+
 pub shown_by_order : ShownByOrder
 shown_by_order order cx other own its =
     let alike = plain_alike order cx other own its in
+    let by_frames = frames_alike cx other alike in
     record {
       message = message_alike cx other alike;
       lenient = λ bytes m. ap (λ ms. ms ++ raw_object (told_all bytes) ∷ [])
           (message_alike cx other alike bytes (accepted_part bytes m));
-      before = λ bytes m. ap (λ ms. numbered (codes "ifi-family") (slice_index bytes 0)
-          ∷ signed (codes "ifi-index") (signed_at w32 bytes 4) ∷ (codes "before", object_of ms) ∷ [])
-          (members_alike cx other alike m);
+      whole = frames.whole_same (for_frames cx) (for_frames other) by_frames;
+      accepted = frames.accepted_same (for_frames cx) (for_frames other) by_frames;
+      before = frames.before_same (for_frames cx) (for_frames other) by_frames;
     }

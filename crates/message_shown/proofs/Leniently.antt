@@ -1,5 +1,5 @@
 -- Bytes that are read leniently: which they are, and what their answers hold.
-use Rattle.std.proofs.Common.{◌≡◌, ℕ, ◌<◌, ◌≤◌, true, false, List, [], ◌∷◌, ◌++◌, length, take, drop, refl}
+use Rattle.std.proofs.Common.{◌≡◌, ℕ, ◌<◌, ◌≤◌, Bool, true, false, List, [], ◌∷◌, ◌++◌, length, take, drop, refl}
 use Rattle.std.proofs.Common.{sym, ap, ◌∙◌, subst, arith, inl, inr, append-nil, append_assoc, length-append}
 use Rattle.std.specs.Prelude.{Result, Ok, Err, Option, Some, codes, decimal}
 use Rattle.std.proofs.lemmas.List.Sums.{fold-append}
@@ -26,35 +26,36 @@ use Rattle.link_msg.specs.declared.fault_path.FaultPath.{FaultPath}
 use Rattle.link_msg.specs.declared.attribute.LinkAttribute.{LinkAttribute}
 use Rattle.link_msg.specs.declared.header.LinkHeader.{LinkHeader}
 use Rattle.link_msg.specs.declared.message.LinkMessage.{LinkMessage}
-use Rattle.link_msg.proofs.Leniently.{strict_is_lenient, fitting_is_read, one_lenient}
+use Rattle.link_msg.proofs.Leniently.{strict_is_lenient, fitting_is_read}
 use Rattle.link_msg.proofs.MessagesBy.{is_header}
 use Rattle.line_filter.specs.Lines.{with_lf}
 use Rattle.shown.specs.Drafts.{Draft, Members, empty_object, object_of, with_members, with_value}
 use Rattle.shown.specs.Pages.{AddsText, IsObject, IsWholeText}
 use Rattle.shown.specs.Values.{numbered}
 use Rattle.shown.proofs.Pages.{object_found, whole_text}
-use Rattle.message_shown.specs.Attributes.{message_members}
+use Rattle.frame_shown.specs.Accepted.{lenient_members}
 use Rattle.message_shown.specs.Causes.{cause_members, cause_text}
+use Rattle.message_shown.specs.Contexts.{for_frames}
 use Rattle.message_shown.specs.Leniently.{taken, in_front, accepted, accepted_part, ReadsAccepted, AreTold}
-use Rattle.message_shown.specs.Leniently.{IsSplit, EachIsTold}
+use Rattle.message_shown.specs.Leniently.{Fits, IsSplit, EachIsTold}
 use Rattle.message_shown.specs.Leniently.{AddsOne, AddsTold, IsLenientAnswerTo, TellsLeniently, frame_told}
 use Rattle.message_shown.specs.Leniently.{lenient_line, refusal_members, refused_member}
 use Rattle.message_shown.specs.Lines.{AddsAnswerTo, family_member, head, message_head}
 use Rattle.message_shown.specs.Places.{objects}
 use Rattle.message_shown.specs.Whole.{BeginsAs, TellsAs, IsWholeAnswerTo, IsWholeLenientAnswerTo}
 use Rattle.message_shown.specs.declared.context.Context.{Context}
-use Rattle.message_shown.proofs.Added.{begins, lf_after, means_nothing, one_line}
+use Rattle.message_shown.proofs.Added.{begins, family_begins, lf_after, means_nothing}
 use Rattle.message_shown.proofs.Places.{both_added}
 
 -- ** which bytes mean a message leniently
 
 -- the front of its bytes is its header
-header_is : (b : List ℕ) (m : LinkMessage) → MeansLeniently b m → m.header ≡ header_of (take header_size b)
+pub header_is : (b : List ℕ) (m : LinkMessage) → MeansLeniently b m → m.header ≡ header_of (take header_size b)
 header_is b m (h, c, whole, header, means) =
     header.says ∙ ap header_of (sym (ap (take header_size) whole ∙ ap (λ n. take n (h ++ c)) (sym header.size)
     ∙ take-append_seam h c))
 
-after_is : (b h c : List ℕ) → b ≡ h ++ c → length h ≡ header_size → drop header_size b ≡ c
+pub after_is : (b h c : List ℕ) → b ≡ h ++ c → length h ≡ header_size → drop header_size b ≡ c
 after_is b h c whole size =
     ap (drop header_size) whole ∙ ap (λ n. drop n (h ++ c)) (sym size) ∙ drop-append_seam h c
 
@@ -74,7 +75,7 @@ fault_breaks : (fs : List Frame) (c : Cause) → are_frames (all_frames fs ++ Er
 fault_breaks [] c = refl
 fault_breaks (f ∷ fs) c = fault_breaks fs c
 
-bytes_after : (b : List ℕ) → IsBytes b → IsBytes (drop header_size b)
+pub bytes_after : (b : List ℕ) → IsBytes b → IsBytes (drop header_size b)
 bytes_after b bytes = bytes_right (take header_size b) (drop header_size b)
     (subst IsBytes (sym (take-append-drop header_size b)) bytes)
 
@@ -103,6 +104,12 @@ meant_whole b bytes long whole =
       | inr (fs, cause, _, is) ↦
           (let clash : false ≡ true = sym (fault_breaks fs cause) ∙ ap are_frames (sym is) ∙ whole in absurd cc)
     ]
+
+-- which of both it is
+pub fits_or_not : (b : List ℕ) → IsBytes b → header_size ≤ length b → (whole : Bool)
+    → whole ≡ are_frames (items (drop header_size b)) → Fits b whole
+fits_or_not b bytes long true is = meant_whole b bytes long (sym is)
+fits_or_not b bytes long false is = none_stray b bytes (sym is)
 
 -- what is read of frames that fit
 pub accepted_whole : (b : List ℕ) (v : LinkHeader) (vs : List LinkAttribute) → IsBytes b → header_size ≤ length b
@@ -202,7 +209,7 @@ tells_by cx words b answer old new (IsWholeLenientAnswerTo.fault c fault none o 
   λ n means nothing. absurd (none n means),
 )
 tells_by cx words b answer old new (IsWholeLenientAnswerTo.message m means o is) added = (
-  λ n too. one_line cx words b answer old new m n means too is added,
+  λ n too. added ∙ ap (λ t. old ++ with_lf t) is,
   λ n too nothing. absurd (nothing m means),
 )
 tells_by cx words b answer old new (IsWholeLenientAnswerTo.part m means nothing o told are is) added = (
@@ -210,8 +217,7 @@ tells_by cx words b answer old new (IsWholeLenientAnswerTo.part m means nothing 
   λ n too none. (
     told,
     are,
-    added ∙ ap (λ t. old ++ with_lf t)
-        (is ∙ ap (λ (x : LinkMessage). lenient_line words cx b x told) (one_lenient b m n means too)),
+    added ∙ ap (λ t. old ++ with_lf t) is,
   ),
 )
 
@@ -270,26 +276,21 @@ telling_ends all left old page is (done, so_far, go) = (
 )
 
 -- ** the line
-lenient_text : (words : Members) (cx : Context) (b : List ℕ) (m : LinkMessage) (told : List Members) (page : Draft)
-    (text : List ℕ)
-    → page ≡ with_members (words ++ (message_members cx b (accepted_part b m) ++ refused_member told ∷ [])) empty_object
-    → IsWholeText page text → text ≡ lenient_line words cx b m told
+lenient_text : (words : Members) (cx : Context) (b : List ℕ) (told : List Members) (page : Draft) (text : List ℕ)
+    → page ≡ with_members (words ++ (lenient_members (for_frames cx) b ++ refused_member told ∷ [])) empty_object
+    → IsWholeText page text → text ≡ lenient_line words cx b told
 unfolding lenient_line
-lenient_text words cx b m told page text is whole =
-    whole_text (words ++ (message_members cx b (accepted_part b m) ++ refused_member told ∷ [])) page text is whole
+lenient_text words cx b told page text is whole =
+    whole_text (words ++ (lenient_members (for_frames cx) b ++ refused_member told ∷ [])) page text is whole
 
-module _ (words : Members) (cx : Context) (b old mid new : List ℕ) (part : LinkMessage) (told : List Members)
-    (page : Draft) (reads : ReadsAccepted b (Some part))
-    (is : page ≡ with_members (words ++ (message_members cx b part ++ refused_member told ∷ [])) empty_object)
+module _ (words : Members) (cx : Context) (b old mid new : List ℕ) (told : List Members) (page : Draft)
+    (reads : (m : LinkMessage) × MeansLeniently b m)
+    (is : page ≡ with_members (words ++ (lenient_members (for_frames cx) b ++ refused_member told ∷ [])) empty_object)
     (s : AddsText page old mid) (k : new ≡ mid ++ 10 ∷ []) where
-  here : page ≡ with_members (words ++ (message_members cx b (accepted_part b reads.0) ++ refused_member told ∷ []))
-      empty_object
-  here = is ∙ ap (λ (p : LinkMessage). with_members (words ++ (message_members cx b p ++ refused_member told ∷ []))
-      empty_object) reads.2
-
   found : IsObject (message_head words reads.0) s.0
   found = object_found page (head words (family_member reads.0)) _ s.0
-      (begins words _ (family_member reads.0) page here) s.1
+      (begins words _ (family_member reads.0) page
+      (family_begins lenient_place b reads.0 reads.1 words _ page is)) s.1
 
   pub accepted_answered : AddsAnswerTo IsLenientAnswerTo words b old new
   accepted_answered =
@@ -300,6 +301,6 @@ module _ (words : Members) (cx : Context) (b old mid new : List ℕ) (part : Lin
   accepted_shown are nothing = (
     s.0,
     IsWholeLenientAnswerTo.part reads.0 reads.1 nothing found told are
-        (lenient_text words cx b reads.0 told page s.0 here s.1),
+        (lenient_text words cx b told page s.0 is s.1),
     lf_after old s.0 mid new s.2 k,
   )

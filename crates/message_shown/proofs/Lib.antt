@@ -10,4 +10,7 @@ pub mod Leniently
 mod Raw
 mod Faults
 mod Plain
+mod Frames
 mod Alike
+pub mod Meant
+mod AcceptedMeant

@@ -134,7 +134,7 @@ module _ (nest : Nesting) where
   meaning_same plain (Four address) = refl
   meaning_same plain (Six address) = refl
 
-  style_same : (style : Style) (p : List ℕ) → style_shown nest (style_now style) p ≡ style_shown nest style p
+  pub style_same : (style : Style) (p : List ℕ) → style_shown nest (style_now style) p ≡ style_shown nest style p
   unfolding by_form
   style_same S.Bytes p = refl
   style_same S.Flag p = refl

@@ -1,5 +1,5 @@
 -- The attributes of a link, and what each is shown as.
-use Rattle.std.specs.Prelude.{◌≡◌, ℕ, List, [], ◌∷◌, ◌++◌, Option, None, Some, bit_and, bit_or}
+use Rattle.std.specs.Prelude.{ℕ, List, [], ◌∷◌, ◌++◌, Option, None, Some, bit_and, bit_or}
 use Rattle.std.specs.Prelude.{codes, map, min, take, get_or}
 use Rattle.std.specs.Int.{w16, w32}
 use Rattle.std.specs.List.{fold}
@@ -7,17 +7,14 @@ use Rattle.link_msg.specs.declared.attribute.LinkAttribute.{LinkAttribute}
 use Rattle.link_msg.specs.declared.attribute.LinkAttribute.TheVariants as Attributes
 use Rattle.hex.specs.Hex.{encode_lower}
 use Rattle.json.specs.Token.{Token, string}
-use Rattle.shown.specs.Print.{print}
 use Rattle.link_vals.specs.AddressFamilyTable.{address_family_number}
 use Rattle.nla_wire.specs.Fields.{number_at, signed_at}
 use Rattle.link_msg.specs.Tables.{attribute_frame}
-use Rattle.link_msg.specs.Messages.{Means}
 use Rattle.link_msg.specs.declared.message.LinkMessage.{LinkMessage}
 use Rattle.link_msg.specs.declared.numbers.TheConstants.{IFLA_AF_SPEC}
 use Rattle.link_vals.specs.LinkExtentMaskTable.{link_extent_mask_number}
 use Rattle.link_vals.specs.declared.phys_id.LinkPhysId.{LinkPhysId}
 use Rattle.link_vals.specs.declared.ext_mask.LinkExtentMask.{LinkExtentMask}
-use Rattle.line_filter.specs.Lines.{with_lf}
 use Rattle.shown.specs.Drafts.{Members, object_of}
 use Rattle.shown.specs.Values.{BitNames, numbered, flags_of}
 use Rattle.link_nest.specs.declared.link_info.LinkInfo.{LinkInfo}
@@ -143,17 +140,12 @@ header_members bytes =
 abbrev pub around : Context → LinkMessage → Context
 around cx m = with_address cx m.attributes
 
+-- what the attributes of a message say
+abbrev pub attribute_members : Context → List LinkAttribute → Members
+attribute_members cx vs = members_of (items_of attribute_frame (attribute_said (with_address cx vs)) vs)
+
 -- what a message says: its header, and all its attributes
 abbrev pub message_members : Context → List ℕ → LinkMessage → Members
 message_members cx bytes m =
     numbered (codes "ifi-family") (address_family_number m.header.interface_family)
     ∷ header_members bytes ++ members_of (items_of attribute_frame (attribute_said (around cx m)) m.attributes)
-
--- the answer to bytes that mean a message, with the words in front of them
-unfoldable pub message_line : Members → Context → List ℕ → LinkMessage → List ℕ
-message_line words cx bytes m = print (object_of (words ++ message_members cx bytes m))
-
--- where the bytes mean a message, its answer was added
-abbrev pub TellsMessage : Members → Context → List ℕ → List ℕ → List ℕ → Type 0
-TellsMessage words cx bytes old new =
-    (m : LinkMessage) → Means bytes m → new ≡ old ++ with_lf (message_line words cx bytes m)

@@ -18,8 +18,12 @@ use Rattle.link_nest.specs.declared.link_info.LinkInfo.{LinkInfo}
 use Rattle.link_nest.specs.declared.link_info.LinkInfo.TheVariants as Infos
 use Rattle.link_msg.specs.declared.attribute.LinkAttribute.{LinkAttribute}
 use Rattle.link_msg.specs.declared.attribute.LinkAttribute.TheVariants as Attributes
+use Rattle.frame_shown.specs.declared.form.Around.{Around}
+use Rattle.frame_shown.specs.declared.form.Order.{Order as FrameOrder}
+use Rattle.frame_shown.specs.declared.form.Order.TheVariants as FrameOrders
 use Rattle.message_shown.specs.declared.context.Context.{Context}
 use Rattle.message_shown.specs.declared.context.Order.{Order}
+use Rattle.message_shown.specs.declared.context.Order.TheVariants as Orders
 
 -- a name, and how a payload is spelled
 abbrev pub Known : Type 0
@@ -36,6 +40,21 @@ pub record IsPlain (order : Order) (cx : Context) : Type 0 where
   pub link : cx.link_place ≡ None
   pub port : cx.port_place ≡ None
   pub address : cx.address_len ≡ 0
+
+-- ** what the frames of a message are shown by
+
+abbrev pub frame_order : Order → FrameOrder
+frame_order Orders.Unknown = FrameOrders.Unknown
+frame_order Orders.Before = FrameOrders.Before
+frame_order Orders.Since = FrameOrders.Since
+
+abbrev pub for_frames : Context → Around
+for_frames cx = record {
+  tables = cx.tables;
+  can_stats = cx.can_stats;
+  order = frame_order cx.order;
+  address_len = 0;
+}
 
 -- ** what other attributes say
 

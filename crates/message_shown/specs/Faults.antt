@@ -1,36 +1,24 @@
 -- What is said of bytes that have a fault, behind the name of its cause.
-use Rattle.std.specs.Prelude.{◌≡◌, ℕ, ◌<◌, ◌⊎◌, List, [], ◌∷◌, ◌++◌, codes, length, slice_index}
-use Rattle.std.specs.Int.{w32}
+use Rattle.std.specs.Prelude.{◌≡◌, ℕ, ◌<◌, ◌≤◌, ◌⊎◌, List, [], ◌∷◌, ◌++◌, codes, length}
 use Rattle.json.specs.Token.{string}
-use Rattle.nla_wire.specs.Fields.{signed_at}
 use Rattle.nla_wire.specs.declared.error.Cause.{Cause}
 use Rattle.nla_wire.specs.declared.error.DecodeError.{DecodeError}
 use Rattle.link_msg.specs.BeforeFault.{ReadsBefore}
 use Rattle.link_msg.specs.FaultAt.{FaultsAt}
 use Rattle.link_msg.specs.Header.{header_size}
 use Rattle.link_msg.specs.Messages.{FirstFault}
-use Rattle.link_msg.specs.Tables.{attribute_frame}
 use Rattle.link_msg.specs.declared.message.LinkMessage.{LinkMessage}
-use Rattle.shown.specs.Drafts.{Draft, Members, object_of, with_members}
+use Rattle.shown.specs.Drafts.{Draft, Members, with_members}
 use Rattle.shown.specs.Values.{numbered}
-use Rattle.message_shown.specs.Attributes.{around, attribute_said}
+use Rattle.frame_shown.specs.Accepted.{before_members}
 use Rattle.message_shown.specs.Causes.{cause_members}
-use Rattle.message_shown.specs.Counters.{signed}
-use Rattle.message_shown.specs.Places.{items_of, members_of}
+use Rattle.message_shown.specs.Contexts.{for_frames}
 use Rattle.message_shown.specs.declared.context.Context.{Context}
-
--- family and index, and the attributes of a message
-abbrev pub before_members : Context → List ℕ → LinkMessage → Members
-before_members cx bytes m =
-    numbered (codes "ifi-family") (slice_index bytes 0)
-    ∷ signed (codes "ifi-index") (signed_at w32 bytes 4)
-    ∷ (codes "before", object_of (members_of (items_of attribute_frame (attribute_said (around cx m)) m.attributes)))
-    ∷ []
 
 -- what is read in front of the fault: nothing of bytes that are shorter than a header
 abbrev pub AreBefore : Context → List ℕ → Cause → Members → Type 0
 AreBefore cx bytes c ms = ((length bytes < header_size) × (ms ≡ []))
-    ⊎ ((m : LinkMessage) × ReadsBefore bytes c m × (ms ≡ before_members cx bytes m))
+    ⊎ ((m : LinkMessage) × ReadsBefore bytes c m × (ms ≡ before_members (for_frames cx) bytes))
 
 -- the offset of the fault, and that
 abbrev pub AreBehind : Context → List ℕ → Cause → Members → Type 0
@@ -46,10 +34,11 @@ AreOfFault cx bytes c ms =
 
 -- ** for the calls that add to a page
 
--- what is read in front of the fault was added, whichever it is
+-- what is read in front of a fault was added, of bytes that are as long as a header
 abbrev pub AddsBefore : Context → List ℕ → Draft → Draft → Type 0
-AddsBefore cx bytes old new =
-    (ms : Members) × (new ≡ with_members ms old) × ((c : Cause) → FirstFault bytes c → AreBefore cx bytes c ms)
+AddsBefore cx bytes old new = (ms : Members) × (new ≡ with_members ms old)
+    × (((length bytes < header_size) × (ms ≡ []))
+    ⊎ ((header_size ≤ length bytes) × (ms ≡ before_members (for_frames cx) bytes)))
 
 -- all that is said of the fault was added
 abbrev pub AddsFault : Context → List ℕ → DecodeError → Draft → Draft → Type 0

@@ -1,5 +1,6 @@
 -- The answer to bytes of which some attributes are refused: the others as ever, and those last.
 use Rattle.std.specs.Prelude.{◌≡◌, ◌⊎◌, ℕ, List, [], ◌∷◌, ◌++◌, codes, drop, map, Option, None, Some, Result, Ok, Err}
+use Rattle.std.specs.Prelude.{Bool, MatchBool}
 use Rattle.std.specs.List.{AllZip, flat_map}
 use Rattle.hex.specs.Hex.{encode_lower}
 use Rattle.json.specs.Token.{Token, string}
@@ -22,9 +23,11 @@ use Rattle.line_filter.specs.Lines.{with_lf}
 use Rattle.shown.specs.Drafts.{Draft, Members, list_of, object_of, with_members, with_value}
 use Rattle.shown.specs.Pages.{IsObject}
 use Rattle.shown.specs.Values.{numbered}
-use Rattle.message_shown.specs.Attributes.{message_members, name_of, TellsMessage}
+use Rattle.frame_shown.specs.Accepted.{lenient_members}
+use Rattle.message_shown.specs.Attributes.{name_of}
 use Rattle.message_shown.specs.Causes.{cause_members, cause_text}
-use Rattle.message_shown.specs.Lines.{fault_head, message_head}
+use Rattle.message_shown.specs.Contexts.{for_frames}
+use Rattle.message_shown.specs.Lines.{TellsMessage, fault_head, message_head}
 use Rattle.message_shown.specs.Places.{objects}
 use Rattle.message_shown.specs.declared.context.Context.{Context}
 
@@ -56,6 +59,10 @@ accepted_part b m = record {
 abbrev pub ReadsAccepted : List ℕ → Option LinkMessage → Type 0
 ReadsAccepted b None = MeansNoneLeniently b
 ReadsAccepted b (Some part) = (m : LinkMessage) × MeansLeniently b m × (part ≡ accepted_part b m)
+
+-- whether they are a header and frames that fit, and so mean a message leniently
+abbrev pub Fits : List ℕ → Bool → Type 0
+Fits b fits = MatchBool fits ((m : LinkMessage) × MeansLeniently b m) (MeansNoneLeniently b)
 
 -- ** the attributes that are refused
 
@@ -93,16 +100,16 @@ AreTold ts told = AllZip IsTold ts told
 abbrev pub refused_member : List Members → List ℕ × List Token
 refused_member told = (codes "refused", list_of (flat_map (λ v. v) (map object_of told)))
 
--- the answer to bytes that mean the message leniently, of which these attributes are refused
-unfoldable pub lenient_line : Members → Context → List ℕ → LinkMessage → List Members → List ℕ
-lenient_line words cx bytes m told =
-    print (object_of (words ++ (message_members cx bytes (accepted_part bytes m) ++ refused_member told ∷ [])))
+-- the answer to bytes that mean a message leniently, of which these attributes are refused
+unfoldable pub lenient_line : Members → Context → List ℕ → List Members → List ℕ
+lenient_line words cx bytes told =
+    print (object_of (words ++ (lenient_members (for_frames cx) bytes ++ refused_member told ∷ [])))
 
 -- each attribute that is refused was told, behind all that are accepted
 abbrev pub TellsRefused : Members → Context → List ℕ → List ℕ → List ℕ → Type 0
 TellsRefused words cx bytes old new = (m : LinkMessage) → MeansLeniently bytes m → MeansNothing bytes
     → (told : List Members) × AreTold (told_all bytes) told
-    × (new ≡ old ++ with_lf (lenient_line words cx bytes m told))
+    × (new ≡ old ++ with_lf (lenient_line words cx bytes told))
 
 -- what the bytes mean was told as ever; and what they mean leniently alone, with the attributes that are refused
 abbrev pub TellsLeniently : Members → Context → List ℕ → List ℕ → List ℕ → Type 0

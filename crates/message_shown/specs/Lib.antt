@@ -19,3 +19,4 @@ pub mod Raw
 pub mod Faults
 pub mod Whole
 pub mod Plain
+pub mod Meaning

@@ -10,7 +10,9 @@ use Rattle.nla_wire.specs.declared.error.Cause.{Cause}
 use Rattle.link_vals.specs.AddressFamilyTable.{address_family_number}
 use Rattle.link_msg.specs.Messages.{Means, FirstFault}
 use Rattle.link_msg.specs.declared.message.LinkMessage.{LinkMessage}
+use Rattle.frame_shown.specs.Messages.{message_members}
 use Rattle.message_shown.specs.Causes.{cause_text}
+use Rattle.message_shown.specs.Contexts.{for_frames}
 use Rattle.shown.specs.Drafts.{Members, object_of}
 use Rattle.shown.specs.Pages.{IsObject}
 use Rattle.shown.specs.Values.{numbered}
@@ -92,6 +94,15 @@ abbrev pub AddsAnswer : Answering → List ℕ → List ℕ → List ℕ → Typ
 AddsAnswer To = steps.AddsAnswer (IsAnswer To)
 
 -- ** which tokens are added
+
+-- the answer to bytes that mean a message, with the words in front of them
+unfoldable pub message_line : Members → Context → List ℕ → List ℕ
+message_line words cx bytes = print (object_of (words ++ message_members (for_frames cx) bytes))
+
+-- where the bytes mean a message, its answer was added
+abbrev pub TellsMessage : Members → Context → List ℕ → List ℕ → List ℕ → Type 0
+TellsMessage words cx bytes old new =
+    (m : LinkMessage) → Means bytes m → new ≡ old ++ with_lf (message_line words cx bytes)
 
 -- what is added for bytes with words in front of them: the words, what they are shown by, the bytes, old and new
 abbrev pub Telling : Type 1

@@ -8,12 +8,11 @@ use Rattle.nla_wire.specs.declared.error.Cause.{Cause}
 use Rattle.line_filter.specs.Words.{front_of, rest_of}
 use Rattle.shown.specs.Drafts.{Members}
 use Rattle.shown.specs.Pages.{IsObject}
-use Rattle.message_shown.specs.Attributes.{message_line}
 use Rattle.message_shown.specs.Contexts.{IsPlain}
 use Rattle.message_shown.specs.Faults.{AreOfFault}
 use Rattle.message_shown.specs.Leniently.{AreTold, lenient_line}
 use Rattle.message_shown.specs.Lines.{Answering, Telling, AddsAnswerTo, IsAnswerOf, fault_head, fault_member}
-use Rattle.message_shown.specs.Lines.{message_head, whole_object}
+use Rattle.message_shown.specs.Lines.{message_head, message_line, whole_object}
 use Rattle.message_shown.specs.Worded.{order_for}
 use Rattle.message_shown.specs.declared.context.Context.{Context}
 use Rattle.message_shown.specs.declared.context.Order.{Order}
@@ -30,7 +29,7 @@ pub data IsWholeAnswerTo (cx : Context) (words : Members) (bytes answer : List �
       → (ms : Members) → AreOfFault cx bytes c ms → answer ≡ whole_object (words ++ fault_member c ∷ ms)
       → IsWholeAnswerTo cx words bytes answer
   message : (m : LinkMessage) → Means bytes m → IsObject (message_head words m) answer
-      → answer ≡ message_line words cx bytes m → IsWholeAnswerTo cx words bytes answer
+      → answer ≡ message_line words cx bytes → IsWholeAnswerTo cx words bytes answer
 
 -- where they are read leniently: what they mean so, with all attributes that are refused behind it, has an answer too
 pub data IsWholeLenientAnswerTo (cx : Context) (words : Members) (bytes answer : List ℕ) : Type 0 where
@@ -38,9 +37,9 @@ pub data IsWholeLenientAnswerTo (cx : Context) (words : Members) (bytes answer :
       → (ms : Members) → AreOfFault cx bytes c ms → answer ≡ whole_object (words ++ fault_member c ∷ ms)
       → IsWholeLenientAnswerTo cx words bytes answer
   message : (m : LinkMessage) → Means bytes m → IsObject (message_head words m) answer
-      → answer ≡ message_line words cx bytes m → IsWholeLenientAnswerTo cx words bytes answer
+      → answer ≡ message_line words cx bytes → IsWholeLenientAnswerTo cx words bytes answer
   part : (m : LinkMessage) → MeansLeniently bytes m → MeansNothing bytes → IsObject (message_head words m) answer
-      → (told : List Members) → AreTold (told_all bytes) told → answer ≡ lenient_line words cx bytes m told
+      → (told : List Members) → AreTold (told_all bytes) told → answer ≡ lenient_line words cx bytes told
       → IsWholeLenientAnswerTo cx words bytes answer
 
 -- ** to lines

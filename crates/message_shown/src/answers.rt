@@ -1,31 +1,27 @@
 //! The answer to a line.
 
 ghost use Rattle.std.specs.Prelude.{◌≡◌, [], ◌∷◌, ◌++◌, ◌/◌, OnOk, length};
-ghost use Rattle.nla_wire.specs.declared.error.Cause.TheVariants.{OutOfMemory};
 ghost use Rattle.link_msg.specs.Messages.{Means, FirstFault};
 ghost use Rattle.link_msg.specs.declared.message.LinkMessage.{LinkMessage};
 ghost use Rattle.message_shown.specs.Lines.{IsAnswerTo, AddsAnswerOf, AddsAnswerTo, AddsSpelled};
-ghost use Rattle.message_shown.specs.Lines.{whole_object, nothex_member};
+ghost use Rattle.message_shown.specs.Lines.{TellsMessage, whole_object, nothex_member};
 ghost use Rattle.message_shown.specs.Whole.{IsWholeAnswer, IsWholeAnswerTo, ToLine};
-ghost use Rattle.shown.specs.Drafts.{with_members};
-ghost use Rattle.message_shown.specs.Attributes.{message_members, TellsMessage};
 ghost use Rattle.message_shown.specs.Worded.{words_shown};
 ghost use Rattle.line_filter.specs.Lines.{with_lf};
 ghost use Rattle.line_filter.specs.Runs.{answering};
 
-use crate::attribute::show_header;
 use crate::context::{Context, Order};
 use crate::fault::show_fault;
-use crate::member::show_members;
 use crate::reading::Reading;
 use crate::wire::cause_name;
 use crate::worded::{order_for, show_words};
+use frame_shown::message::show_message;
 use line_filter::answers::Take;
 use line_filter::digits::{decode, values};
 use line_filter::words::{are_alone, digits_of, split};
 use link_info::{Tables, all_rows};
-use link_msg::{Cause, DecodeError, LinkMessage};
-use shown::{Page, Room};
+use link_msg::{DecodeError, LinkMessage};
+use shown::Room;
 use std::alloc::{AllocError, Global};
 use std::marker::Model;
 use std::mem;
@@ -149,41 +145,22 @@ impl<R: Reading> Take for Shown<R> {
     }
 }
 
-/// Adds what a message says.
-pub(crate) fn show_message(
-    cx: &Context<'_>,
-    page: &mut Page,
-    bytes: &[u8],
-    message: &LinkMessage,
-) -> Result<(), AllocError>
-    ensures { OnOk result
-        (page.new ≡ with_members (message_members cx.now bytes.now message.now) page.old) }
-{
-    let family = u8::from(message.header.interface_family);
-    page.keyed_number("ifi-family", family.into())?;
-    show_header(page, bytes)?;
-    let attributes = message.attributes.as_slice();
-    show_members(&cx.with_address(attributes), page, attributes)?;
-    Ok(())
-}
-
-/// Adds the answer to a line that spells this message.
+/// Adds the answer to a line whose bytes are a message.
 pub(crate) fn push_message(
     cx: &Context<'_>,
     room: &mut Room,
     waiting: &mut Vec<u8>,
     front: &[u8],
     bytes: &[u8],
-    message: &LinkMessage,
 ) -> Result<(), AllocError>
-    requires { Means bytes.now message.now }
+    requires { (m : LinkMessage) × Means bytes.now m }
     ensures { OnOk result
         (AddsAnswerTo (IsWholeAnswerTo cx.now) (words_shown front.now) bytes.now
         waiting.old.items waiting.new.items) }
 {
     let mut page = room.begin()?;
     show_words(cx.alloc, &mut page, front)?;
-    show_message(cx, &mut page, bytes, message)?;
+    show_message(&cx.for_frames(), &mut page, bytes)?;
     room.finish(page, waiting)?;
     waiting.push(b'\n')?;
     Ok(())
@@ -287,14 +264,9 @@ pub fn push_bytes_in(
     ensures told { OnOk result (TellsMessage (words_shown front.now) cx.now bytes.now
         waiting.old.items waiting.new.items) }
 {
-    match LinkMessage::parse(cx.alloc, bytes) {
-        Ok(message) => push_message(cx, room, waiting, front, bytes, &message),
-        Err(error) => {
-            if let Cause::OutOfMemory = error.cause {
-                return Err(AllocError);
-            }
-            push_fault(cx, room, waiting, front, bytes, &error)
-        }
+    match LinkMessage::check(bytes) {
+        Ok(()) => push_message(cx, room, waiting, front, bytes),
+        Err(error) => push_fault(cx, room, waiting, front, bytes, &error),
     }
 }
 

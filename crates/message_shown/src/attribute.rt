@@ -32,7 +32,7 @@ fn show_link_flags(page: &mut Page, bits: u64) -> Result<(), AllocError>
 }
 
 /// Adds the index of a link.
-pub fn show_index(page: &mut Page, bytes: &[u8]) -> Result<(), AllocError>
+fn show_index(page: &mut Page, bytes: &[u8]) -> Result<(), AllocError>
     ensures { OnOk result (page.new ≡ with_value (codes "ifi-index")
         (signed_tokens (signed_at w32 bytes.now 4)) page.old) }
 {

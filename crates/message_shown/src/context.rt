@@ -6,8 +6,9 @@ ghost use Rattle.link_info.specs.Places.{rows_of};
 ghost use Rattle.link_info.specs.Tables.{row_at};
 ghost use Rattle.link_info.specs.Values.{can_counters};
 ghost use Rattle.message_shown.specs.Contexts.{of_row, info_row, slave_kind_in, text_in, with_kinds, with_address};
-ghost use Rattle.message_shown.specs.Contexts.{address_len_in};
+ghost use Rattle.message_shown.specs.Contexts.{address_len_in, for_frames, frame_order};
 
+use frame_shown::form::{Around, Order as FrameOrder};
 use link_info::field::row_of;
 use link_info::info::kind_of;
 use link_info::read::read;
@@ -59,6 +60,17 @@ pub struct Context<'a> {
     pub port_place: Option<Place>,
     /// How many bytes the link's own address has.
     pub address_len: usize,
+}
+
+/// The same order, for frames.
+fn frame_order(order: Order) -> FrameOrder
+    ensures { result ≡ frame_order order }
+{
+    match order {
+        Order::Unknown => FrameOrder::Unknown,
+        Order::Before => FrameOrder::Before,
+        Order::Since => FrameOrder::Since,
+    }
 }
 
 /// The text that a payload is.
@@ -114,6 +126,18 @@ impl<'a> Context<'a> {
             order,
             link_place: None,
             port_place: None,
+            address_len: 0,
+        }
+    }
+
+    /// What the frames of a message are shown by.
+    pub fn for_frames(&self) -> Around<'a>
+        ensures { result ≡ for_frames self.now }
+    {
+        Around {
+            tables: self.tables,
+            can_stats: self.can_stats,
+            order: frame_order(self.order),
             address_len: 0,
         }
     }

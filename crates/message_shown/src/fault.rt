@@ -3,12 +3,11 @@
 ghost use Rattle.std.specs.Prelude.{OnOk};
 ghost use Rattle.message_shown.specs.Faults.{AddsBefore, AddsFault};
 
-use crate::attribute::show_index;
 use crate::context::Context;
-use crate::member::show_object;
 use crate::wire::show_cause;
+use frame_shown::accepted::show_before;
 use link_msg::header::HEADER_SIZE;
-use link_msg::{Cause, DecodeError, LinkMessage};
+use link_msg::{DecodeError, LinkMessage};
 use shown::Page;
 use std::alloc::AllocError;
 
@@ -38,16 +37,5 @@ fn show_rest(cx: &Context<'_>, page: &mut Page, bytes: &[u8]) -> Result<(), Allo
     if bytes.len() < HEADER_SIZE {
         return Ok(());
     }
-    page.number("ifi-family", bytes[0].into())?;
-    show_index(page, bytes)?;
-    match LinkMessage::parse_before_fault(cx.alloc, bytes) {
-        Ok((message, _fault)) => {
-            let attributes = message.attributes.as_slice();
-            show_object(&cx.with_address(attributes), page, "before", attributes)
-        }
-        Err(error) => match error.cause {
-            Cause::OutOfMemory => Err(AllocError),
-            _ => Ok(()),
-        },
-    }
+    show_before(&cx.for_frames(), page, cx.alloc, bytes)
 }

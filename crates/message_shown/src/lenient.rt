@@ -1,103 +1,38 @@
 //! Bytes of which some attributes are refused: the others are shown, and those last.
 
-ghost use Rattle.std.specs.Prelude.{◌≡◌, ◌≤◌, IfOk, OnOk, Some, length};
-ghost use Rattle.link_info.specs.Styles.{are_frames};
+ghost use Rattle.std.specs.Prelude.{◌≡◌, ◌≤◌, OnOk, length};
 ghost use Rattle.link_msg.specs.Header.{header_size};
+ghost use Rattle.link_msg.specs.Lenient.{MeansLeniently};
 ghost use Rattle.link_msg.specs.Messages.{FirstFault, MeansNothing};
-ghost use Rattle.link_msg.specs.Tables.{attribute_place, Values};
 ghost use Rattle.link_msg.specs.Told.{told_all};
-ghost use Rattle.nla_wire.specs.Items.{items};
+ghost use Rattle.link_msg.specs.declared.message.LinkMessage.{LinkMessage};
 ghost use Rattle.shown.specs.Drafts.{with_members};
-ghost use Rattle.message_shown.specs.Leniently.{taken, in_front, accepted, ReadsAccepted, holder_members, frame_told};
-ghost use Rattle.message_shown.specs.Leniently.{AddsOne, AddsTold, AddsList};
-ghost use Rattle.message_shown.specs.Leniently.{IsLenientAnswerTo, TellsLeniently};
+ghost use Rattle.message_shown.specs.Leniently.{AddsOne, AddsTold, AddsList, holder_members, frame_told};
+ghost use Rattle.message_shown.specs.Leniently.{Fits, IsLenientAnswerTo, TellsLeniently};
 ghost use Rattle.message_shown.specs.Lines.{AddsAnswerTo};
 ghost use Rattle.message_shown.specs.Whole.{IsWholeLenientAnswerTo};
 ghost use Rattle.message_shown.specs.Worded.{words_shown};
 
-use crate::answers::{push_fault, push_message, show_message};
+use crate::answers::{push_fault, push_message};
 use crate::attribute::row_of;
 use crate::context::Context;
 use crate::wire::{cause_name, show_cause};
 use crate::worded::show_words;
+use frame_shown::accepted::{are_frames, show_leniently};
 use link_msg::header::HEADER_SIZE;
-use link_msg::{
-    AddressFamily, Cause, DecodeError, LinkAttribute, LinkHeader, LinkMessage, List, NlaBuffer,
-    NlasIterator, Refusal,
-};
+use link_msg::{DecodeError, LinkMessage, Refusal};
 use shown::{Nest, Page, Room};
-use std::alloc::{AllocError, Global};
+use std::alloc::AllocError;
 
-/// Whether bytes are frames that fit.
-fn are_frames(bytes: &[u8]) -> bool
-    ensures { result ≡ are_frames (items bytes.now) }
-{
-    for item in NlasIterator::new(bytes) {
-        if item.is_err() {
-            return false;
-        }
-    }
-    true
-}
-
-/// What a frame means, where it is accepted.
-fn read_one(
-    alloc: Global,
-    frame: &NlaBuffer<'_>,
-    family: AddressFamily,
-) -> Result<Option<LinkAttribute>, AllocError>
-    ensures { IfOk result (λ v. (vs : Values)
-        → taken ((attribute_place family).reads frame.now) vs ≡ in_front v vs) }
-{
-    match LinkAttribute::parse_with_param(alloc, frame, family) {
-        Ok(attribute) => Ok(Some(attribute)),
-        Err(error) => match error.cause {
-            Cause::OutOfMemory => Err(AllocError),
-            _ => Ok(None),
-        },
-    }
-}
-
-/// What those frames mean that are accepted.
-fn accepted_in(
-    alloc: Global,
-    family: AddressFamily,
-    bytes: &[u8],
-) -> Result<Vec<LinkAttribute>, AllocError>
-    ensures { IfOk result (λ attributes. attributes.items ≡ accepted family (items bytes.now)) }
-{
-    let mut attributes = Vec::new(alloc);
-    for item in NlasIterator::new(bytes) {
-        let Ok(frame) = item else {
-            break;
-        };
-        if let Some(attribute) = read_one(alloc, &frame, family)? {
-            attributes.reserve(1)?;
-            attributes.push_reserved(attribute);
-        }
-    }
-    Ok(attributes)
-}
-
-/// What bytes mean leniently, without the attributes that are refused; `None` where they mean nothing.
-pub(crate) fn parse_accepted(alloc: Global, bytes: &[u8]) -> Result<Option<LinkMessage>, AllocError>
-    ensures { IfOk result (ReadsAccepted bytes.now) }
+/// Whether bytes are a header and frames that fit.
+fn fits(bytes: &[u8]) -> bool
+    ensures { Fits bytes.now result }
 {
     if bytes.len() < HEADER_SIZE {
-        return Ok(None);
+        return false;
     }
-    let (front, rest) = bytes.split_at(HEADER_SIZE);
-    let Ok(header) = LinkHeader::parse(front) else {
-        return Ok(None);
-    };
-    if !are_frames(rest) {
-        return Ok(None);
-    }
-    let attributes = accepted_in(alloc, header.interface_family, rest)?;
-    Ok(Some(LinkMessage {
-        header,
-        attributes: List::new(attributes),
-    }))
+    let (_, rest) = bytes.split_at(HEADER_SIZE);
+    are_frames(rest)
 }
 
 /// Adds the name of an attribute of this kind, where these numbers lead to one that is inside of it.
@@ -161,16 +96,16 @@ fn show_refused(page: &mut Page, bytes: &[u8]) -> Result<(), AllocError>
     page.end()
 }
 
-/// Adds the answer to a line whose bytes mean this message leniently, without the attributes that are refused.
+/// Adds the answer to a line whose bytes mean a message leniently: the attributes that are accepted, and last those that
+/// are refused.
 fn push_accepted(
     cx: &Context<'_>,
     room: &mut Room,
     waiting: &mut Vec<u8>,
     front: &[u8],
     bytes: &[u8],
-    part: &LinkMessage,
 ) -> Result<(), AllocError>
-    requires { ReadsAccepted bytes.now (Some part.now) }
+    requires { (m : LinkMessage) × MeansLeniently bytes.now m }
     ensures answer { OnOk result (AddsAnswerTo IsLenientAnswerTo (words_shown front.now) bytes.now
         waiting.old.items waiting.new.items) }
     ensures whole { OnOk result (MeansNothing bytes.now
@@ -179,7 +114,7 @@ fn push_accepted(
 {
     let mut page = room.begin()?;
     show_words(cx.alloc, &mut page, front)?;
-    show_message(cx, &mut page, bytes, part)?;
+    show_leniently(&cx.for_frames(), &mut page, cx.alloc, bytes)?;
     show_refused(&mut page, bytes)?;
     room.finish(page, waiting)?;
     waiting.push(b'\n')?;
@@ -200,10 +135,10 @@ fn push_refused(
         (AddsAnswerTo (IsWholeLenientAnswerTo cx.now) (words_shown front.now) bytes.now
         waiting.old.items waiting.new.items) }
 {
-    match parse_accepted(cx.alloc, bytes)? {
-        Some(part) => push_accepted(cx, room, waiting, front, bytes, &part),
-        None => push_fault(cx, room, waiting, front, bytes, error),
+    if fits(bytes) {
+        return push_accepted(cx, room, waiting, front, bytes);
     }
+    push_fault(cx, room, waiting, front, bytes, error)
 }
 
 /// Adds the answer to a line that spells these bytes, and writes its page in this room. The answer to bytes that are a
@@ -224,13 +159,8 @@ pub fn push_leniently_in(
     ensures told { OnOk result (TellsLeniently (words_shown front.now) cx.now bytes.now
         waiting.old.items waiting.new.items) }
 {
-    match LinkMessage::parse(cx.alloc, bytes) {
-        Ok(message) => push_message(cx, room, waiting, front, bytes, &message),
-        Err(error) => {
-            if let Cause::OutOfMemory = error.cause {
-                return Err(AllocError);
-            }
-            push_refused(cx, room, waiting, front, bytes, &error)
-        }
+    match LinkMessage::check(bytes) {
+        Ok(()) => push_message(cx, room, waiting, front, bytes),
+        Err(error) => push_refused(cx, room, waiting, front, bytes, &error),
     }
 }

@@ -1,6 +1,7 @@
 //! What is shown of a link message: one JSON object for the header and each attribute, and for a fault.
 #![tactic(auto)]
 
+pub mod accepted;
 mod afspec;
 pub mod answers;
 mod attribute;

@@ -9,17 +9,17 @@ ghost use Rattle.link_msg.specs.Told.{told_all};
 ghost use Rattle.link_msg.specs.declared.message.LinkMessage.{LinkMessage};
 ghost use Rattle.shown.specs.Drafts.{empty_object, with_members};
 ghost use Rattle.shown.specs.Marks.{IsMarkedText};
-ghost use Rattle.message_shown.specs.Attributes.{message_members};
+ghost use Rattle.message_shown.specs.Attributes.{attribute_members, message_members};
 ghost use Rattle.message_shown.specs.Leniently.{ReadsAccepted};
 ghost use Rattle.message_shown.specs.Raw.{underlined, kernel_name, raw_members, raw_object, lenient_members};
 
-use crate::answers::show_message;
-use crate::attribute::row_of;
+use crate::accepted::parse_accepted;
+use crate::attribute::{row_of, show_header};
 use crate::context::Context;
 use crate::fault::show_fault;
-use crate::lenient::parse_accepted;
+use crate::member::show_members;
 use crate::wire::cause_name;
-use link_msg::{Cause, DecodeError, LinkMessage, Refusal};
+use link_msg::{Cause, DecodeError, LinkAttribute, LinkMessage, Refusal};
 use shown::{Marked, Nest, Page};
 use std::alloc::{AllocError, Global};
 
@@ -81,6 +81,35 @@ fn show_raw_object(alloc: Global, page: &mut Page, bytes: &[u8]) -> Result<(), A
     page.begin("refused", Nest::Object)?;
     show_raws(alloc, page, bytes)?;
     page.end()
+}
+
+/// Adds what the attributes of a message say.
+pub fn show_attributes(
+    cx: &Context<'_>,
+    page: &mut Page,
+    attributes: &[LinkAttribute],
+) -> Result<(), AllocError>
+    ensures { OnOk result
+        (page.new ≡ with_members (attribute_members cx.now attributes.now) page.old) }
+{
+    show_members(&cx.with_address(attributes), page, attributes)
+}
+
+/// Adds what a message says, whose bytes these are.
+pub fn show_message(
+    cx: &Context<'_>,
+    page: &mut Page,
+    bytes: &[u8],
+    message: &LinkMessage,
+) -> Result<(), AllocError>
+    ensures { OnOk result
+        (page.new ≡ with_members (message_members cx.now bytes.now message.now) page.old) }
+{
+    let family = u8::from(message.header.interface_family);
+    page.keyed_number("ifi-family", family.into())?;
+    show_header(page, bytes)?;
+    let attributes = message.attributes.as_slice();
+    show_attributes(cx, page, attributes)
 }
 
 /// Writes what a message says, whose bytes these are.

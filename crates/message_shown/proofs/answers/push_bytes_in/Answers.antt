@@ -16,13 +16,13 @@ returns-in-Ok-clause-told c =
     on_ok_weaker c.push_message.result
     (λ s. tells_as c.args.cx.now (words_shown c.args.front.now) c.args.bytes.now _ _ s) c.push_message.ensures
 
-pub returns-in_default-clause-answer : goal.returns-in_default-clause-answer
-returns-in_default-clause-answer c =
+pub returns-in-Err-clause-answer : goal.returns-in-Err-clause-answer
+returns-in-Err-clause-answer c =
     on_ok_weaker c.push_fault.result
     (λ s. adds_begun IsWholeAnswerTo IsAnswerTo begins_as c.args.cx.now (words_shown c.args.front.now) c.args.bytes.now
     _ _ s) c.push_fault.ensures
 
-pub returns-in_default-clause-told : goal.returns-in_default-clause-told
-returns-in_default-clause-told c =
+pub returns-in-Err-clause-told : goal.returns-in-Err-clause-told
+returns-in-Err-clause-told c =
     on_ok_weaker c.push_fault.result
     (λ s. tells_as c.args.cx.now (words_shown c.args.front.now) c.args.bytes.now _ _ s) c.push_fault.ensures

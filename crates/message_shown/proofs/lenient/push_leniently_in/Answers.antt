@@ -11,7 +11,7 @@ returns-in-Ok c =
     let words = words_shown c.args.front.now in
     let whole = on_ok_weaker c.push_message.result
     (λ s. added_leniently c.args.cx.now words c.args.bytes.now _ _
-    (λ nothing. absurd (nothing c.in-Ok.message c.in-Ok.ensures.means)) s) c.push_message.ensures in
+    (λ nothing. absurd (nothing c.in-Ok.ensures.found.0 c.in-Ok.ensures.found.1)) s) c.push_message.ensures in
     record {
       whole = whole;
       answer = on_ok_weaker c.push_message.result
@@ -21,8 +21,8 @@ returns-in-Ok c =
           (λ s. tells_leniently c.args.cx.now words c.args.bytes.now _ _ s) whole;
     }
 
-pub returns-in_default : goal.returns-in_default
-returns-in_default c =
+pub returns-in-Err : goal.returns-in-Err
+returns-in-Err c =
     let words = words_shown c.args.front.now in
     record {
       whole = c.push_refused.ensures;

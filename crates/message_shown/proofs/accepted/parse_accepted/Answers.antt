@@ -5,7 +5,7 @@ use Rattle.nla_wire.proofs.Front.{all_bytes}
 use Rattle.nla_wire.specs.Items.{items}
 use Rattle.message_shown.specs.Leniently.{accepted}
 use Rattle.message_shown.proofs.Leniently.{accepted_whole, none_stray}
-use Rattle.message_shown.proofs.lenient.parse_accepted.Goals as goal
+use Rattle.message_shown.proofs.accepted.parse_accepted.Goals as goal
 
 pub returns-then-not-are_frames : goal.returns-then-not-are_frames
 returns-then-not-are_frames c =
