@@ -224,10 +224,10 @@ ptrdiff_t linkwire_diff(const uint8_t *old_message, size_t old_len, const uint8_
 int32_t linkwire_next(const uint8_t *list, size_t len, size_t *at, struct linkwire_attribute *attribute);
 
 /* Finds the last attribute of each of several numbers, as the kernel reads a list. The `kind` of each of the `count`
- * attributes at `found` says a number, of which the two flag bits do not count, and what is found takes its place. Where
- * the list has none, `payload` and `payload_len` are 0. Returns 0; or -2, -3 or -4 where no attribute stands, wherever
- * that is in the list, and then those in front of that place were found. Offsets are counted from the start of the
- * list, which is that of a message or of a nest, as for `linkwire_next`. Takes no memory. */
+ * attributes at `found` says a number, without its two flag bits, and what is found takes its place. Where the list has
+ * none, `payload` and `payload_len` are 0. Returns 0; or -2, -3 or -4 if at some place of the list no attribute stands.
+ * Then those in front of that place were found. Offsets are counted from the start of the list, which is that of a
+ * message or of a nest, as for `linkwire_next`. Takes no memory. */
 int32_t linkwire_pick(const uint8_t *list, size_t len, struct linkwire_attribute *found, size_t count);
 
 /* Writes an attribute at `*at` of a list that has room for `cap` bytes: 1, and header, payload and the padding up to

@@ -1,5 +1,6 @@
 -- Attributes of a list, picked one after the other.
-use Rattle.std.specs.Prelude.{◌≡◌, ℕ, ◌==◌, ◌≤◌, if◌then◌else◌, List, [], ◌∷◌, ◌++◌, length, map, drop, Bool, true, false, Result, Ok, Err, ◌<◌}
+use Rattle.std.specs.Prelude.{◌≡◌, ℕ, ◌<◌, ◌≤◌, List, [], ◌∷◌, ◌++◌, length, map, drop, Bool, true, false}
+use Rattle.std.specs.Prelude.{Result, Ok, Err}
 use Rattle.std.proofs.Common.{refl, ap, sym, subst, ◌∙◌}
 use Rattle.std.specs.List.{fold}
 use Rattle.nla_wire.specs.Frames.{Frame, Frames, Fault}
@@ -53,7 +54,8 @@ goes_on b at next a was (Ok true) v old new later some is (_, step) (all, stand,
   one_more b 0 at next a all stand step,
   later_is ∙ ap (map (kept a)) new_is ∙ sym (picked_more a all old),
 )
-goes_on b at next a was (Ok false) v old new later some is (over, _, _, _) so_far later_is = absurd (omega (arith, some, over))
+goes_on b at next a was (Ok false) v old new later some is (over, _, _, _) so_far later_is =
+    absurd (omega (arith, some, over))
 goes_on b at next a was (Err e) v old new later some is n so_far later_is = cc
 
 pub ends : (b : List ℕ) (at : ℕ) (old new : List Attribute) → length b ≤ at → IsSoFar b at old new

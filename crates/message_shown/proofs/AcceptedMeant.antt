@@ -1,5 +1,6 @@
 -- Of bytes that are no message the attributes that are shown mean the part of the message that is accepted.
-use Rattle.std.proofs.Common.{◌≡◌, ◌⊎◌, ℕ, Bool, true, false, List, [], ◌∷◌, ◌++◌, cond, drop, length, map, take, refl, sym}
+use Rattle.std.proofs.Common.{◌≡◌, ◌⊎◌, ℕ, Bool, true, false, List, [], ◌∷◌, ◌++◌, cond, drop, length, map, take}
+use Rattle.std.proofs.Common.{refl, sym}
 use Rattle.std.proofs.Common.{ap, subst, ◌∙◌, arith, inl, inr, slice_index, ◌≤◌, length-append}
 use Rattle.std.specs.Prelude.{◌%◌, Option, None, Some, Result, Ok, Err}
 use Rattle.std.specs.List.{AllByRecursion}
@@ -94,7 +95,8 @@ accepted_means b m bytes (h, c, whole, header, (fs, frames, every)) =
     ap (λ (v : LinkHeader). v.interface_family) header.says ∙ ap address_family_of (sym first) in
     let gs : List Frame = picked true (accepts n) (frames_in (items d)) in
     let all : AllByRecursion IsWritable gs = picked_writable (accepts n) (frames_in (items d))
-    (subst (AllByRecursion IsFrame) (sym (frames_are d fs framed)) (frames_framed d fs (bytes_after b bytes) framed)) in (
+    (subst (AllByRecursion IsFrame) (sym (frames_are d fs framed))
+    (frames_framed d fs (bytes_after b bytes) framed)) in (
       take header_size b,
       canons (λ f. f) gs,
       refl,

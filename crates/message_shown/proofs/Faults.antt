@@ -1,5 +1,6 @@
 -- What is said of bytes that have a fault.
-use Rattle.std.proofs.Common.{◌≡◌, ◌⊎◌, ℕ, false, ◌<◌, ◌≤◌, arith, List, [], ◌∷◌, inl, inr, refl, sym, subst, ◌∙◌, length}
+use Rattle.std.proofs.Common.{◌≡◌, ◌⊎◌, ℕ, false, ◌<◌, ◌≤◌, arith, List, [], ◌∷◌, inl, inr, refl, sym, subst, length}
+use Rattle.std.proofs.Common.{◌∙◌}
 use Rattle.std.specs.Prelude.{Err, codes}
 use Rattle.std.specs.List.{AllByRecursion}
 use Rattle.nla_wire.specs.declared.error.Cause.{Cause}

@@ -96,8 +96,8 @@ fn show_refused(page: &mut Page, bytes: &[u8]) -> Result<(), AllocError>
     page.end()
 }
 
-/// Adds the answer to a line whose bytes mean a message leniently: the attributes that are accepted, and last those that
-/// are refused.
+/// Adds the answer to a line whose bytes mean a message leniently: the attributes that are accepted, and last those
+/// that are refused.
 fn push_accepted(
     cx: &Context<'_>,
     room: &mut Room,

@@ -14,8 +14,9 @@ returns-in_err-next_attribute c =
 
 pub loop-at-preserved : goal.loop-at-preserved
 loop-at-preserved c =
-    goes_on c.args.list.now c.loop-at.at _ _ _ _ _ c.args.found.now c.loop-at.found _ (omega (arith, c.loop-at-test.true))
-    c.in_ok-next_attribute.was c.next_attribute.ensures c.loop-at.invariant c.keep.ensures
+    goes_on c.args.list.now c.loop-at.at _ _ _ _ _ c.args.found.now c.loop-at.found _
+    (omega (arith, c.loop-at-test.true)) c.in_ok-next_attribute.was c.next_attribute.ensures c.loop-at.invariant
+    c.keep.ensures
 
 pub returns : goal.returns
 returns c =
