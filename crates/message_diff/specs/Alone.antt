@@ -1,5 +1,5 @@
 -- A line that tells of an interface, and not of what changed of it.
-use Rattle.std.specs.Prelude.{◌≡◌, ◌<◌, ℕ, List, [], ◌∷◌, ◌++◌, Option, None, Some, codes, length}
+use Rattle.std.specs.Prelude.{◌≡◌, ◌<◌, ℕ, List, [], ◌∷◌, ◌++◌, Option, None, Some, codes, length, map}
 use Rattle.std.specs.List.{flat_map, fold}
 use Rattle.json.specs.Token.{Token, string}
 use Rattle.shown.specs.Print.{print}
@@ -16,7 +16,8 @@ use Rattle.line_filter.specs.Words.{value_in, words_of}
 use Rattle.shown.specs.Drafts.{Members, object_of}
 use Rattle.shown.specs.Values.{numbered}
 use Rattle.message_shown.specs.Counters.{signed}
-use Rattle.message_shown.specs.Worded.{word_text}
+use Rattle.message_shown.specs.WordKeys.{answer_keys}
+use Rattle.message_shown.specs.Worded.{word_text, AreNew}
 
 -- the words that are told, as texts under their keys
 abbrev pub word_member : List ℕ → Option (List ℕ) → Members
@@ -27,6 +28,11 @@ abbrev pub told_words : List ℕ → Members
 told_words front =
     flat_map (λ name. word_member name (value_in name (words_of front)))
     (codes "type" ∷ codes "time" ∷ codes "host" ∷ [])
+
+-- no word that is told has the key of another member of its line, or of an answer that is a fault
+abbrev pub ToldAreApart : Type 0
+ToldAreApart = (front : List ℕ)
+    → AreNew (codes "change" ∷ codes "changes" ∷ answer_keys) (map (λ m. m.0) (told_words front))
 
 -- what became of the interface
 abbrev pub change_member : List ℕ → List ℕ × List Token

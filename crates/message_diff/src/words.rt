@@ -3,7 +3,7 @@
 ghost use Rattle.std.specs.Prelude.{◌≡◌, ◌<◌, ◌++◌, OnOk, length, codes};
 ghost use Rattle.line_filter.specs.Words.{value_in, words_of};
 ghost use Rattle.shown.specs.Drafts.{with_members};
-ghost use Rattle.message_diff.specs.Alone.{word_member, told_words, member_line};
+ghost use Rattle.message_diff.specs.Alone.{word_member, told_words, member_line, ToldAreApart};
 ghost use Rattle.message_diff.specs.Faults.{told_front};
 
 use line_filter::words::value_of;
@@ -82,3 +82,8 @@ pub fn push_not_hex(alloc: Global, front: &[u8], out: &mut Vec<u8>) -> Result<()
     }
     push_line(alloc, front, "fault", "not-hex", out)
 }
+
+/// No word that is told has the key of another member of its line.
+pub fn law_words()
+    ensures { ToldAreApart }
+{}

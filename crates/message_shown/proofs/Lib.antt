@@ -14,3 +14,5 @@ mod Frames
 mod Alike
 pub mod Meant
 mod AcceptedMeant
+mod WordKeys
+mod Words

@@ -2,14 +2,14 @@
 use Rattle.std.proofs.Common.{◌≡◌, ◌⊎◌, inl, inr, ℕ, Bool, true, false, List, [], ◌∷◌, ◌++◌, suc, refl, sym, ap}
 use Rattle.std.proofs.Common.{subst, ◌∙◌, ◌^◌, ◌<◌, arith, decimal}
 use Rattle.std.proofs.Common.{append_assoc, append-nil, slice_index}
-use Rattle.std.specs.Prelude.{Result, Ok, Err, codes, MatchBool}
+use Rattle.std.specs.Prelude.{Result, Ok, Err, codes, map, MatchBool}
 use Rattle.hex.specs.Hex.{decode_of}
 use Rattle.hex.specs.Hex as hex
 use Rattle.hex.specs.declared.error.FromHexError.{FromHexError}
 use Rattle.hex.proofs.HexLemmas.{decode_of-ok}
 use Rattle.std.specs.List.{flat_map}
 use Rattle.std.proofs.lemmas.List.Concat.{flat_map-append}
-use Rattle.json.specs.Token.{Token, begin_object, end_object, key, string, number}
+use Rattle.json.specs.Token.{Token, begin_array, begin_object, end_array, end_object, key, string, number}
 use Rattle.shown.specs.Print.{print}
 use Rattle.nla_wire.specs.Frames.{Frame, IsBytes}
 use Rattle.nla_wire.specs.Grammar.{Grammar}
@@ -28,17 +28,19 @@ use Rattle.link_msg.specs.declared.message.LinkMessage.{LinkMessage}
 use Rattle.link_msg.proofs.Leniently.{means_or_not, strict_is_lenient}
 use Rattle.link_msg.proofs.Reading.{message_agrees}
 use Rattle.line_filter.specs.Lines.{AnswersEach}
-use Rattle.shown.specs.Drafts.{Draft}
+use Rattle.shown.specs.Drafts.{Draft, Members}
 use Rattle.shown.specs.Pages.{IsPage, IsScalar, IsPlain, IsObject}
-use Rattle.shown.specs.declared.page.Nest.TheVariants.{Object}
-use Rattle.shown.proofs.Pages.{page_new, page_value, page_text, object_found}
+use Rattle.shown.specs.declared.page.Nest.TheVariants.{Object, List as Items}
+use Rattle.shown.proofs.Pages.{page_begin, page_end, page_new, page_value, page_text, object_found}
 use Rattle.message_shown.specs.Causes.{cause_text}
 use Rattle.shown.proofs.Lines.{decimal_on_line}
 use Rattle.line_filter.specs.Words.{are_alone, digits_of, front_of, rest_of, words_of}
 use Rattle.message_shown.specs.Leniently.{IsLenientAnswerTo}
 use Rattle.message_shown.specs.Lines.{Answering, AnswersAll, IsAnswer, IsAnswerTo, IsAnswerToSpelled, head}
 use Rattle.message_shown.specs.Lines.{whole_object, nothex_member}
-use Rattle.message_shown.specs.Worded.{word_text, strings, words_shown}
+use Rattle.message_shown.specs.WordKeys.{is_member, with_key, written_keys}
+use Rattle.message_shown.specs.Worded.{Word, word_text, strings, words_shown, list_shown, member_if}
+use Rattle.message_shown.specs.Worded.{members_in, others_in}
 
 first_small : (h : List ℕ) → IsBytes h → slice_index h 0 < 2 ^ 64
 first_small [] bytes = omega arith
@@ -58,16 +60,64 @@ family_small : (place : AddressFamily → Grammar Frame LinkAttribute) (b : List
 family_small place b m bytes k = header_small k.0 m.header (bytes_left k.0 k.1 (subst IsBytes k.2 bytes)) k.3
 
 -- ** the least answer with words in front
-words_page : (words : List (List ℕ × List ℕ)) (ts : List Token) → IsPage ts Object []
-    → IsPage (ts ++ flat_map (λ m. key m.0 ∷ m.1) (strings words)) Object []
-words_page [] ts h = subst (λ (l : List Token). IsPage l Object []) (sym (append-nil ts)) h
-words_page (w ∷ words) ts h =
-    let name = word_text w.0 in
-    let value = string (word_text w.1) in
-    let others = flat_map (λ m. key m.0 ∷ m.1) (strings words) in
+abbrev tokens_of : Members → List Token
+tokens_of ms = flat_map (λ m. key m.0 ∷ m.1) ms
+
+two_parts : (ts : List Token) (ms ns : Members) → (ts ++ tokens_of ms) ++ tokens_of ns ≡ ts ++ tokens_of (ms ++ ns)
+two_parts ts ms ns =
+    append_assoc ts (tokens_of ms) (tokens_of ns)
+    ∙ ap (λ l. ts ++ l) (sym (flat_map-append (λ m. key m.0 ∷ m.1) ms ns))
+
+member_page : (is : Bool) (word : Word) (ts : List Token) → IsPage ts Object []
+    → IsPage (ts ++ tokens_of (member_if is word)) Object []
+member_page true word ts h =
+    let value : Token = string (word_text word.1) in
+    subst (λ (l : List Token). IsPage l Object []) (append_assoc ts (key word.0 ∷ []) (value ∷ []))
+    (page_value ts Object [] word.0 value h (λ _. refl) tt)
+member_page false word ts h = subst (λ (l : List Token). IsPage l Object []) (sym (append-nil ts)) h
+
+members_page : (keys : List (List ℕ)) (words : List Word) (ts : List Token) → IsPage ts Object []
+    → IsPage (ts ++ tokens_of (members_in written_keys keys words)) Object []
+members_page keys [] ts h = subst (λ (l : List Token). IsPage l Object []) (sym (append-nil ts)) h
+members_page keys (word ∷ words) ts h =
+    let is : Bool = is_member written_keys keys word.0 in
+    let more : List (List ℕ) = with_key is word.0 keys in
     subst (λ (l : List Token). IsPage l Object [])
-    (append_assoc (ts ++ key name ∷ []) (value ∷ []) others ∙ append_assoc ts (key name ∷ []) (value ∷ others))
-    (words_page words ((ts ++ key name ∷ []) ++ value ∷ []) (page_value ts Object [] name value h (λ _. refl) tt))
+    (two_parts ts (member_if is word) (members_in written_keys more words))
+    (members_page more words (ts ++ tokens_of (member_if is word)) (member_page is word ts h))
+
+items_page : (texts : List (List ℕ)) (ts : List Token) → IsPage ts Items (Object ∷ [])
+    → IsPage (ts ++ map (λ t. string (word_text t)) texts) Items (Object ∷ [])
+items_page [] ts h = subst (λ (l : List Token). IsPage l Items (Object ∷ [])) (sym (append-nil ts)) h
+items_page (text ∷ texts) ts h =
+    let value : Token = string (word_text text) in
+    subst (λ (l : List Token). IsPage l Items (Object ∷ []))
+    (append_assoc ts (value ∷ []) (map (λ t. string (word_text t)) texts))
+    (items_page texts (ts ++ value ∷ []) (page_value ts Items (Object ∷ []) [] value h (λ _. refl) tt))
+
+list_page : (texts : List (List ℕ)) (ts : List Token) → IsPage ts Object []
+    → IsPage (ts ++ tokens_of (list_shown texts)) Object []
+list_page [] ts h = subst (λ (l : List Token). IsPage l Object []) (sym (append-nil ts)) h
+list_page (text ∷ texts) ts h =
+    let name : List ℕ = codes "words" in
+    let items : List Token = map (λ t. string (word_text t)) (text ∷ texts) in
+    let begun : List Token = (ts ++ key name ∷ []) ++ begin_array ∷ [] in
+    let last : List Token = items ++ end_array ∷ [] in
+    subst (λ (l : List Token). IsPage l Object [])
+    (append_assoc begun items (end_array ∷ [])
+    ∙ append_assoc (ts ++ key name ∷ []) (begin_array ∷ []) last
+    ∙ append_assoc ts (key name ∷ []) (begin_array ∷ last)
+    ∙ ap (λ l. ts ++ l) (sym (append-nil (key name ∷ begin_array ∷ last))))
+    (page_end (begun ++ items) Items Object []
+    (items_page (text ∷ texts) begun (page_begin ts Object Items [] name h)))
+
+words_page : (words : List Word) (ts : List Token) → IsPage ts Object []
+    → IsPage (ts ++ tokens_of (strings words)) Object []
+words_page words ts h =
+    let ms : Members = members_in written_keys [] words in
+    let texts : List (List ℕ) = others_in written_keys [] words in
+    subst (λ (l : List Token). IsPage l Object []) (two_parts ts ms (list_shown texts))
+    (list_page texts (ts ++ tokens_of ms) (members_page [] words ts h))
 
 head_page : (words : List (List ℕ × List ℕ)) (name : List ℕ) (t : Token) → IsScalar t → IsPlain t
     → IsPage (head (strings words) (name, t ∷ [])) Object []

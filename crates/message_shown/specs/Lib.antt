@@ -1,6 +1,7 @@
 pub mod Causes
 pub mod Places
 pub mod Contexts
+pub mod WordKeys
 pub mod Worded
 pub mod Rows
 pub mod Lines

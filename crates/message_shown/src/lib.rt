@@ -19,6 +19,7 @@ pub mod reading;
 mod rows;
 mod vf;
 mod wire;
+mod word_keys;
 pub mod worded;
 
 pub use answers::Shown;

@@ -1,0 +1,13 @@
+use Rattle.std.proofs.Common.{◌≡◌, [], length}
+use Rattle.line_filter.specs.Words.{words_of}
+use Rattle.shown.specs.Drafts.{with_members}
+use Rattle.message_shown.specs.WordKeys.{written_keys}
+use Rattle.message_shown.specs.Worded.{as_items, others_in}
+use Rattle.message_shown.proofs.worded.show_items.Given as goal
+
+abbrev pub invariant-loop-word : goal.invariant-loop-word
+invariant-loop-word l = with_members (as_items (others_in written_keys l.keys (words_of l.rest))) l.page
+    ≡ with_members (as_items (others_in written_keys [] (words_of l.line))) l.fn.page
+
+abbrev pub decreases-loop-word : goal.decreases-loop-word
+decreases-loop-word l = length l.rest
