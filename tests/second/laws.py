@@ -25,6 +25,7 @@ import told
 OPTIONS = [], ["--lenient"], ["--counters"], ["--counters", "--lenient"]
 EACH, TURN = 100, 20                            # streams a call, and calls with the same messages and options
 DUMPS, FILES = 40, 10                           # hosts a call in two dumps, and in two files
+ANY = told.ANY.encode() + b"}"
 TIME = re.compile(rb'"time":"([0-9]+)"')
 # paths that releases name differently
 ORDERED = re.compile(r"(?:.*\.)?(?:inet6|protinfo)\.(?:.*\.)?stats(?:\.|$)")
@@ -42,7 +43,7 @@ def breaks(law, *what):
 def compare(law, found, wanted):
     if found != wanted:
         for one, other in zip([*found, b"nothing"], [*wanted, b"nothing"]):
-            if one != other:
+            if one != other and not (other.endswith(ANY) and one.startswith(other[:-len(ANY)])):
                 breaks(law, one, "and not", other)
 
 

@@ -11,6 +11,8 @@ WORD = re.compile(rb"([^= \t]+)=([^ \t]*)(?:[ \t]+|\Z)")
 NUMERAL = re.compile(rb"\+?([0-9]+)")
 IFNAME, WIRELESS, LINKINFO, EVENT = 3, 11, 18, 44
 PARTS = 7, 10
+# in the place of changes of which the page does not say what is told
+ANY = "[..]"
 
 
 def said(program, options, text):
@@ -98,15 +100,13 @@ def named(name):
 
 
 class Shown:
-    """What is shown of a message: the value at each path, in order, the first where a path stands twice; the paths that
-    are counters; and of the values those that are no counters of zero. `is_single` says that no path stands twice."""
+    """What is shown of a message: the value at each path, in order; the paths that are counters; and of the values those
+    that are no counters of zero. `is_single` says that no path stands twice."""
 
     def __init__(self, page, filled):
         page = json.loads(page)
         leaves = leaves_of(page)
-        self.leaves = {}
-        for path, value in leaves:
-            self.leaves.setdefault(path, value)
+        self.leaves = dict(leaves)
         self.is_single = len(leaves) == len(self.leaves)
         others = dict(leaves_of(json.loads(filled)))
         self.counters = {path for path, value in leaves if path not in others or others[path] != value}
@@ -169,16 +169,14 @@ def messages(linkshow, options, texts, kernels):
 
 # ** what changed
 
-def text_at(shown, path):
-    return text_of(shown.leaves[path]) if path in shown.leaves else None
-
-
 def changes(old, new, is_all):
-    """The list `changes` of two messages, each with how it is shown."""
+    """The list `changes` of two messages, each with how it is shown; ANY where a path stands twice."""
     (was, before), (now, after) = old, new
+    if not (before.is_single and after.is_single):
+        return ANY
     olds, news = (set(), set()) if is_all else (before.counters, after.counters)
-    rows = [(path, text_of(value), text_at(after, path)) for path, value in before.leaves.items()
-            if path not in after.leaves or after.leaves[path] != value]
+    rows = [(path, text_of(value), text_of(after.leaves[path]) if path in after.leaves else None)
+            for path, value in before.leaves.items() if path not in after.leaves or after.leaves[path] != value]
     rows += [(path, None, text_of(value)) for path, value in after.leaves.items() if path not in before.leaves]
     out = []
     for path, one, other in rows:
