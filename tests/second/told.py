@@ -100,8 +100,8 @@ def named(name):
 
 
 class Shown:
-    """What is shown of a message: the value at each path, in order; the paths that are counters; and of the values those
-    that are no counters of zero. `is_single` says that no path stands twice."""
+    """What is shown of a message: the value at each path, in order; the paths that are counters; and of the values
+    those that are no counters of zero. `is_single` says that no path stands twice."""
 
     def __init__(self, page, filled):
         page = json.loads(page)
