@@ -177,7 +177,7 @@ form_apart inner cx action (Forms.Flags bits) p h = tt
 form_apart inner cx action Forms.Ipv6 p h = tt
 form_apart inner cx action (Forms.Field field) p h = tt
 
-way_apart : (inner : Inner) (cx : Around) (action : Action) (way : Way) (p : List ℕ) → InnerApart inner
+pub way_apart : (inner : Inner) (cx : Around) (action : Action) (way : Way) (p : List ℕ) → InnerApart inner
     → AreApart (way_inside inner cx action way p)
 way_apart inner cx action (Ways.Own form) p h = form_apart inner cx action form p h
 way_apart inner cx action (Ways.By style) p h = meaning_apart inner action (read_as style p) h

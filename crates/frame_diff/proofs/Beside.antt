@@ -23,7 +23,7 @@ abbrev pub last_at : Step → List Member → Option Held
 last_at s [] = None
 last_at s (m ∷ ms) = or_else (last_at s ms) (cond (is_step m.0 s) (Some m.1) None)
 
-or_none : {A : Type 0} (a : Option A) → or_else a None ≡ a
+pub or_none : {A : Type 0} (a : Option A) → or_else a None ≡ a
 or_none None = refl
 or_none (Some x) = refl
 
@@ -44,7 +44,7 @@ comes_last s (m ∷ ms) other some = by (is_step m.0 s) some (comes_last s ms) (
         absurd cc
     by false h later (Some x) is = refl
 
-found_last : (s : Step) (ms : List Member) → find s (forest ms) ≡ last_at s ms
+pub found_last : (s : Step) (ms : List Member) → find s (forest ms) ≡ last_at s ms
 found_last s [] = refl
 found_last s (m ∷ ms) = by (comes m.0 ms) refl (is_step m.0 s) refl (found_last s ms)
   where

@@ -8,3 +8,4 @@ pub mod Items
 pub mod Beside
 pub mod Shown
 pub mod Texts
+pub mod Walked

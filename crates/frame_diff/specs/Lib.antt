@@ -6,4 +6,5 @@ pub mod Members
 pub mod Beside
 pub mod Items
 pub mod Shown
+pub mod Walked
 pub mod Laws

@@ -67,7 +67,7 @@ fn text_of<D: Depth>(
 }
 
 /// Whether two texts are the same.
-fn is_same(one: &[u8], other: &[u8]) -> bool
+pub(crate) fn is_same(one: &[u8], other: &[u8]) -> bool
     ensures { result ≡ is_text one.now other.now }
 {
     one == other

@@ -4,6 +4,8 @@
 pub mod counters;
 pub mod laws;
 pub mod leaf;
+pub mod list;
 pub mod named;
 pub mod path;
 pub mod side;
+pub mod walk;

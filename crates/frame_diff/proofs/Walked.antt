@@ -1,0 +1,210 @@
+-- One attribute further.
+use Rattle.std.proofs.Common.{◌≡◌, ℕ, ◌+◌, Bool, true, false, List, [], ◌∷◌, ◌++◌, length, drop, refl, sym, ap, ◌∙◌}
+use Rattle.std.proofs.Common.{Ok, Err, Option, Some, None, map, eqb-true}
+use Rattle.std.specs.Prelude.{◌==◌, ◌&&◌, ◌||◌, IfSome, cond, not, option_map}
+use Rattle.json.specs.Token.{Token}
+use Rattle.std.specs.List.{list_any}
+use Rattle.std.proofs.lemmas.List.{map-append}
+use Rattle.nla_wire.specs.Frames.{Frame, missing, number}
+use Rattle.nla_wire.specs.Items.{Item, items}
+use Rattle.nla_wire.specs.Reading.{front, step}
+use Rattle.nla_wire.specs.Reading.Step.{End, Bad, Next}
+use Rattle.nla_wire.specs.Reading as Cuts
+use Rattle.nla_wire.proofs.Front.{first_comes}
+use Rattle.nla_wire.proofs.Items.{items_bad, items_next, items_nil}
+use Rattle.nla_wire.proofs.Steps.{step_end}
+use Rattle.link_info.specs.Tables.{frames_in}
+use Rattle.shown.specs.Drafts.{Draft, object_of, with_members}
+use Rattle.frame_shown.specs.Items.{objects}
+use Rattle.frame_shown.specs.Tables.{is_kept, row_in}
+use Rattle.frame_shown.specs.Values.{Nesting}
+use Rattle.frame_shown.specs.declared.form.Around.{Around}
+use Rattle.frame_shown.specs.declared.form.List.{List as Shape}
+use Rattle.frame_shown.proofs.Items.{on_next}
+use Rattle.frame_diff.specs.Beside.{held_of, is_named}
+use Rattle.frame_diff.specs.Counters.{action_in, is_passed}
+use Rattle.frame_diff.specs.Forests.{AreApart, Forest, Held, Member, Step, comes, find, forest, is_text}
+use Rattle.frame_diff.specs.Differences.{text_of}
+use Rattle.frame_diff.specs.Items.{change_item, items_told, joined, leaf_items, step_text, turned_item}
+use Rattle.frame_diff.specs.Members.{Reading, held_by, named_in}
+use Rattle.frame_diff.specs.Walked.{AreAlike, HasRowOf, Holding, HoldsApart, IsOf, Showing, frame_items, has_number}
+use Rattle.frame_diff.specs.Walked.{has_payload, held_at, held_items, last_items, reading_at}
+use Rattle.frame_diff.specs.declared.side.Side.{Side}
+use Rattle.frame_diff.specs.declared.side.Side.TheVariants.{Old, New}
+use Rattle.frame_diff.specs.declared.walk.Attribute.{Attribute}
+use Rattle.frame_diff.specs.declared.walk.Attributes.{Attributes}
+use Rattle.frame_diff.proofs.Apart.{way_apart}
+use Rattle.frame_diff.proofs.Items.{items_are}
+use Rattle.frame_diff.proofs.Silent.{same_silent}
+use Rattle.frame_diff.proofs.Steps.{text_is, text_same}
+
+-- ** bytes behind a frame
+
+front_is : (b : List ℕ) (s : Cuts.Step) (f : Frame) (rest : List Item) → step b ≡ s → items b ≡ Ok f ∷ rest
+    → front s ≡ Ok f
+front_is b End f rest e h =
+    let none : [] ≡ Ok f ∷ rest = sym items_nil ∙ ap items (sym (step_end b e)) ∙ h in absurd cc
+front_is b (Bad c) f rest e h = let fault : Err c ∷ [] ≡ Ok f ∷ rest = sym (items_bad b c e) ∙ h in absurd cc
+front_is b (Next g p) f rest e h = let same : Ok g ∷ items p ≡ Ok f ∷ rest = sym (items_next b g p e) ∙ h in cc
+
+pub behind_first : (b : List ℕ) (f : Frame) (rest : List Item) (n : ℕ) → n ≡ 4 + length f.payload
+    + missing (length f.payload) → items b ≡ Ok f ∷ rest → items (drop n b) ≡ rest
+behind_first b f rest n is h =
+    let comes : items b ≡ Ok f ∷ items (drop (4 + length f.payload + missing (length f.payload)) b) =
+    first_comes b f (front_is b (step b) f rest refl h) in
+    let both : Ok f ∷ items (drop (4 + length f.payload + missing (length f.payload)) b) ≡ Ok f ∷ rest =
+    sym comes ∙ h in
+    let last : items (drop (4 + length f.payload + missing (length f.payload)) b) ≡ rest = cc in
+    ap (λ k. items (drop k b)) is ∙ last
+
+-- ** whether another one of a name comes
+
+pub comes_named : (r : Reading) (list : Shape) (name : List ℕ) (fs : List Frame)
+    → list_any (is_named r.is_state r.around list name) fs ≡ comes (Step.name name) (named_in r list fs)
+comes_named r list name [] = refl
+comes_named r list name (f ∷ fs) =
+    by (is_passed r.is_state list (number f)) (is_kept (row_in r.around list (number f)).1 f.payload)
+    (is_text (row_in r.around list (number f)).0 name) refl (comes_named r list name fs)
+  where
+    behind : List Member
+    behind = named_in r list fs
+
+    member : Bool → Bool → List Member
+    member passed kept =
+        cond passed [] (cond kept [] ((Step.name (row_in r.around list (number f)).0, held_of r list f) ∷ []))
+
+    by : (passed kept same : Bool) → is_text (row_in r.around list (number f)).0 name ≡ same
+        → list_any (is_named r.is_state r.around list name) fs ≡ comes (Step.name name) behind
+        → (not passed && not kept && same || list_any (is_named r.is_state r.around list name) fs)
+        ≡ comes (Step.name name) (member passed kept ++ behind)
+    by true kept same is later = later
+    by false true same is later = later
+    by false false true is later = sym (ap (λ b. cond b true (comes (Step.name name) behind)) is)
+    by false false false is later = later ∙ sym (ap (λ b. cond b true (comes (Step.name name) behind)) is)
+
+-- ** what one attribute tells, and those behind it
+
+pub last_further : (side : Side) (text : List ℕ) (others : Forest) (m : Member) (ms : List Member)
+    → items_told side text (forest (m ∷ ms)) others
+    ≡ last_items side text ms m (find m.0 others) ++ items_told side text (forest ms) others
+last_further side text others m ms = by (comes m.0 ms)
+  where
+    by : (b : Bool)
+        → items_told side text (cond b (forest ms) (Forest.tree m.0 m.1.0 m.1.1 (forest ms))) others
+        ≡ cond b [] (held_items side (joined text (step_text m.0)) m.1 (find m.0 others))
+        ++ items_told side text (forest ms) others
+    by true = refl
+    by false = refl
+
+pub frame_further : (side : Side) (text : List ℕ) (r : Reading) (list : Shape) (others : Forest) (f : Frame)
+    (fs : List Frame)
+    → items_told side text (forest (named_in r list (f ∷ fs))) others
+    ≡ frame_items side text r list others (named_in r list fs) f
+    ++ items_told side text (forest (named_in r list fs)) others
+frame_further side text r list others f fs =
+    by (is_passed r.is_state list (number f)) (is_kept (row_in r.around list (number f)).1 f.payload)
+  where
+    behind : List Member
+    behind = named_in r list fs
+
+    own : Member
+    own = (Step.name (row_in r.around list (number f)).0, held_of r list f)
+
+    by : (passed kept : Bool)
+        → items_told side text (forest (cond passed [] (cond kept [] (own ∷ [])) ++ behind)) others
+        ≡ cond passed [] (cond kept [] (last_items side text behind own (find own.0 others)))
+        ++ items_told side text (forest behind) others
+    by true kept = refl
+    by false true = refl
+    by false false = last_further side text others own behind
+
+pub named_next : (side : Side) (text : List ℕ) (r : Reading) (list : Shape) (others : Forest) (f : Frame)
+    (it next : List Item) (here : it ≡ Ok f ∷ next) (left : List ℕ) (page new all : Draft) → items left ≡ next
+    → new ≡ with_members (objects (frame_items side text r list others (named_in r list (frames_in (items left))) f))
+    page
+    → with_members (objects (items_told side text (forest (named_in r list (frames_in it))) others)) page ≡ all
+    → with_members (objects (items_told side text (forest (named_in r list (frames_in next))) others)) new ≡ all
+named_next side text r list others f it next here left page new all is then was =
+    let told = frame_items side text r list others (named_in r list (frames_in next)) f in
+    let more = items_told side text (forest (named_in r list (frames_in next))) others in
+    on_next (objects (items_told side text (forest (named_in r list (frames_in it))) others)) (objects told)
+    (objects more) page new all
+    (ap (λ xs. objects (items_told side text (forest (named_in r list (frames_in xs))) others)) here
+    ∙ ap objects (frame_further side text r list others f (frames_in next))
+    ∙ map-append (λ o. ([], object_of o)) told more)
+    was
+    (then
+    ∙ ap (λ xs. with_members (objects (frame_items side text r list others (named_in r list (frames_in xs)) f)) page)
+    is)
+
+-- ** a value beside the same
+
+leaf_same : (side : Side) (text : List ℕ) (v : List Token) → leaf_items side text v (Some v) ≡ []
+leaf_same Old text v = ap (λ b. cond b [] (turned_item text v v ∷ [])) (text_is (text_of v))
+leaf_same New text v = refl
+
+tree_same : (side : Side) (text : List ℕ) (i : Forest) → AreApart i → items_told side text i i ≡ []
+tree_same side text i apart =
+    items_are side (Step.name text ∷ []) i i ∙ ap (map change_item) (same_silent side (Step.name text ∷ []) i apart)
+
+held_same : (side : Side) (text : List ℕ) (v : List Token) (i : Forest) → AreApart i
+    → held_items side text (v, i) (Some (v, i)) ≡ []
+held_same side text v Forest.none apart = leaf_same side text v
+held_same side text v (Forest.tree a b c d) apart = tree_same side text (Forest.tree a b c d) apart
+
+last_same : (side : Side) (text : List ℕ) (behind : List Member) (m : Member) (beside : Option Held) → AreApart m.1.1
+    → beside ≡ Some m.1 → last_items side text behind m beside ≡ []
+last_same side text behind m beside apart is = by (comes m.0 behind)
+  where
+    by : (b : Bool) → cond b [] (held_items side (joined text (step_text m.0)) m.1 beside) ≡ []
+    by true = refl
+    by false = ap (held_items side (joined text (step_text m.0)) m.1) is
+        ∙ held_same side (joined text (step_text m.0)) m.1.0 m.1.1 apart
+
+-- ** attributes with one row and one payload
+
+module _ (nest : Showing) (inner : Holding) (apart : HoldsApart inner) (is_state : Bool) where
+  one_held : (own a : Attribute) → HasRowOf own (Some a) → own.payload.now ≡ a.payload.now
+      → held_at nest inner is_state a ≡ held_at nest inner is_state own
+  one_held own a row same = (λ k. held_by (reading_at nest inner is_state (row.0 k))
+      (action_in is_state (row.1 k) (row.2 k)) (row.3 k) (sym same k))
+
+  held_apart : (own : Attribute) → AreApart (held_at nest inner is_state own).1
+  held_apart own = way_apart (inner is_state own.around.now) own.around.now
+      (action_in is_state own.list own.number) own.way own.payload.now (apart is_state own.around.now)
+
+  pub same_untold : (side : Side) (text : List ℕ) (behind : List Member) (name : List ℕ) (own : Attribute)
+      (beside : Option Attribute) → HasRowOf own beside → has_payload own.payload.now beside ≡ true
+      → last_items side text behind (Step.name name, held_at nest inner is_state own)
+      (option_map (held_at nest inner is_state) beside) ≡ []
+  same_untold side text behind name own None row h = absurd cc
+  same_untold side text behind name own (Some a) row h =
+      last_same side text behind (Step.name name, held_at nest inner is_state own)
+      (Some (held_at nest inner is_state a)) (held_apart own)
+      (ap Some (one_held own a row (text_same own.payload.now a.payload.now h)))
+
+  pub silent_page : (side : Side) (text : List ℕ) (behind : List Member) (name : List ℕ) (own : Attribute)
+      (beside : Option Attribute) (page : Draft) → HasRowOf own beside → has_payload own.payload.now beside ≡ true
+      → page ≡ with_members (objects (last_items side text behind (Step.name name, held_at nest inner is_state own)
+      (option_map (held_at nest inner is_state) beside))) page
+  silent_page side text behind name own beside page row h =
+      sym (ap (λ os. with_members (objects os) page) (same_untold side text behind name own beside row h))
+
+-- ** rows of both lists
+
+and_both : (a b : Bool) → (a && b) ≡ true → (a ≡ true) × (b ≡ true)
+and_both true b h = (refl, h)
+and_both false b h = absurd cc
+
+pub rows_same : (list others : Attributes) (own : Attribute) (beside : Option Attribute) (alike : Bool)
+    → IsOf list own → IfSome beside (IsOf others) → (alike ≡ true → AreAlike list others)
+    → (alike && has_number own.number beside) ≡ true → HasRowOf own beside
+rows_same list others own None alike of found both h = tt
+rows_same list others own (Some a) alike of found both h =
+    let parts = and_both alike (a.number == own.number) h in
+    let lists = both parts.0 in
+    let one : a.number ≡ own.number = eqb-true a.number own.number parts.1 in
+    let around : a.around.now ≡ own.around.now = found.0 ∙ sym lists.0 ∙ sym of.0 in
+    let shape : a.list ≡ own.list = found.1 ∙ sym lists.1 ∙ sym of.1 in
+    let way : a.way ≡ own.way = found.2 ∙ (λ k. (row_in (sym lists.0 k) (sym lists.1 k) (one k)).1) ∙ sym of.2 in
+    (around, shape, one, way)

@@ -1,0 +1,94 @@
+-- What is told of attributes as they are gone through, one after another.
+use Rattle.std.specs.Prelude.{◌≡◌, ℕ, ◌==◌, List, [], Bool, true, false, Option, Some, None, cond}
+use Rattle.nla_wire.specs.Frames.{Frame, number}
+use Rattle.nla_wire.specs.Items.{items}
+use Rattle.link_info.specs.Tables.{frames_in}
+use Rattle.shown.specs.Drafts.{Members}
+use Rattle.frame_shown.specs.Tables.{is_kept, row_in}
+use Rattle.frame_shown.specs.Values.{Nesting}
+use Rattle.frame_shown.specs.declared.form.Around.{Around}
+use Rattle.frame_shown.specs.declared.form.List.{List as Shape}
+use Rattle.frame_shown.specs.declared.form.Way.{Way}
+use Rattle.frame_diff.specs.Beside.{held_of}
+use Rattle.frame_diff.specs.Counters.{action_in, is_passed}
+use Rattle.frame_diff.specs.Forests.{AreApart, Forest, Held, Member, Step, comes, find, is_text}
+use Rattle.frame_diff.specs.Items.{items_told, joined, member_items, step_text}
+use Rattle.frame_diff.specs.Members.{Inner, Reading, held_by, named_in}
+use Rattle.frame_diff.specs.declared.side.Side.{Side}
+use Rattle.frame_diff.specs.declared.walk.Attribute.{Attribute}
+use Rattle.frame_diff.specs.declared.walk.Attributes.{Attributes}
+
+-- ** what is read
+
+-- how lists are shown, and which members they hold
+abbrev pub Showing : Type 0
+Showing = Around → Nesting
+
+abbrev pub Holding : Type 0
+Holding = Bool → Around → Inner
+
+abbrev pub reading_at : Showing → Holding → Bool → Around → Reading
+reading_at nest inner is_state cx =
+    record { is_state = is_state; nest = nest cx; inner = inner is_state cx; around = cx }
+
+-- the attributes of a list that have a name
+abbrev pub named_at : Showing → Holding → Bool → Attributes → List Member
+named_at nest inner is_state list =
+    named_in (reading_at nest inner is_state list.around.now) list.list (frames_in (items list.bytes.now))
+
+-- what an attribute holds
+abbrev pub held_at : Showing → Holding → Bool → Attribute → Held
+held_at nest inner is_state a =
+    held_by (reading_at nest inner is_state a.around.now) (action_in is_state a.list a.number) a.way a.payload.now
+
+-- no two members beside each other have one step
+abbrev pub HoldsApart : Holding → Type 0
+HoldsApart inner = (is_state : Bool) (cx : Around) (list : Shape) (p : List ℕ) → AreApart (inner is_state cx list p)
+
+-- ** rows that are the same
+
+-- of two lists
+abbrev pub AreAlike : Attributes → Attributes → Type 0
+AreAlike own others = (own.around.now ≡ others.around.now) × (own.list ≡ others.list)
+
+-- an attribute has its row of this list
+abbrev pub IsOf : Attributes → Attribute → Type 0
+IsOf list a = (a.around.now ≡ list.around.now) × (a.list ≡ list.list)
+    × (a.way ≡ (row_in list.around.now list.list a.number).1)
+
+-- another one, if there is one, has the row of this one
+abbrev pub HasRowOf : Attribute → Option Attribute → Type 0
+HasRowOf own None = Unit {0}
+HasRowOf own (Some a) =
+    (a.around.now ≡ own.around.now) × (a.list ≡ own.list) × (a.number ≡ own.number) × (a.way ≡ own.way)
+
+abbrev pub has_number : ℕ → Option Attribute → Bool
+has_number n None = true
+has_number n (Some a) = a.number == n
+
+abbrev pub has_payload : List ℕ → Option Attribute → Bool
+has_payload p None = false
+has_payload p (Some a) = is_text p a.payload.now
+
+-- ** what is told
+
+-- of a value beside another one, if there is one
+abbrev pub held_items : Side → List ℕ → Held → Option Held → List Members
+held_items side text held beside = member_items side text held.0 held.1 (items_told side text held.1) beside
+
+-- of a member: nothing, where another one of its step comes behind it
+abbrev pub last_items : Side → List ℕ → List Member → Member → Option Held → List Members
+last_items side text behind m beside =
+    cond (comes m.0 behind) [] (held_items side (joined text (step_text m.0)) m.1 beside)
+
+-- nothing, where it is kept as it is
+abbrev pub row_items : Side → List ℕ → Forest → List Member → List ℕ → Way → List ℕ → Held → List Members
+row_items side text others behind name way p held =
+    cond (is_kept way p) []
+    (last_items side text behind (Step.name name, held) (find (Step.name name) others))
+
+-- of an attribute, by its row
+abbrev pub frame_items : Side → List ℕ → Reading → Shape → Forest → List Member → Frame → List Members
+frame_items side text r list others behind f = cond (is_passed r.is_state list (number f)) []
+    (row_items side text others behind (row_in r.around list (number f)).0 (row_in r.around list (number f)).1
+    f.payload (held_of r list f))

@@ -1,0 +1,254 @@
+//! What differs between the attributes of two lists.
+
+ghost use Rattle.std.specs.Prelude.{◌≡◌, ◌∷◌, ◌&&◌, Bool, IfSome, List as Seq, OnOk, Ok, drop, option_map, true};
+ghost use Rattle.std.specs.List.{list_any};
+ghost use Rattle.nla_wire.specs.Items.{Item, items};
+ghost use Rattle.link_info.specs.Tables.{frames_in};
+ghost use Rattle.shown.specs.Drafts.{with_members};
+ghost use Rattle.frame_shown.specs.Items.{objects};
+ghost use Rattle.frame_diff.specs.Beside.{held_of, is_named};
+ghost use Rattle.frame_diff.specs.Forests.{Step, comes, find, forest};
+ghost use Rattle.frame_diff.specs.Items.{items_told};
+ghost use Rattle.frame_diff.specs.Walked.{AreAlike, HasRowOf, Holding, IsOf, Showing, frame_items, has_number};
+ghost use Rattle.frame_diff.specs.Walked.{has_payload, held_at, last_items, named_at, reading_at, row_items};
+
+use crate::counters::is_passed;
+use crate::leaf::{Texts, is_same};
+use crate::named::{find_named, is_named};
+use crate::path::join;
+use crate::walk::{Attribute, Attributes, Pass, Walk};
+use frame_shown::form::{Around, List, is_kept, row_in};
+use nla_wire::{NlaBuffer, NlasIterator, padded_len};
+use shown::Page;
+use std::alloc::AllocError;
+
+/// Bytes without so many in front.
+fn skip(bytes: &[u8], count: usize) -> &[u8]
+    ensures { result.now ≡ drop count bytes.now }
+{
+    &bytes[count.min(bytes.len())..]
+}
+
+/// The attributes behind the first one.
+#[tactic(auto, using(crate::proofs::Walked::behind_first))]
+fn behind<'a>(bytes: &'a [u8], first: &NlaBuffer<'_>) -> &'a [u8]
+    ensures { (rest : Seq Item) → items bytes.now ≡ Ok first.now ∷ rest → items result.now ≡ rest }
+{
+    skip(bytes, padded_len(first.value().len()))
+}
+
+/// Whether one of the attributes is told under this name.
+fn is_any_named(is_state: bool, cx: &Around<'_>, list: List, name: &str, bytes: &[u8]) -> bool
+    ensures { result
+        ≡ list_any (is_named is_state cx.now list name.now) (frames_in (items bytes.now)) }
+{
+    for item in NlasIterator::new(bytes) {
+        let Ok(frame) = item else {
+            break;
+        };
+        if is_named(is_state, cx, list, name, &frame) {
+            return true;
+        }
+    }
+    false
+}
+
+/// Whether a member with this name is among them.
+fn comes(is_state: bool, list: Attributes<'_>, name: &str) -> bool
+    ensures { (nest : Showing) (inner : Holding) → result
+        ≡ comes (Step.name name.now) (named_at nest inner is_state list.entry) }
+{
+    is_any_named(is_state, list.around, list.list, name, list.bytes)
+}
+
+/// An attribute of a list, by its row.
+fn attribute<'a>(list: Attributes<'a>, frame: &NlaBuffer<'a>) -> Attribute<'a>
+    ensures row { IsOf list.entry result }
+    ensures held { (nest : Showing) (inner : Holding) (is_state : Bool)
+        → held_at nest inner is_state result
+        ≡ held_of (reading_at nest inner is_state list.entry.around.now) list.entry.list frame.now }
+{
+    let number = frame.kind();
+    let (_, way) = row_in(list.around, list.list, number);
+    Attribute {
+        around: list.around,
+        list: list.list,
+        number,
+        way,
+        payload: frame.value(),
+    }
+}
+
+/// The attribute that is the member with this name.
+fn find_attribute<'a>(is_state: bool, list: Attributes<'a>, name: &str) -> Option<Attribute<'a>>
+    ensures found { (nest : Showing) (inner : Holding)
+        → find (Step.name name.now) (forest (named_at nest inner is_state list.entry))
+        ≡ option_map (held_at nest inner is_state) result }
+    ensures row { IfSome result (IsOf list.entry) }
+{
+    match find_named(is_state, list.around, list.list, name, list.bytes) {
+        Some(frame) => Some(attribute(list, &frame)),
+        None => None,
+    }
+}
+
+/// Whether an attribute has this number, if there is one.
+fn has_number(number: u16, beside: Option<Attribute<'_>>) -> bool
+    ensures { result ≡ has_number number beside.entry }
+{
+    match beside {
+        Some(other) => other.number == number,
+        None => true,
+    }
+}
+
+/// Whether there is an attribute with this payload.
+fn has_payload(payload: &[u8], beside: Option<Attribute<'_>>) -> bool
+    ensures { result ≡ has_payload payload.now beside.entry }
+{
+    match beside {
+        Some(other) => is_same(payload, other.payload),
+        None => false,
+    }
+}
+
+/// Whether the row of an attribute is known to be that of the one beside it, in lists of which the rows are the same.
+fn is_alike(pass: Pass, number: u16, beside: Option<Attribute<'_>>) -> bool
+    ensures { result ≡ (pass.is_alike && has_number number beside.entry) }
+{
+    pass.is_alike && has_number(number, beside)
+}
+
+/// Tells of an attribute beside another one, unless one of its name comes behind it.
+fn tell_last<W: Walk>(
+    texts: &mut Texts,
+    pass: Pass,
+    page: &mut Page,
+    path: &str,
+    behind: Attributes<'_>,
+    name: &str,
+    own: Attribute<'_>,
+    beside: Option<Attribute<'_>>,
+) -> Result<(), AllocError>
+    requires { pass.is_alike ≡ true → HasRowOf own beside }
+    ensures { OnOk result (page.new ≡ with_members (objects (last_items pass.side path.now
+        (named_at W.nest W.inner pass.is_state behind.entry)
+        (Step.name name.now, held_at W.nest W.inner pass.is_state own.entry)
+        (option_map (held_at W.nest W.inner pass.is_state) beside.entry))) page.old) }
+{
+    if comes(pass.is_state, behind, name) {
+        return Ok(());
+    }
+    let text = join(texts.alloc, path, name)?;
+    W::tell_value(texts, pass, page, text.as_str(), own, beside)
+}
+
+/// Tells of an attribute beside another one. Those that are the same are passed over at once.
+fn tell_unless_same<W: Walk>(
+    texts: &mut Texts,
+    pass: Pass,
+    page: &mut Page,
+    path: &str,
+    behind: Attributes<'_>,
+    name: &str,
+    own: Attribute<'_>,
+    beside: Option<Attribute<'_>>,
+) -> Result<(), AllocError>
+    requires { pass.is_alike ≡ true → HasRowOf own beside }
+    ensures { OnOk result (page.new ≡ with_members (objects (last_items pass.side path.now
+        (named_at W.nest W.inner pass.is_state behind.entry)
+        (Step.name name.now, held_at W.nest W.inner pass.is_state own.entry)
+        (option_map (held_at W.nest W.inner pass.is_state) beside.entry))) page.old) }
+{
+    if pass.is_alike {
+        if has_payload(own.payload, beside) {
+            return Ok(());
+        }
+    }
+    tell_last::<W>(texts, pass, page, path, behind, name, own, beside)
+}
+
+/// Tells of an attribute, unless it is kept as it is.
+fn tell_row<W: Walk>(
+    texts: &mut Texts,
+    pass: Pass,
+    page: &mut Page,
+    path: &str,
+    behind: Attributes<'_>,
+    others: Attributes<'_>,
+    name: &str,
+    own: Attribute<'_>,
+) -> Result<(), AllocError>
+    requires rows { pass.is_alike ≡ true → AreAlike behind others }
+    requires row { IsOf behind own }
+    ensures { OnOk result (page.new ≡ with_members (objects (row_items pass.side path.now
+        (forest (named_at W.nest W.inner pass.is_state others.entry))
+        (named_at W.nest W.inner pass.is_state behind.entry)
+        name.now own.entry.way own.entry.payload.now
+        (held_at W.nest W.inner pass.is_state own.entry))) page.old) }
+{
+    if is_kept(own.way, own.payload) {
+        return Ok(());
+    }
+    let beside = find_attribute(pass.is_state, others, name);
+    let is_alike = is_alike(pass, own.number, beside);
+    let pass = Pass { is_alike, ..pass };
+    tell_unless_same::<W>(texts, pass, page, path, behind, name, own, beside)
+}
+
+/// Tells of an attribute by its row.
+fn tell_frame<W: Walk>(
+    texts: &mut Texts,
+    pass: Pass,
+    page: &mut Page,
+    path: &str,
+    behind: Attributes<'_>,
+    others: Attributes<'_>,
+    frame: &NlaBuffer<'_>,
+) -> Result<(), AllocError>
+    requires { pass.is_alike ≡ true → AreAlike behind others }
+    ensures { OnOk result (page.new ≡ with_members (objects (frame_items pass.side path.now
+        (reading_at W.nest W.inner pass.is_state behind.entry.around.now) behind.entry.list
+        (forest (named_at W.nest W.inner pass.is_state others.entry))
+        (named_at W.nest W.inner pass.is_state behind.entry) frame.now)) page.old) }
+{
+    let number = frame.kind();
+    if is_passed(pass.is_state, behind.list, number) {
+        return Ok(());
+    }
+    let (name, way) = row_in(behind.around, behind.list, number);
+    let own = Attribute {
+        around: behind.around,
+        list: behind.list,
+        number,
+        way,
+        payload: frame.value(),
+    };
+    tell_row::<W>(texts, pass, page, path, behind, others, name, own)
+}
+
+/// Tells of the attributes of a list that have a name, each beside that of its name in another list.
+pub fn tell_named<W: Walk>(
+    texts: &mut Texts,
+    pass: Pass,
+    page: &mut Page,
+    path: &str,
+    own: Attributes<'_>,
+    others: Attributes<'_>,
+) -> Result<(), AllocError>
+    requires { pass.is_alike ≡ true → AreAlike own others }
+    ensures { OnOk result (page.new ≡ with_members (objects (items_told pass.side path.now
+        (forest (named_at W.nest W.inner pass.is_state own.entry))
+        (forest (named_at W.nest W.inner pass.is_state others.entry)))) page.old) }
+{
+    let mut rest = own.bytes;
+    for item in NlasIterator::new(own.bytes) {
+        let Ok(frame) = item else {
+            break;
+        };
+        rest = behind(rest, &frame);
+        let left = Attributes { bytes: rest, ..own };
+        tell_frame::<W>(texts, pass, page, path, left, others, &frame)?;
+    }
+    Ok(())
+}
