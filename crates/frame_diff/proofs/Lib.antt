@@ -9,3 +9,4 @@ pub mod Beside
 pub mod Shown
 pub mod Texts
 pub mod Walked
+pub mod Entries

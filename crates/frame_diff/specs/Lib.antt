@@ -7,4 +7,5 @@ pub mod Beside
 pub mod Items
 pub mod Shown
 pub mod Walked
+pub mod Values
 pub mod Laws

@@ -1,29 +1,36 @@
 //! What values that hold no others tell.
 
-ghost use Rattle.std.specs.Prelude.{◌≡◌, ◌++◌, [], ◌∷◌, IfOk, OnOk, codes, option_map};
-ghost use Rattle.json.specs.Token.{string};
+ghost use Rattle.std.specs.Prelude.{◌≡◌, ◌++◌, [], ◌∷◌, IfOk, OnOk, bit_and, option_map};
 ghost use Rattle.shown.specs.Drafts.{object_of, with_members, with_value};
-ghost use Rattle.frame_shown.specs.Frames.{way_shown};
+ghost use Rattle.shown.specs.Values.{flags_of};
 ghost use Rattle.frame_shown.specs.Items.{objects};
+ghost use Rattle.frame_shown.specs.Kept.{frame_flags};
 ghost use Rattle.frame_diff.specs.Differences.{is_shown_same, text_of};
 ghost use Rattle.frame_diff.specs.Forests.{is_text};
-ghost use Rattle.frame_diff.specs.Items.{alone_item, leaf_items, turned_item};
+ghost use Rattle.frame_diff.specs.Items.{alone_item, joined, leaf_items, turned_item};
+ghost use Rattle.frame_diff.specs.Values.{value_shown};
 ghost use Rattle.frame_diff.specs.declared.side.Side.TheVariants as Sides;
 
+use crate::path::join;
 use crate::side::Side;
 use frame_shown::depth::Depth;
 use frame_shown::form::{Around, Way};
 use frame_shown::list::show_way;
+use nla_wire::{NLA_F_NESTED, NLA_F_NET_BYTEORDER, NLA_TYPE_MASK};
 use shown::{Nest, Page, Room};
 use std::alloc::{AllocError, Global};
 
-/// A value: how it is shown, and its payload.
+/// A value that holds no others.
 #[derive(Clone, Copy, Drop)]
-pub struct Value<'a> {
-    /// How it is shown.
-    pub way: Way,
-    /// Its payload.
-    pub payload: &'a [u8],
+pub enum Value<'a> {
+    /// A payload, and how it is shown.
+    Payload(Way, &'a [u8]),
+    /// The number of an attribute that is kept as it is, by its kind.
+    Number(u16),
+    /// The name that this number has all the same.
+    Name(&'a str),
+    /// The flags of such an attribute, by its kind.
+    Flags(u16),
 }
 
 /// Room for the texts that are compared.
@@ -35,19 +42,51 @@ pub struct Texts {
     pub room: Room,
 }
 
+/// The names of the two flags of a frame.
+const FRAME_FLAGS: [(u64, &str); 2] = [
+    (NLA_F_NESTED as u64, "nested"),
+    (NLA_F_NET_BYTEORDER as u64, "net-byteorder"),
+];
+
+/// Adds the flags of a frame.
+fn show_flags(page: &mut Page, name: &str, kind: u16) -> Result<(), AllocError>
+    ensures { OnOk result (page.new
+        ≡ with_value name.now (flags_of frame_flags (bit_and kind 0xc000)) page.old) }
+{
+    let flags = kind & (NLA_F_NESTED | NLA_F_NET_BYTEORDER);
+    page.flags(name, flags.into(), &FRAME_FLAGS)
+}
+
+/// Adds a value.
+fn show_value<D: Depth>(
+    cx: &Around<'_>,
+    page: &mut Page,
+    name: &str,
+    value: Value<'_>,
+) -> Result<(), AllocError>
+    ensures { OnOk result
+        (page.new ≡ with_value name.now (value_shown (D.nest cx.now) cx.now value.entry) page.old) }
+{
+    match value {
+        Value::Payload(way, payload) => show_way::<D>(cx, page, name, way, payload),
+        Value::Number(kind) => page.number(name, (kind & NLA_TYPE_MASK).into()),
+        Value::Name(text) => page.string(name, text),
+        Value::Flags(kind) => show_flags(page, name, kind),
+    }
+}
+
 /// Adds the text of an object that holds this value alone.
 fn push_text<D: Depth>(
     cx: &Around<'_>,
     room: &mut Room,
-    way: Way,
-    payload: &[u8],
+    value: Value<'_>,
     out: &mut Vec<u8>,
 ) -> Result<(), AllocError>
     ensures { OnOk result (out.new.items
-        ≡ out.old.items ++ text_of (way_shown (D.nest cx.now) cx.now way payload.now)) }
+        ≡ out.old.items ++ text_of (value_shown (D.nest cx.now) cx.now value.entry)) }
 {
     let mut page = room.begin()?;
-    show_way::<D>(cx, &mut page, "", way, payload)?;
+    show_value::<D>(cx, &mut page, "", value)?;
     room.finish(page, out)
 }
 
@@ -55,14 +94,13 @@ fn push_text<D: Depth>(
 fn text_of<D: Depth>(
     texts: &mut Texts,
     cx: &Around<'_>,
-    way: Way,
-    payload: &[u8],
+    value: Value<'_>,
 ) -> Result<Vec<u8>, AllocError>
     ensures { IfOk result (λ text. text.items
-        ≡ text_of (way_shown (D.nest cx.now) cx.now way payload.now)) }
+        ≡ text_of (value_shown (D.nest cx.now) cx.now value.entry)) }
 {
     let mut text = Vec::new(texts.alloc);
-    push_text::<D>(cx, &mut texts.room, way, payload, &mut text)?;
+    push_text::<D>(cx, &mut texts.room, value, &mut text)?;
     Ok(text)
 }
 
@@ -82,11 +120,11 @@ fn is_shown_same<D: Depth>(
     is: Value<'_>,
 ) -> Result<bool, AllocError>
     ensures { IfOk result (λ same. same
-        ≡ is_shown_same (way_shown (D.nest cx.now) cx.now was.entry.way was.entry.payload.now)
-        (way_shown (D.nest theirs.now) theirs.now is.entry.way is.entry.payload.now)) }
+        ≡ is_shown_same (value_shown (D.nest cx.now) cx.now was.entry)
+        (value_shown (D.nest theirs.now) theirs.now is.entry)) }
 {
-    let one = text_of::<D>(texts, cx, was.way, was.payload)?;
-    let other = text_of::<D>(texts, theirs, is.way, is.payload)?;
+    let one = text_of::<D>(texts, cx, was)?;
+    let other = text_of::<D>(texts, theirs, is)?;
     Ok(is_same(one.as_slice(), other.as_slice()))
 }
 
@@ -96,15 +134,14 @@ fn put_alone<D: Depth>(
     page: &mut Page,
     path: &str,
     side: Side,
-    way: Way,
-    payload: &[u8],
+    value: Value<'_>,
 ) -> Result<(), AllocError>
     ensures { OnOk result (page.new ≡ with_value [] (object_of
-        (alone_item path.now side (way_shown (D.nest cx.now) cx.now way payload.now))) page.old) }
+        (alone_item path.now side (value_shown (D.nest cx.now) cx.now value.entry))) page.old) }
 {
     page.begin("", Nest::Object)?;
     page.string("path", path)?;
-    show_way::<D>(cx, page, side.name(), way, payload)?;
+    show_value::<D>(cx, page, side.name(), value)?;
     page.end()
 }
 
@@ -118,13 +155,13 @@ fn put_turned<D: Depth>(
     is: Value<'_>,
 ) -> Result<(), AllocError>
     ensures { OnOk result (page.new ≡ with_value [] (object_of (turned_item path.now
-        (way_shown (D.nest cx.now) cx.now was.entry.way was.entry.payload.now)
-        (way_shown (D.nest theirs.now) theirs.now is.entry.way is.entry.payload.now))) page.old) }
+        (value_shown (D.nest cx.now) cx.now was.entry)
+        (value_shown (D.nest theirs.now) theirs.now is.entry))) page.old) }
 {
     page.begin("", Nest::Object)?;
     page.string("path", path)?;
-    show_way::<D>(cx, page, "old", was.way, was.payload)?;
-    show_way::<D>(theirs, page, "new", is.way, is.payload)?;
+    show_value::<D>(cx, page, "old", was)?;
+    show_value::<D>(theirs, page, "new", is)?;
     page.end()
 }
 
@@ -139,8 +176,8 @@ fn tell_turned<D: Depth>(
     is: Value<'_>,
 ) -> Result<(), AllocError>
     ensures { OnOk result (page.new ≡ with_members (objects (leaf_items Sides.Old path.now
-        (way_shown (D.nest cx.now) cx.now was.entry.way was.entry.payload.now)
-        (Some (way_shown (D.nest theirs.now) theirs.now is.entry.way is.entry.payload.now)))) page.old) }
+        (value_shown (D.nest cx.now) cx.now was.entry)
+        (Some (value_shown (D.nest theirs.now) theirs.now is.entry)))) page.old) }
 {
     if is_shown_same::<D>(texts, cx, theirs, was, is)? {
         return Ok(());
@@ -160,8 +197,8 @@ fn tell_both<D: Depth>(
     other: Value<'_>,
 ) -> Result<(), AllocError>
     ensures { OnOk result (page.new ≡ with_members (objects (leaf_items side path.now
-        (way_shown (D.nest cx.now) cx.now own.entry.way own.entry.payload.now)
-        (Some (way_shown (D.nest theirs.now) theirs.now other.entry.way other.entry.payload.now))))
+        (value_shown (D.nest cx.now) cx.now own.entry)
+        (Some (value_shown (D.nest theirs.now) theirs.now other.entry))))
         page.old) }
 {
     match side {
@@ -182,12 +219,33 @@ pub fn tell_leaf<D: Depth>(
     beside: Option<Value<'_>>,
 ) -> Result<(), AllocError>
     ensures { OnOk result (page.new ≡ with_members (objects (leaf_items side path.now
-        (way_shown (D.nest cx.now) cx.now own.entry.way own.entry.payload.now)
-        (option_map (λ v. way_shown (D.nest theirs.now) theirs.now v.way v.payload.now) beside.entry)))
+        (value_shown (D.nest cx.now) cx.now own.entry)
+        (option_map (value_shown (D.nest theirs.now) theirs.now) beside.entry)))
         page.old) }
 {
     match beside {
-        None => put_alone::<D>(cx, page, path, side, own.way, own.payload),
+        None => put_alone::<D>(cx, page, path, side, own),
         Some(other) => tell_both::<D>(texts, cx, theirs, page, path, side, own, other),
     }
+}
+
+/// The same one step further.
+pub fn tell_step<D: Depth>(
+    texts: &mut Texts,
+    cx: &Around<'_>,
+    theirs: &Around<'_>,
+    page: &mut Page,
+    path: &str,
+    step: &str,
+    side: Side,
+    own: Value<'_>,
+    beside: Option<Value<'_>>,
+) -> Result<(), AllocError>
+    ensures { OnOk result (page.new
+        ≡ with_members (objects (leaf_items side (joined path.now step.now)
+        (value_shown (D.nest cx.now) cx.now own.entry)
+        (option_map (value_shown (D.nest theirs.now) theirs.now) beside.entry))) page.old) }
+{
+    let text = join(texts.alloc, path, step)?;
+    tell_leaf::<D>(texts, cx, theirs, page, text.as_str(), side, own, beside)
 }

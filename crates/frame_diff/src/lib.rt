@@ -2,6 +2,7 @@
 #![tactic(auto)]
 
 pub mod counters;
+pub mod kept;
 pub mod laws;
 pub mod leaf;
 pub mod list;

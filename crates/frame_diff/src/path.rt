@@ -1,8 +1,9 @@
 //! The texts of paths.
 
-ghost use Rattle.std.specs.Prelude.{◌≡◌, IfOk, string_bytes};
+ghost use Rattle.std.specs.Prelude.{◌≡◌, IfOk, decimal, string_bytes};
 ghost use Rattle.frame_diff.specs.Items.{joined};
 
+use itoa::Buffer;
 use std::alloc::{AllocError, Global};
 
 /// The text of a path that goes one step on: the step stands behind a point, where it is not the first one.
@@ -16,4 +17,12 @@ pub fn join(alloc: Global, text: &str, step: &str) -> Result<String, AllocError>
     }
     path.push_str(step)?;
     Ok(path)
+}
+
+/// The text of a path that goes on at a place of a list.
+pub fn join_place(alloc: Global, text: &str, place: usize) -> Result<String, AllocError>
+    ensures { IfOk result (λ path. string_bytes path ≡ joined text.now (decimal place)) }
+{
+    let mut digits = Buffer::new();
+    join(alloc, text, digits.format(place))
 }

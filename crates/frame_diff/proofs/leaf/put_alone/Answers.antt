@@ -5,20 +5,20 @@ use Rattle.json.specs.Token.{string}
 use Rattle.shown.specs.Drafts.{Draft, with_begun, with_members, with_value}
 use Rattle.shown.specs.declared.page.Nest.TheVariants.{Object}
 use Rattle.shown.proofs.Drafts.{object_ended}
-use Rattle.frame_shown.specs.Frames.{way_shown}
 use Rattle.frame_diff.specs.Items.{alone_item}
 use Rattle.frame_diff.specs.Sides.{side_name}
+use Rattle.frame_diff.specs.Values.{value_shown}
 use Rattle.frame_diff.proofs.leaf.put_alone.Goals as goal
 
 pub returns : goal.returns
 returns g c =
-    let v = way_shown (g.D.Depth.nest c.args.cx.now) c.args.cx.now c.args.way c.args.payload.now in
+    let v = value_shown (g.D.Depth.nest c.args.cx.now) c.args.cx.now c.args.value in
     let begun : Draft = with_begun [] Object c.args.page.now in
     let pathed : c.string.new.self ≡ with_value (codes "path") (string c.args.path.now ∷ []) begun =
     c.in_ok-string.ensures
     ∙ ap (λ (d : Draft). with_value (codes "path") (string c.args.path.now ∷ []) d) c.in_ok-begin.ensures in
-    let filled : c.show_way.new.page ≡ with_members (alone_item c.args.path.now c.args.side v) begun =
-    c.in_ok-show_way.ensures
+    let filled : c.show_value.new.page ≡ with_members (alone_item c.args.path.now c.args.side v) begun =
+    c.in_ok-show_value.ensures
     ∙ ap (λ name. with_value name v c.string.new.self) c.name.ensures
     ∙ ap (λ (d : Draft). with_value (side_name c.args.side) v d) pathed in
     on_ok_weaker c.end.result (λ ends. object_ended [] (alone_item c.args.path.now c.args.side v) c.args.page.now _ _

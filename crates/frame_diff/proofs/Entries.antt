@@ -1,0 +1,340 @@
+-- Attributes that are kept as they are: what they tell at their places.
+use Rattle.std.proofs.Common.{◌≡◌, ℕ, zero, suc, ◌+◌, ◌*◌, ◌<◌, ◌≤◌, Bool, true, false, List, [], ◌∷◌, ◌++◌, refl}
+use Rattle.std.proofs.Common.{sym, ap, ◌∙◌, Ok, append-nil, arith, eqb-true, eq-eqb, map, length}
+use Rattle.std.specs.Prelude.{Option, Some, None, ◌==◌, bit_and, codes, cond, decimal, option_map}
+use Rattle.std.proofs.lemmas.List.{map-append}
+use Rattle.std.proofs.lemmas.List.Sums.{fold-append}
+use Rattle.json.specs.Token.{Token, number as number_token}
+use Rattle.nla_wire.specs.Frames.{Frame, number}
+use Rattle.nla_wire.specs.Items.{Item, frame_count, items}
+use Rattle.link_info.specs.Tables.{frames_in}
+use Rattle.shown.specs.Drafts.{Draft, Members, object_of, with_members, with_value}
+use Rattle.shown.specs.Values.{flags_of}
+use Rattle.frame_shown.specs.Items.{objects}
+use Rattle.frame_shown.specs.Kept.{frame_flags, frame_members}
+use Rattle.frame_shown.specs.Tables.{is_kept, kind_shown, row_in}
+use Rattle.frame_shown.specs.Values.{hexadecimal}
+use Rattle.frame_shown.specs.declared.form.Around.{Around}
+use Rattle.frame_shown.specs.declared.form.List.{List as Shape}
+use Rattle.frame_shown.proofs.Items.{on_next}
+use Rattle.frame_diff.specs.Counters.{is_passed}
+use Rattle.frame_diff.specs.Differences.{inside_in, leaf_in}
+use Rattle.frame_diff.specs.Forests.{Forest, Held, Step, comes, find, forest}
+use Rattle.frame_diff.specs.Items.{items_told, joined, leaf_items, member_items}
+use Rattle.frame_diff.specs.Members.{as_object, fields, is_nest, kept_by, placed, places}
+use Rattle.frame_diff.specs.Values.{entry_held, entry_items, flags_shown, is_at, kept_among, kept_forest, kept_members}
+use Rattle.frame_diff.specs.Values.{kept_of, less_by, maybe_items, more_by, name_items, name_shown, nth, number_shown}
+use Rattle.frame_diff.specs.Values.{payload_shown, text_or_none}
+use Rattle.frame_diff.specs.Walked.{held_items, last_items}
+use Rattle.frame_diff.specs.declared.kept.Entry.{Entry}
+use Rattle.frame_diff.specs.declared.kept.Entry.TheVariants as Entries
+use Rattle.frame_diff.specs.declared.kept.Kept.{Kept}
+use Rattle.frame_diff.specs.declared.side.Side.{Side}
+use Rattle.frame_diff.proofs.Apart.{find_none}
+use Rattle.frame_diff.proofs.Walked.{last_further}
+
+-- ** one that is kept, beside another one
+
+-- beside what is the same
+pub step_told : (side : Side) (path : List ℕ) (v : List Token) (o p : Option (List Token)) (page new : Draft) → o ≡ p
+    → new ≡ with_members (objects (leaf_items side path v o)) page
+    → new ≡ with_members (objects (leaf_items side path v p)) page
+step_told side path v o p page new same is =
+    is ∙ ap (λ w. with_members (objects (leaf_items side path v w)) page) same
+
+pub name_told : (side : Side) (path : List ℕ) (m n o p : Option (List Token)) (page new : Draft) → m ≡ n → o ≡ p
+    → new ≡ with_members (objects (maybe_items side path m o)) page
+    → new ≡ with_members (objects (maybe_items side path n p)) page
+name_told side path m n o p page new same both is =
+    is ∙ (λ k. with_members (objects (maybe_items side path (same k) (both k))) page)
+
+-- what was told, and then more
+pub both_told : (first more : List Members) (page middle new : Draft) → middle ≡ with_members (objects first) page
+    → new ≡ with_members (objects more) middle → new ≡ with_members (objects (first ++ more)) page
+both_told first more page middle new was is =
+    is ∙ ap (with_members (objects more)) was
+    ∙ sym (fold-append (λ (p : Draft) m. with_value m.0 m.1 p) page (objects first) (objects more))
+    ∙ ap (λ ms. with_members ms page) (sym (map-append (λ o. ([], object_of o)) first more))
+
+module _ (name : List ℕ) (kind : ℕ) (p : List ℕ) where
+  abbrev there : List ℕ → Option (List Token)
+  there s = leaf_in (find (Step.name s) (fields (frame_members name kind p)))
+
+  number_there : there (codes "number") ≡ Some (number_token (decimal (bit_and kind 0x3fff)) ∷ [])
+  number_there = by name
+    where
+      by : (s : List ℕ) → leaf_in (find (Step.name (codes "number")) (fields (frame_members s kind p)))
+          ≡ Some (number_token (decimal (bit_and kind 0x3fff)) ∷ [])
+      by [] = refl
+      by (x ∷ s) = refl
+
+  name_there : there (codes "name") ≡ text_or_none name
+  name_there = by name
+    where
+      by : (s : List ℕ) → leaf_in (find (Step.name (codes "name")) (fields (frame_members s kind p))) ≡ text_or_none s
+      by [] = refl
+      by (x ∷ s) = refl
+
+  flags_there : there (codes "flags") ≡ Some (flags_of frame_flags (bit_and kind 0xc000))
+  flags_there = by name
+    where
+      by : (s : List ℕ) → leaf_in (find (Step.name (codes "flags")) (fields (frame_members s kind p)))
+          ≡ Some (flags_of frame_flags (bit_and kind 0xc000))
+      by [] = refl
+      by (x ∷ s) = refl
+
+  payload_there : there (codes "payload") ≡ Some (hexadecimal p)
+  payload_there = by name
+    where
+      by : (s : List ℕ) → leaf_in (find (Step.name (codes "payload")) (fields (frame_members s kind p)))
+          ≡ Some (hexadecimal p)
+      by [] = refl
+      by (x ∷ s) = refl
+
+number_beside : (k : Option Kept) → leaf_in (find (Step.name (codes "number")) (kept_forest k)) ≡ number_shown k
+number_beside None = refl
+number_beside (Some k) = number_there k.name.now k.kind k.payload.now
+
+name_beside : (k : Option Kept) → leaf_in (find (Step.name (codes "name")) (kept_forest k)) ≡ name_shown k
+name_beside None = refl
+name_beside (Some k) = name_there k.name.now k.kind k.payload.now
+
+flags_beside : (k : Option Kept) → leaf_in (find (Step.name (codes "flags")) (kept_forest k)) ≡ flags_shown k
+flags_beside None = refl
+flags_beside (Some k) = flags_there k.name.now k.kind k.payload.now
+
+payload_beside : (k : Option Kept) → leaf_in (find (Step.name (codes "payload")) (kept_forest k)) ≡ payload_shown k
+payload_beside None = refl
+payload_beside (Some k) = payload_there k.name.now k.kind k.payload.now
+
+module _ (side : Side) (text : List ℕ) where
+  -- the four values, beside those that stand in a forest
+  abbrev number_items : ℕ → Option (List Token) → List Members
+  number_items kind beside =
+      leaf_items side (joined text (codes "number")) (number_token (decimal (bit_and kind 0x3fff)) ∷ []) beside
+
+  abbrev flag_items : ℕ → Option (List Token) → List Members
+  flag_items kind beside =
+      leaf_items side (joined text (codes "flags")) (flags_of frame_flags (bit_and kind 0xc000)) beside
+
+  abbrev payload_items : List ℕ → Option (List Token) → List Members
+  payload_items p beside = leaf_items side (joined text (codes "payload")) (hexadecimal p) beside
+
+  parts_told : (name : List ℕ) (kind : ℕ) (p : List ℕ) (g : Forest)
+      → items_told side text (fields (frame_members name kind p)) g
+      ≡ number_items kind (leaf_in (find (Step.name (codes "number")) g))
+      ++ (name_items side text (text_or_none name) (leaf_in (find (Step.name (codes "name")) g))
+      ++ (flag_items kind (leaf_in (find (Step.name (codes "flags")) g))
+      ++ payload_items p (leaf_in (find (Step.name (codes "payload")) g))))
+  parts_told [] kind p g =
+      ap (λ l. number_items kind (leaf_in (find (Step.name (codes "number")) g))
+      ++ (flag_items kind (leaf_in (find (Step.name (codes "flags")) g)) ++ l))
+      (append-nil (payload_items p (leaf_in (find (Step.name (codes "payload")) g))))
+  parts_told (x ∷ name) kind p g =
+      ap (λ l. number_items kind (leaf_in (find (Step.name (codes "number")) g))
+      ++ (name_items side text (text_or_none (x ∷ name)) (leaf_in (find (Step.name (codes "name")) g))
+      ++ (flag_items kind (leaf_in (find (Step.name (codes "flags")) g)) ++ l)))
+      (append-nil (payload_items p (leaf_in (find (Step.name (codes "payload")) g))))
+
+  pub kept_told : (own : Kept) (beside : Option Kept) (page one two three new : Draft)
+      → one ≡ with_members (objects (leaf_items side (joined text (codes "number"))
+      (number_token (decimal (bit_and own.kind 0x3fff)) ∷ []) (number_shown beside))) page
+      → two ≡ with_members (objects (name_items side text (text_or_none own.name.now) (name_shown beside))) one
+      → three ≡ with_members (objects (leaf_items side (joined text (codes "flags"))
+      (flags_of frame_flags (bit_and own.kind 0xc000)) (flags_shown beside))) two
+      → new ≡ with_members (objects (leaf_items side (joined text (codes "payload"))
+      (hexadecimal own.payload.now) (payload_shown beside))) three
+      → new ≡ with_members (objects (items_told side text (fields (kept_members own)) (kept_forest beside))) page
+  kept_told own beside page one two three new first second third last =
+      let n = number_items own.kind (number_shown beside) in
+      let m = name_items side text (text_or_none own.name.now) (name_shown beside) in
+      let f = flag_items own.kind (flags_shown beside) in
+      let p = payload_items own.payload.now (payload_shown beside) in
+      let after_flags = both_told f p two three new third last in
+      let after_name = both_told m (f ++ p) one two new second after_flags in
+      both_told n (m ++ (f ++ p)) page one new first after_name
+      ∙ ap (λ os. with_members (objects os) page)
+      (sym (parts_told own.name.now own.kind own.payload.now (kept_forest beside)
+      ∙ (λ k. number_items own.kind (number_beside beside k)
+      ++ (name_items side text (text_or_none own.name.now) (name_beside beside k)
+      ++ (flag_items own.kind (flags_beside beside k) ++ payload_items own.payload.now (payload_beside beside k))))))
+
+-- ** the one at a place
+
+nth_here : (e : Entry) (n : ℕ) (hs : List (Option Held)) → is_at e n ≡ true
+    → nth n (entry_held e ++ hs) ≡ option_map (λ k. as_object (kept_members k)) (kept_of e)
+nth_here Entries.Named n hs h = absurd cc
+nth_here Entries.Passed zero hs h = refl
+nth_here Entries.Passed (suc n) hs h = absurd cc
+nth_here (Entries.Kept k) zero hs h = refl
+nth_here (Entries.Kept k) (suc n) hs h = absurd cc
+
+nth_later : (e : Entry) (n : ℕ) (hs : List (Option Held)) → is_at e n ≡ false
+    → nth n (entry_held e ++ hs) ≡ nth (less_by e n) hs
+nth_later Entries.Named n hs h = refl
+nth_later Entries.Passed zero hs h = absurd cc
+nth_later Entries.Passed (suc n) hs h = refl
+nth_later (Entries.Kept k) zero hs h = absurd cc
+nth_later (Entries.Kept k) (suc n) hs h = refl
+
+module _ (is_state : Bool) (cx : Around) (list : Shape) (f : Frame) (e : Entry) (it next : List Item)
+    (here : it ≡ Ok f ∷ next)
+    (looked : entry_held e ≡ kept_by (is_passed is_state list (number f)) cx (row_in cx list (number f)) f) where
+  kept_split : kept_among is_state cx list (frames_in it)
+      ≡ entry_held e ++ kept_among is_state cx list (frames_in next)
+  kept_split =
+      ap (λ xs. kept_among is_state cx list (frames_in xs)) here
+      ∙ ap (λ hs. hs ++ kept_among is_state cx list (frames_in next)) (sym looked)
+
+  pub found_here : (n : ℕ) (all r : Option Held) → is_at e n ≡ true
+      → nth n (kept_among is_state cx list (frames_in it)) ≡ all
+      → r ≡ option_map (λ k. as_object (kept_members k)) (kept_of e) → all ≡ r
+  found_here n all r at was is =
+      sym was ∙ ap (nth n) kept_split ∙ nth_here e n (kept_among is_state cx list (frames_in next)) at ∙ sym is
+
+  pub found_later : (n m : ℕ) (all : Option Held) → is_at e n ≡ false → m ≡ less_by e n
+      → nth n (kept_among is_state cx list (frames_in it)) ≡ all
+      → nth m (kept_among is_state cx list (frames_in next)) ≡ all
+  found_later n m all at less was =
+      ap (λ k. nth k (kept_among is_state cx list (frames_in next))) less
+      ∙ sym (nth_later e n (kept_among is_state cx list (frames_in next)) at)
+      ∙ ap (nth n) (sym kept_split) ∙ was
+
+-- ** places
+
+not_same : (k n : ℕ) → n < k → (k == n) ≡ false
+not_same k n less = by (k == n) refl
+  where
+    by : (b : Bool) → (k == n) ≡ b → b ≡ false
+    by true h = absurd (omega (arith, eqb-true k n h))
+    by false h = refl
+
+below : (k n : ℕ) → k < n → (k == n) ≡ false
+below k n less = by (k == n) refl
+  where
+    by : (b : Bool) → (k == n) ≡ b → b ≡ false
+    by true h = absurd (omega (arith, eqb-true k n h))
+    by false h = refl
+
+pub later : (n k : ℕ) → n < k → (hs : List (Option Held)) → comes (Step.place n) (placed k hs) ≡ false
+later n k less [] = refl
+later n k less (None ∷ hs) = later n (k + 1) (omega arith) hs
+later n k less (Some held ∷ hs) = by (is_nest held.0) (later n (k + 1) (omega arith) hs)
+  where
+    by : (b : Bool) → comes (Step.place n) (placed (k + 1) hs) ≡ false
+        → comes (Step.place n) (cond b ((Step.place k, held) ∷ []) [] ++ placed (k + 1) hs) ≡ false
+    by true h = ap (λ x. cond x true (comes (Step.place n) (placed (k + 1) hs))) (not_same k n less) ∙ h
+    by false h = h
+
+-- each is an object or a list
+abbrev pub AreNests : List (Option Held) → Type 0
+AreNests [] = Unit {0}
+AreNests (None ∷ hs) = AreNests hs
+AreNests (Some held ∷ hs) = (is_nest held.0 ≡ true) × AreNests hs
+
+pub found_place : (hs : List (Option Held)) → AreNests hs → (n m k : ℕ) → k ≡ n + m
+    → find (Step.place k) (forest (placed m hs)) ≡ nth n hs
+found_place [] nests n m k is = refl
+found_place (None ∷ hs) nests zero m k is =
+    find_none (Step.place k) (placed (m + 1) hs) (later k (m + 1) (omega (arith, is)) hs)
+found_place (None ∷ hs) nests (suc n) m k is = found_place hs nests n (m + 1) k (omega (arith, is))
+found_place (Some held ∷ hs) nests n m k is =
+    ap (λ b. find (Step.place k) (forest (cond b ((Step.place m, held) ∷ []) [] ++ placed (m + 1) hs))) nests.0
+    ∙ ap (λ b. find (Step.place k) (cond b (forest (placed (m + 1) hs))
+    (Forest.tree (Step.place m) held.0 held.1 (forest (placed (m + 1) hs))))) (later m (m + 1) (omega arith) hs)
+    ∙ by n is (λ i h. found_place hs nests.1 i (m + 1) k h)
+  where
+    by : (i : ℕ) → k ≡ i + m
+        → ((j : ℕ) → k ≡ j + (m + 1) → find (Step.place k) (forest (placed (m + 1) hs)) ≡ nth j hs)
+        → cond (m == k) (Some held) (find (Step.place k) (forest (placed (m + 1) hs))) ≡ nth i (Some held ∷ hs)
+    by zero h rest =
+        let same : m ≡ k = omega (arith, h) in
+        ap (λ b. cond b (Some held) (find (Step.place k) (forest (placed (m + 1) hs)))) (eq-eqb m k same)
+    by (suc i) h rest =
+        let other : (m == k) ≡ false = below m k (omega (arith, h)) in
+        ap (λ b. cond b (Some held) (find (Step.place k) (forest (placed (m + 1) hs)))) other
+        ∙ rest i (omega (arith, h))
+
+kept_nests : (is_state : Bool) (cx : Around) (list : Shape) (fs : List Frame)
+    → AreNests (kept_among is_state cx list fs)
+kept_nests is_state cx list [] = tt
+kept_nests is_state cx list (f ∷ fs) =
+    by (is_kept (row_in cx list (number f)).1 f.payload) (is_passed is_state list (number f))
+    (kept_nests is_state cx list fs)
+  where
+    own : Held
+    own = as_object (frame_members (row_in cx list (number f)).0 (kind_shown (row_in cx list (number f)).1 f.kind)
+        f.payload)
+
+    by : (kept passed : Bool) → AreNests (kept_among is_state cx list fs)
+        → AreNests (cond kept (cond passed None (Some own) ∷ []) [] ++ kept_among is_state cx list fs)
+    by false passed rest = rest
+    by true true rest = rest
+    by true false rest = (refl, rest)
+
+-- ** what one tells at its place, and those behind it
+
+object_told : (side : Side) (text : List ℕ) (v : List Token) (name : List ℕ) (kind : ℕ) (p : List ℕ)
+    (beside : Option Held)
+    → held_items side text (v, fields (frame_members name kind p)) beside
+    ≡ items_told side text (fields (frame_members name kind p)) (inside_in beside)
+object_told side text v [] kind p beside = refl
+object_told side text v (x ∷ name) kind p beside = refl
+
+entry_told : (side : Side) (text : List ℕ) (e : Entry) (n : ℕ) (hs gs : List (Option Held)) → AreNests gs
+    → items_told side text (forest (placed n (entry_held e ++ hs))) (places gs)
+    ≡ entry_items side text n gs e ++ items_told side text (forest (placed (more_by e n) hs)) (places gs)
+entry_told side text Entries.Named n hs gs nests = refl
+entry_told side text Entries.Passed n hs gs nests = refl
+entry_told side text (Entries.Kept k) n hs gs nests =
+    let own : Held = as_object (kept_members k) in
+    let rest = items_told side text (forest (placed (n + 1) hs)) (places gs) in
+    last_further side text (places gs) (Step.place n, own) (placed (n + 1) hs)
+    ∙ ap (λ l. l ++ rest)
+    (ap (λ b. cond b [] (held_items side (joined text (decimal n)) own (find (Step.place n) (places gs))))
+    (later n (n + 1) (omega arith) hs)
+    ∙ object_told side (joined text (decimal n)) own.0 k.name.now k.kind k.payload.now
+    (find (Step.place n) (places gs))
+    ∙ ap (λ h. items_told side (joined text (decimal n)) (fields (kept_members k)) (inside_in h))
+    (found_place gs nests n 0 n (omega arith)))
+
+pub entry_next : (is_state : Bool) (cx : Around) (list : Shape) (f : Frame) (e : Entry) (it next : List Item)
+    → it ≡ Ok f ∷ next
+    → entry_held e ≡ kept_by (is_passed is_state list (number f)) cx (row_in cx list (number f)) f
+    → (theirs : Around) (shape : Shape) (gs : List Frame) (side : Side) (text : List ℕ) (n m : ℕ)
+    (page new all : Draft) → m ≡ more_by e n
+    → new ≡ with_members (objects (entry_items side text n (kept_among is_state theirs shape gs) e)) page
+    → with_members (objects (items_told side text
+    (forest (placed n (kept_among is_state cx list (frames_in it)))) (places (kept_among is_state theirs shape gs))))
+    page ≡ all
+    → with_members (objects (items_told side text
+    (forest (placed m (kept_among is_state cx list (frames_in next)))) (places (kept_among is_state theirs shape gs))))
+    new ≡ all
+entry_next is_state cx list f e it next here looked theirs shape gs side text n m page new all more then was =
+    let hs = kept_among is_state cx list (frames_in next) in
+    let others = kept_among is_state theirs shape gs in
+    let told = entry_items side text n others e in
+    let rest = items_told side text (forest (placed m hs)) (places others) in
+    on_next (objects (items_told side text (forest (placed n (kept_among is_state cx list (frames_in it))))
+    (places others))) (objects told) (objects rest) page new all
+    (ap (λ xs. objects (items_told side text (forest (placed n xs)) (places others)))
+    (kept_split is_state cx list f e it next here looked)
+    ∙ ap objects (entry_told side text e n hs others (kept_nests is_state theirs shape gs)
+    ∙ ap (λ k. told ++ items_told side text (forest (placed k hs)) (places others)) (sym more))
+    ∙ map-append (λ o. ([], object_of o)) told rest)
+    was then
+
+-- how many there are
+pub place_fits : (f : Frame) (e : Entry) (it next : List Item) → it ≡ Ok f ∷ next → (n m all : ℕ) → m ≡ more_by e n
+    → n + frame_count it ≤ all → m + frame_count next ≤ all
+place_fits f Entries.Named it next here n m all is few =
+    let first : frame_count it ≡ 1 + frame_count next = ap frame_count here in omega (arith, first, is, few)
+place_fits f Entries.Passed it next here n m all is few =
+    let first : frame_count it ≡ 1 + frame_count next = ap frame_count here in omega (arith, first, is, few)
+place_fits f (Entries.Kept k) it next here n m all is few =
+    let first : frame_count it ≡ 1 + frame_count next = ap frame_count here in omega (arith, first, is, few)
+
+pub place_small : (f : Frame) (it next : List Item) → it ≡ Ok f ∷ next → (n all len : ℕ)
+    → n + frame_count it ≤ all → 4 * all ≤ len → n + 1 ≤ len
+place_small f it next here n all len few small =
+    let first : frame_count it ≡ 1 + frame_count next = ap frame_count here in omega (arith, first, few, small)

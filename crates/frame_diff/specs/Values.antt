@@ -1,0 +1,129 @@
+-- What values that hold no others are shown as, and attributes that are kept as they are.
+use Rattle.std.specs.Prelude.{ℕ, zero, suc, ◌+◌, List, [], ◌∷◌, Bool, true, false, Option, None, Some, bit_and, codes}
+use Rattle.std.specs.Prelude.{decimal}
+use Rattle.std.specs.List.{flat_map}
+use Rattle.json.specs.Token.{Token, number as number_token, string}
+use Rattle.nla_wire.specs.Frames.{Frame, number}
+use Rattle.nla_wire.specs.Items.{items}
+use Rattle.link_info.specs.Tables.{frames_in}
+use Rattle.shown.specs.Drafts.{Members}
+use Rattle.shown.specs.Values.{flags_of}
+use Rattle.frame_shown.specs.Frames.{way_shown}
+use Rattle.frame_shown.specs.Kept.{frame_flags, frame_members}
+use Rattle.frame_shown.specs.Tables.{row_in}
+use Rattle.frame_shown.specs.Values.{Nesting, hexadecimal}
+use Rattle.frame_shown.specs.declared.form.Around.{Around}
+use Rattle.frame_shown.specs.declared.form.List.{List as Shape}
+use Rattle.frame_diff.specs.Counters.{is_passed}
+use Rattle.frame_diff.specs.Differences.{inside_in}
+use Rattle.frame_diff.specs.Forests.{Forest, Held}
+use Rattle.frame_diff.specs.Items.{items_told, joined, leaf_items}
+use Rattle.frame_diff.specs.Members.{as_object, fields, kept_by}
+use Rattle.frame_diff.specs.declared.kept.Entry.{Entry}
+use Rattle.frame_diff.specs.declared.kept.Entry.TheVariants as Entries
+use Rattle.frame_diff.specs.declared.kept.Kept.{Kept}
+use Rattle.frame_diff.specs.declared.leaf.Value.{Value}
+use Rattle.frame_diff.specs.declared.leaf.Value.TheVariants as Values
+use Rattle.frame_diff.specs.declared.side.Side.{Side}
+use Rattle.frame_diff.specs.declared.walk.Attributes.{Attributes}
+
+abbrev pub value_shown : Nesting → Around → Value → List Token
+value_shown nest cx (Values.Payload way payload) = way_shown nest cx way payload.now
+value_shown nest cx (Values.Number kind) = number_token (decimal (bit_and kind 0x3fff)) ∷ []
+value_shown nest cx (Values.Name name) = string name.now ∷ []
+value_shown nest cx (Values.Flags kind) = flags_of frame_flags (bit_and kind 0xc000)
+
+-- ** an attribute that is kept as it is
+
+abbrev pub kept_members : Kept → Members
+kept_members k = frame_members k.name.now k.kind k.payload.now
+
+abbrev pub kept_forest : Option Kept → Forest
+kept_forest None = Forest.none
+kept_forest (Some k) = fields (kept_members k)
+
+-- what it says, where there is one
+abbrev pub number_shown : Option Kept → Option (List Token)
+number_shown None = None
+number_shown (Some k) = Some (number_token (decimal (bit_and k.kind 0x3fff)) ∷ [])
+
+abbrev pub text_or_none : List ℕ → Option (List Token)
+text_or_none [] = None
+text_or_none (x ∷ text) = Some (string (x ∷ text) ∷ [])
+
+abbrev pub name_now : Option Kept → List ℕ
+name_now None = []
+name_now (Some k) = k.name.now
+
+abbrev pub name_shown : Option Kept → Option (List Token)
+name_shown k = text_or_none (name_now k)
+
+abbrev pub flags_shown : Option Kept → Option (List Token)
+flags_shown None = None
+flags_shown (Some k) = Some (flags_of frame_flags (bit_and k.kind 0xc000))
+
+abbrev pub payload_shown : Option Kept → Option (List Token)
+payload_shown None = None
+payload_shown (Some k) = Some (hexadecimal k.payload.now)
+
+-- what a value tells, where there is one
+abbrev pub maybe_items : Side → List ℕ → Option (List Token) → Option (List Token) → List Members
+maybe_items side text None beside = []
+maybe_items side text (Some v) beside = leaf_items side text v beside
+
+abbrev pub name_items : Side → List ℕ → Option (List Token) → Option (List Token) → List Members
+name_items side text own beside = maybe_items side (joined text (codes "name")) own beside
+
+-- ** the list of those that are kept
+
+-- what an attribute is in it
+abbrev pub entry_held : Entry → List (Option Held)
+entry_held Entries.Named = []
+entry_held Entries.Passed = None ∷ []
+entry_held (Entries.Kept k) = Some (as_object (kept_members k)) ∷ []
+
+abbrev pub kept_among : Bool → Around → Shape → List Frame → List (Option Held)
+kept_among is_state cx list fs =
+    flat_map (λ f. kept_by (is_passed is_state list (number f)) cx (row_in cx list (number f)) f) fs
+
+abbrev pub kept_at : Bool → Attributes → List (Option Held)
+kept_at is_state list = kept_among is_state list.around.now list.list (frames_in (items list.bytes.now))
+
+-- the one at a place
+abbrev pub nth : ℕ → List (Option Held) → Option Held
+nth n [] = None
+nth zero (h ∷ hs) = h
+nth (suc n) (h ∷ hs) = nth n hs
+
+-- what it tells at its place
+abbrev pub entry_items : Side → List ℕ → ℕ → List (Option Held) → Entry → List Members
+entry_items side text n others Entries.Named = []
+entry_items side text n others Entries.Passed = []
+entry_items side text n others (Entries.Kept k) =
+    items_told side (joined text (decimal n)) (fields (kept_members k)) (inside_in (nth n others))
+
+-- ** for the calls that go over them
+
+-- it is the one that so many stand before
+abbrev pub is_at : Entry → ℕ → Bool
+is_at Entries.Named n = false
+is_at Entries.Passed zero = true
+is_at Entries.Passed (suc n) = false
+is_at (Entries.Kept k) zero = true
+is_at (Entries.Kept k) (suc n) = false
+
+abbrev pub kept_of : Entry → Option Kept
+kept_of Entries.Named = None
+kept_of Entries.Passed = None
+kept_of (Entries.Kept k) = Some k
+
+-- how many stand before the next one
+abbrev pub less_by : Entry → ℕ → ℕ
+less_by Entries.Named n = n
+less_by _ zero = zero
+less_by _ (suc n) = n
+
+abbrev pub more_by : Entry → ℕ → ℕ
+more_by Entries.Named n = n
+more_by Entries.Passed n = n + 1
+more_by (Entries.Kept k) n = n + 1
