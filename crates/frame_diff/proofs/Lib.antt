@@ -10,3 +10,4 @@ pub mod Shown
 pub mod Texts
 pub mod Walked
 pub mod Entries
+pub mod Repeated

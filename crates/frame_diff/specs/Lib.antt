@@ -8,4 +8,5 @@ pub mod Items
 pub mod Shown
 pub mod Walked
 pub mod Values
+pub mod Repeated
 pub mod Laws

@@ -1,6 +1,7 @@
 //! What differs between two link messages, attribute by attribute: their frames, by the rows of `frame_shown`.
 #![tactic(auto)]
 
+pub mod again;
 pub mod counters;
 pub mod kept;
 pub mod laws;

@@ -31,7 +31,7 @@ fn skip(bytes: &[u8], count: usize) -> &[u8]
 
 /// The attributes behind the first one.
 #[tactic(auto, using(crate::proofs::Walked::behind_first))]
-fn behind<'a>(bytes: &'a [u8], first: &NlaBuffer<'_>) -> &'a [u8]
+pub(crate) fn behind<'a>(bytes: &'a [u8], first: &NlaBuffer<'_>) -> &'a [u8]
     ensures { (rest : Seq Item) → items bytes.now ≡ Ok first.now ∷ rest → items result.now ≡ rest }
 {
     skip(bytes, padded_len(first.value().len()))
@@ -54,7 +54,7 @@ fn is_any_named(is_state: bool, cx: &Around<'_>, list: List, name: &str, bytes: 
 }
 
 /// Whether a member with this name is among them.
-fn comes(is_state: bool, list: Attributes<'_>, name: &str) -> bool
+pub(crate) fn comes(is_state: bool, list: Attributes<'_>, name: &str) -> bool
     ensures { (nest : Showing) (inner : Holding) → result
         ≡ comes (Step.name name.now) (named_at nest inner is_state list.entry) }
 {

@@ -1,0 +1,146 @@
+-- Attributes behind which another one of their name stands: what they tell at their places.
+use Rattle.std.proofs.Common.{◌≡◌, ℕ, zero, suc, ◌+◌, ◌*◌, ◌<◌, ◌≤◌, Bool, true, false, List, [], ◌∷◌, ◌++◌, refl}
+use Rattle.std.proofs.Common.{sym, ap, ◌∙◌, Ok, append-nil, arith}
+use Rattle.std.specs.Prelude.{Option, Some, None, cond, decimal, option_map}
+use Rattle.std.proofs.lemmas.List.{map-append}
+use Rattle.nla_wire.specs.Frames.{Frame, number}
+use Rattle.nla_wire.specs.Items.{Item, frame_count, items}
+use Rattle.link_info.specs.Tables.{frames_in}
+use Rattle.shown.specs.Drafts.{Draft, object_of, with_members}
+use Rattle.frame_shown.specs.Items.{objects}
+use Rattle.frame_shown.specs.Tables.{is_kept, row_in}
+use Rattle.frame_shown.specs.declared.form.List.{List as Shape}
+use Rattle.frame_shown.proofs.Items.{on_next}
+use Rattle.frame_diff.specs.Beside.{held_of}
+use Rattle.frame_diff.specs.Counters.{is_passed}
+use Rattle.frame_diff.specs.Differences.{inside_in}
+use Rattle.frame_diff.specs.Forests.{Forest, Held, Member, Step, comes, find, forest}
+use Rattle.frame_diff.specs.Items.{items_told, joined}
+use Rattle.frame_diff.specs.Members.{Reading, alone, earlier, named_in, placed, places}
+use Rattle.frame_diff.specs.Repeated.{again_held, again_in, again_items, alone_at, is_next, left_by, place_by}
+use Rattle.frame_diff.specs.Values.{nth}
+use Rattle.frame_diff.specs.Walked.{Holding, Showing, held_at, held_items, reading_at}
+use Rattle.frame_diff.specs.declared.again.Named.{Named}
+use Rattle.frame_diff.specs.declared.side.Side.{Side}
+use Rattle.frame_diff.proofs.Entries.{AreNests, found_place, later}
+use Rattle.frame_diff.proofs.Walked.{last_further}
+
+-- ** one attribute further
+
+further : (r : Reading) (list : Shape) (f : Frame) (fs : List Frame)
+    → earlier (named_in r list (f ∷ fs)) ≡ again_in r list (named_in r list fs) f ++ earlier (named_in r list fs)
+further r list f fs =
+    by (is_passed r.is_state list (number f)) (is_kept (row_in r.around list (number f)).1 f.payload)
+  where
+    behind : List Member
+    behind = named_in r list fs
+
+    own : Member
+    own = (Step.name (row_in r.around list (number f)).0, held_of r list f)
+
+    by : (passed kept : Bool)
+        → earlier (cond passed [] (cond kept [] (own ∷ [])) ++ behind)
+        ≡ cond passed [] (cond kept [] (cond (comes own.0 behind) (alone own ∷ []) [])) ++ earlier behind
+    by true kept = refl
+    by false true = refl
+    by false false = refl
+
+earlier_nests : (ms : List Member) → AreNests (earlier ms)
+earlier_nests [] = tt
+earlier_nests (m ∷ ms) = by (comes m.0 ms) m.0 (earlier_nests ms)
+  where
+    by : (b : Bool) (s : Step) → AreNests (earlier ms) → AreNests (cond b (alone (s, m.1) ∷ []) [] ++ earlier ms)
+    by false s rest = rest
+    by true (Step.name name) rest = (refl, rest)
+    by true (Step.place n) rest = rest
+    by true Step.repeated rest = rest
+    by true Step.other rest = rest
+
+-- ** the one at a place
+
+module _ (nest : Showing) (inner : Holding) (is_state : Bool) where
+  nth_here : (e : Option Named) (n : ℕ) (hs : List (Option Held)) → is_next e n ≡ true
+      → nth n (again_held nest inner is_state e ++ hs) ≡ option_map (alone_at nest inner is_state) e
+  nth_here None n hs h = absurd cc
+  nth_here (Some own) zero hs h = refl
+  nth_here (Some own) (suc n) hs h = absurd cc
+
+  nth_later : (e : Option Named) (n : ℕ) (hs : List (Option Held)) → is_next e n ≡ false
+      → nth n (again_held nest inner is_state e ++ hs) ≡ nth (left_by e n) hs
+  nth_later None n hs h = refl
+  nth_later (Some own) zero hs h = absurd cc
+  nth_later (Some own) (suc n) hs h = refl
+
+  module _ (list : Shape) (f : Frame) (r : Reading) (e : Option Named) (it next : List Item)
+      (here : it ≡ Ok f ∷ next)
+      (looked : again_held nest inner is_state e ≡ again_in r list (named_in r list (frames_in next)) f) where
+    split : earlier (named_in r list (frames_in it))
+        ≡ again_held nest inner is_state e ++ earlier (named_in r list (frames_in next))
+    split =
+        ap (λ xs. earlier (named_in r list (frames_in xs))) here
+        ∙ further r list f (frames_in next)
+        ∙ ap (λ hs. hs ++ earlier (named_in r list (frames_in next))) (sym looked)
+
+    pub again_here : (n : ℕ) (all : Option Held) → is_next e n ≡ true
+        → nth n (earlier (named_in r list (frames_in it))) ≡ all → all ≡ option_map (alone_at nest inner is_state) e
+    again_here n all at was =
+        sym was ∙ ap (nth n) split ∙ nth_here e n (earlier (named_in r list (frames_in next))) at
+
+    pub again_later : (n m : ℕ) (all : Option Held) → is_next e n ≡ false → m ≡ left_by e n
+        → nth n (earlier (named_in r list (frames_in it))) ≡ all
+        → nth m (earlier (named_in r list (frames_in next))) ≡ all
+    again_later n m all at less was =
+        ap (λ k. nth k (earlier (named_in r list (frames_in next)))) less
+        ∙ sym (nth_later e n (earlier (named_in r list (frames_in next))) at)
+        ∙ ap (nth n) (sym split) ∙ was
+
+  -- ** what one tells at its place, and those behind it
+
+  again_told : (side : Side) (text : List ℕ) (e : Option Named) (n : ℕ) (hs gs : List (Option Held)) → AreNests gs
+      → items_told side text (forest (placed n (again_held nest inner is_state e ++ hs))) (places gs)
+      ≡ again_items nest inner is_state side text n gs e
+      ++ items_told side text (forest (placed (place_by e n) hs)) (places gs)
+  again_told side text None n hs gs nests = refl
+  again_told side text (Some own) n hs gs nests =
+      let alone_one : Held = alone_at nest inner is_state own in
+      let rest = items_told side text (forest (placed (n + 1) hs)) (places gs) in
+      let path = joined text (decimal n) in
+      last_further side text (places gs) (Step.place n, alone_one) (placed (n + 1) hs)
+      ∙ ap (λ l. l ++ rest)
+      (ap (λ b. cond b [] (held_items side path alone_one (find (Step.place n) (places gs))))
+      (later n (n + 1) (omega arith) hs)
+      ∙ append-nil (held_items side (joined path own.name.now) (held_at nest inner is_state own.attribute)
+      (find (Step.name own.name.now) (inside_in (find (Step.place n) (places gs)))))
+      ∙ ap (λ h. held_items side (joined path own.name.now) (held_at nest inner is_state own.attribute)
+      (find (Step.name own.name.now) (inside_in h)))
+      (found_place gs nests n 0 n (omega arith)))
+
+  pub again_next : (list : Shape) (f : Frame) (r : Reading) (e : Option Named) (it next : List Item)
+      → it ≡ Ok f ∷ next
+      → again_held nest inner is_state e ≡ again_in r list (named_in r list (frames_in next)) f
+      → (ms : List Member) (side : Side) (text : List ℕ) (n m : ℕ) (page new all : Draft) → m ≡ place_by e n
+      → new ≡ with_members (objects (again_items nest inner is_state side text n (earlier ms) e)) page
+      → with_members (objects (items_told side text
+      (forest (placed n (earlier (named_in r list (frames_in it))))) (places (earlier ms)))) page ≡ all
+      → with_members (objects (items_told side text
+      (forest (placed m (earlier (named_in r list (frames_in next))))) (places (earlier ms)))) new ≡ all
+  again_next list f r e it next here looked ms side text n m page new all more then was =
+      let hs = earlier (named_in r list (frames_in next)) in
+      let told = again_items nest inner is_state side text n (earlier ms) e in
+      let rest = items_told side text (forest (placed m hs)) (places (earlier ms)) in
+      on_next (objects (items_told side text (forest (placed n (earlier (named_in r list (frames_in it)))))
+      (places (earlier ms)))) (objects told) (objects rest) page new all
+      (ap (λ xs. objects (items_told side text (forest (placed n xs)) (places (earlier ms))))
+      (split list f r e it next here looked)
+      ∙ ap objects (again_told side text e n hs (earlier ms) (earlier_nests ms)
+      ∙ ap (λ k. told ++ items_told side text (forest (placed k hs)) (places (earlier ms))) (sym more))
+      ∙ map-append (λ o. ([], object_of o)) told rest)
+      was then
+
+-- how many there are
+pub again_fits : (f : Frame) (e : Option Named) (it next : List Item) → it ≡ Ok f ∷ next → (n m all : ℕ)
+    → m ≡ place_by e n → n + frame_count it ≤ all → m + frame_count next ≤ all
+again_fits f None it next here n m all is few =
+    let first : frame_count it ≡ 1 + frame_count next = ap frame_count here in omega (arith, first, is, few)
+again_fits f (Some own) it next here n m all is few =
+    let first : frame_count it ≡ 1 + frame_count next = ap frame_count here in omega (arith, first, is, few)
