@@ -10,4 +10,5 @@ pub mod Shown
 pub mod Texts
 pub mod Walked
 pub mod Entries
+pub mod Parts
 pub mod Repeated

@@ -7,6 +7,7 @@ pub mod kept;
 pub mod laws;
 pub mod leaf;
 pub mod list;
+pub mod members;
 pub mod named;
 pub mod path;
 pub mod side;

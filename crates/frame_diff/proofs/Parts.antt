@@ -1,0 +1,223 @@
+-- What members tell that stand in parts: no step of one part is that of another.
+use Rattle.std.proofs.Common.{◌≡◌, ℕ, Bool, true, false, List, [], ◌∷◌, ◌++◌, append_assoc, append-nil, refl, sym}
+use Rattle.std.proofs.Common.{ap, ◌∙◌}
+use Rattle.std.specs.Prelude.{Option, Some, None, codes, cond}
+use Rattle.json.specs.Token.{Token}
+use Rattle.nla_wire.specs.Frames.{Frame, number}
+use Rattle.shown.specs.Drafts.{Members}
+use Rattle.frame_shown.specs.Tables.{is_kept, row_in}
+use Rattle.frame_shown.specs.declared.form.List.{List as Shape}
+use Rattle.frame_diff.specs.Beside.{held_of}
+use Rattle.frame_diff.specs.Counters.{is_passed}
+use Rattle.frame_diff.specs.Forests.{Forest, Held, Member, Step, comes, find, forest, is_step}
+use Rattle.frame_diff.specs.Items.{items_told, joined, step_text}
+use Rattle.frame_diff.specs.Members.{Reading, earlier, kept_in, list_at, members_in, named_in, places, unless_none}
+use Rattle.frame_diff.specs.Walked.{held_items, last_items}
+use Rattle.frame_diff.specs.declared.side.Side.{Side}
+use Rattle.frame_diff.proofs.Apart.{find_none}
+use Rattle.frame_diff.proofs.Beside.{found_last, last_at, or_else, or_none}
+use Rattle.frame_diff.proofs.Steps.{step_is}
+use Rattle.frame_diff.proofs.Walked.{last_further}
+
+-- ** what stands at a step
+
+last_front : (s : Step) (ms more : List Member) → comes s more ≡ false → last_at s (ms ++ more) ≡ last_at s ms
+last_front s [] more none = sym (found_last s more) ∙ find_none s more none
+last_front s (m ∷ ms) more none =
+    ap (λ l. or_else l (cond (is_step m.0 s) (Some m.1) None)) (last_front s ms more none)
+
+last_back : (s : Step) (ms more : List Member) → comes s ms ≡ false → last_at s (ms ++ more) ≡ last_at s more
+last_back s [] more none = refl
+last_back s (m ∷ ms) more none = by (is_step m.0 s) none (last_back s ms more)
+  where
+    by : (b : Bool) → cond b true (comes s ms) ≡ false
+        → (comes s ms ≡ false → last_at s (ms ++ more) ≡ last_at s more)
+        → or_else (last_at s (ms ++ more)) (cond b (Some m.1) None) ≡ last_at s more
+    by true h later = absurd cc
+    by false h later = or_none (last_at s (ms ++ more)) ∙ later h
+
+find_front : (s : Step) (ms more : List Member) → comes s more ≡ false
+    → find s (forest (ms ++ more)) ≡ find s (forest ms)
+find_front s ms more none = found_last s (ms ++ more) ∙ last_front s ms more none ∙ sym (found_last s ms)
+
+find_back : (s : Step) (ms more : List Member) → comes s ms ≡ false
+    → find s (forest (ms ++ more)) ≡ find s (forest more)
+find_back s ms more none = found_last s (ms ++ more) ∙ last_back s ms more none ∙ sym (found_last s more)
+
+-- ** what they tell
+
+-- no step of the first ones is one of the others
+abbrev pub NoneComes : List Member → List Member → Type 0
+NoneComes [] ys = Unit {0}
+NoneComes (x ∷ xs) ys = (comes x.0 ys ≡ false) × NoneComes xs ys
+
+comes_append : (s : Step) (xs ys : List Member) → comes s ys ≡ false → comes s (xs ++ ys) ≡ comes s xs
+comes_append s [] ys none = none
+comes_append s (x ∷ xs) ys none = ap (λ b. cond (is_step x.0 s) true b) (comes_append s xs ys none)
+
+module _ (side : Side) (text : List ℕ) where
+  abbrev one : Forest → List Member → Member → List Members
+  one others behind m = last_items side text behind m (find m.0 others)
+
+  told_parts : (others : Forest) (ms more : List Member) → NoneComes ms more
+      → items_told side text (forest (ms ++ more)) others
+      ≡ items_told side text (forest ms) others ++ items_told side text (forest more) others
+  told_parts others [] more none = refl
+  told_parts others (m ∷ ms) more none =
+      let front = one others ms m in
+      last_further side text others m (ms ++ more)
+      ∙ (λ k. cond (comes_append m.0 ms more none.0 k) []
+      (held_items side (joined text (step_text m.0)) m.1 (find m.0 others)) ++ told_parts others ms more none.1 k)
+      ∙ sym (append_assoc front (items_told side text (forest ms) others) (items_told side text (forest more) others))
+      ∙ ap (λ l. l ++ items_told side text (forest more) others) (sym (last_further side text others m ms))
+
+  -- beside the front part
+  told_front : (ms ns more : List Member) → NoneComes ms more
+      → items_told side text (forest ms) (forest (ns ++ more)) ≡ items_told side text (forest ms) (forest ns)
+  told_front [] ns more none = refl
+  told_front (m ∷ ms) ns more none =
+      last_further side text (forest (ns ++ more)) m ms
+      ∙ (λ k. last_items side text ms m (find_front m.0 ns more none.0 k) ++ told_front ms ns more none.1 k)
+      ∙ sym (last_further side text (forest ns) m ms)
+
+  -- beside the part behind
+  told_back : (ms ns more : List Member) → NoneComes ms ns
+      → items_told side text (forest ms) (forest (ns ++ more)) ≡ items_told side text (forest ms) (forest more)
+  told_back [] ns more none = refl
+  told_back (m ∷ ms) ns more none =
+      last_further side text (forest (ns ++ more)) m ms
+      ∙ (λ k. last_items side text ms m (find_back m.0 ns more none.0 k) ++ told_back ms ns more none.1 k)
+      ∙ sym (last_further side text (forest more) m ms)
+
+  pub both_parts : (ms more ns others : List Member) → NoneComes ms more → NoneComes ms others → NoneComes more ns
+      → items_told side text (forest (ms ++ more)) (forest (ns ++ others))
+      ≡ items_told side text (forest ms) (forest ns) ++ items_told side text (forest more) (forest others)
+  both_parts ms more ns others apart front back =
+      told_parts (forest (ns ++ others)) ms more apart
+      ∙ (λ k. told_front ms ns others front k ++ told_back more ns others back k)
+
+-- ** the parts of a list of attributes
+
+-- they are at names
+abbrev pub AreNames : List Member → Type 0
+AreNames [] = Unit {0}
+AreNames (m ∷ ms) = ((name : List ℕ) × (m.0 ≡ Step.name name)) × AreNames ms
+
+-- and this step is none
+abbrev pub IsNoName : Step → Type 0
+IsNoName s = (name : List ℕ) → (is_step s (Step.name name) ≡ false) × (is_step (Step.name name) s ≡ false)
+
+pub named_names : (r : Reading) (list : Shape) (fs : List Frame) → AreNames (named_in r list fs)
+named_names r list [] = tt
+named_names r list (f ∷ fs) =
+    by (is_passed r.is_state list (number f)) (is_kept (row_in r.around list (number f)).1 f.payload)
+    (named_names r list fs)
+  where
+    by : (passed kept : Bool) → AreNames (named_in r list fs)
+        → AreNames (cond passed [] (cond kept [] ((Step.name (row_in r.around list (number f)).0, held_of r list f)
+        ∷ [])) ++ named_in r list fs)
+    by true kept later = later
+    by false true later = later
+    by false false later = (((row_in r.around list (number f)).0, refl), later)
+
+list_lacks : (t s : Step) (hs : List (Option Held)) → is_step s t ≡ false → comes t (list_at s hs) ≡ false
+list_lacks t s hs other = by _ (places hs)
+  where
+    by : (v : List Token) (f : Forest) → comes t (unless_none s v f) ≡ false
+    by v Forest.none = refl
+    by v (Forest.tree a b c d) = ap (λ x. cond x true false) other
+
+pub names_lack : (ms : List Member) (s : Step) (hs : List (Option Held)) → AreNames ms → IsNoName s
+    → NoneComes ms (list_at s hs)
+names_lack [] s hs names none = tt
+names_lack (m ∷ ms) s hs names none = (
+  list_lacks m.0 s hs (ap (is_step s) names.0.1 ∙ (none names.0.0).0),
+  names_lack ms s hs names.1 none,
+)
+
+no_names : (s : Step) (ms : List Member) → AreNames ms → IsNoName s → comes s ms ≡ false
+no_names s [] names none = refl
+no_names s (m ∷ ms) names none =
+    ap (λ t. cond (is_step t s) true (comes s ms)) names.0.1
+    ∙ ap (λ b. cond b true (comes s ms)) (none names.0.0).1
+    ∙ no_names s ms names.1 none
+
+pub list_lacks_names : (s : Step) (hs : List (Option Held)) (ms : List Member) → AreNames ms → IsNoName s
+    → NoneComes (list_at s hs) ms
+list_lacks_names s hs ms names none = by _ (places hs)
+  where
+    by : (v : List Token) (f : Forest) → NoneComes (unless_none s v f) ms
+    by v Forest.none = tt
+    by v (Forest.tree a b c d) = (no_names s ms names none, tt)
+
+pub lists_lack : (s t : Step) (hs gs : List (Option Held)) → is_step t s ≡ false
+    → NoneComes (list_at s hs) (list_at t gs)
+lists_lack s t hs gs other = by _ (places hs)
+  where
+    by : (v : List Token) (f : Forest) → NoneComes (unless_none s v f) (list_at t gs)
+    by v Forest.none = tt
+    by v (Forest.tree a b c d) = (list_lacks s t gs other, tt)
+
+-- a list of values tells what those in it tell, by their places
+pub list_told : (side : Side) (text : List ℕ) (s : Step) (hs gs : List (Option Held))
+    → items_told side text (forest (list_at s hs)) (forest (list_at s gs))
+    ≡ items_told side (joined text (step_text s)) (places hs) (places gs)
+list_told side text s hs gs = by _ (places hs) _ (places gs)
+  where
+    by : (v : List Token) (f : Forest) (w : List Token) (g : Forest)
+        → items_told side text (forest (unless_none s v f)) (forest (unless_none s w g))
+        ≡ items_told side (joined text (step_text s)) f g
+    by v Forest.none w g = refl
+    by v (Forest.tree a b c d) w Forest.none = append-nil _
+    by v (Forest.tree a b c d) w (Forest.tree p q x y) =
+        append-nil _
+        ∙ ap (λ e. held_items side (joined text (step_text s)) (v, Forest.tree a b c d)
+        (cond e (Some (w, Forest.tree p q x y)) None)) (step_is s)
+
+-- ** the members of a list of attributes
+
+both_lack : (xs ys zs : List Member) → NoneComes xs zs → NoneComes ys zs → NoneComes (xs ++ ys) zs
+both_lack [] ys zs h k = k
+both_lack (x ∷ xs) ys zs h k = (h.0, both_lack xs ys zs h.1 k)
+
+lacks_both : (xs ys zs : List Member) → NoneComes xs ys → NoneComes xs zs → NoneComes xs (ys ++ zs)
+lacks_both [] ys zs h k = tt
+lacks_both (x ∷ xs) ys zs h k = (comes_append x.0 ys zs k.0 ∙ h.0, lacks_both xs ys zs h.1 k.1)
+
+no_name_again : IsNoName Step.repeated
+no_name_again name = (refl, refl)
+
+no_name_other : IsNoName Step.other
+no_name_other name = (refl, refl)
+
+pub members_told : (r s : Reading) (list shape : Shape) (fs gs : List Frame) (side : Side) (text : List ℕ)
+    → items_told side text (forest (members_in r list fs)) (forest (members_in s shape gs))
+    ≡ items_told side text (forest (named_in r list fs)) (forest (named_in s shape gs))
+    ++ (items_told side (joined text (codes "repeated")) (places (earlier (named_in r list fs)))
+    (places (earlier (named_in s shape gs)))
+    ++ items_told side (joined text (codes "other")) (places (kept_in r list fs)) (places (kept_in s shape gs)))
+members_told r s list shape fs gs side text =
+    let ms = named_in r list fs in
+    let ns = named_in s shape gs in
+    let names = named_names r list fs in
+    let names_too = named_names s shape gs in
+    let again = list_at Step.repeated (earlier ms) in
+    let again_too = list_at Step.repeated (earlier ns) in
+    let kept = list_at Step.other (kept_in r list fs) in
+    let kept_too = list_at Step.other (kept_in s shape gs) in
+    both_parts side text (ms ++ again) kept (ns ++ again_too) kept_too
+    (both_lack ms again kept (names_lack ms Step.other (kept_in r list fs) names no_name_other)
+    (lists_lack Step.repeated Step.other (earlier ms) (kept_in r list fs) refl))
+    (both_lack ms again kept_too (names_lack ms Step.other (kept_in s shape gs) names no_name_other)
+    (lists_lack Step.repeated Step.other (earlier ms) (kept_in s shape gs) refl))
+    (lacks_both kept ns again_too (list_lacks_names Step.other (kept_in r list fs) ns names_too no_name_other)
+    (lists_lack Step.other Step.repeated (kept_in r list fs) (earlier ns) refl))
+    ∙ ap (λ l. l ++ items_told side text (forest kept) (forest kept_too))
+    (both_parts side text ms again ns again_too (names_lack ms Step.repeated (earlier ms) names no_name_again)
+    (names_lack ms Step.repeated (earlier ns) names no_name_again)
+    (list_lacks_names Step.repeated (earlier ms) ns names_too no_name_again))
+    ∙ append_assoc (items_told side text (forest ms) (forest ns)) (items_told side text (forest again)
+    (forest again_too)) (items_told side text (forest kept) (forest kept_too))
+    ∙ (λ k. items_told side text (forest ms) (forest ns)
+    ++ (list_told side text Step.repeated (earlier ms) (earlier ns) k
+    ++ list_told side text Step.other (kept_in r list fs) (kept_in s shape gs) k))

@@ -1,0 +1,76 @@
+//! What differs between two lists of attributes.
+
+ghost use Rattle.std.specs.Prelude.{◌≡◌, OnOk, codes, true};
+ghost use Rattle.shown.specs.Drafts.{with_members};
+ghost use Rattle.frame_shown.specs.Items.{objects};
+ghost use Rattle.frame_diff.specs.Forests.{forest};
+ghost use Rattle.frame_diff.specs.Items.{items_told, joined};
+ghost use Rattle.frame_diff.specs.Members.{places};
+ghost use Rattle.frame_diff.specs.Repeated.{earlier_at, members_at};
+ghost use Rattle.frame_diff.specs.Values.{kept_at};
+ghost use Rattle.frame_diff.specs.Walked.{AreAlike};
+
+use crate::again::tell_repeated;
+use crate::kept::tell_others;
+use crate::leaf::Texts;
+use crate::list::tell_named;
+use crate::path::join;
+use crate::walk::{Attributes, Pass, Walk};
+use shown::Page;
+use std::alloc::AllocError;
+
+/// Tells of the attributes behind which another one of their name stands.
+fn tell_again<W: Walk>(
+    texts: &mut Texts,
+    pass: Pass,
+    page: &mut Page,
+    path: &str,
+    own: Attributes<'_>,
+    others: Attributes<'_>,
+) -> Result<(), AllocError>
+    ensures { OnOk result (page.new
+        ≡ with_members (objects (items_told pass.side (joined path.now (codes "repeated"))
+        (places (earlier_at W.nest W.inner pass.is_state own.entry))
+        (places (earlier_at W.nest W.inner pass.is_state others.entry)))) page.old) }
+{
+    let text = join(texts.alloc, path, "repeated")?;
+    tell_repeated::<W>(texts, pass, page, text.as_str(), own, others)
+}
+
+/// Tells of the attributes that are kept as they are.
+fn tell_kept(
+    texts: &mut Texts,
+    pass: Pass,
+    page: &mut Page,
+    path: &str,
+    own: Attributes<'_>,
+    others: Attributes<'_>,
+) -> Result<(), AllocError>
+    ensures { OnOk result (page.new
+        ≡ with_members (objects (items_told pass.side (joined path.now (codes "other"))
+        (places (kept_at pass.is_state own.entry)) (places (kept_at pass.is_state others.entry))))
+        page.old) }
+{
+    let text = join(texts.alloc, path, "other")?;
+    tell_others(texts, pass, page, text.as_str(), own, others)
+}
+
+/// Tells of the attributes of a list that is shown as an object, beside those of another one: of each name the last
+/// one, then those behind which another one of their name stands, and those that are kept as they are, by their places.
+pub fn tell_members<W: Walk>(
+    texts: &mut Texts,
+    pass: Pass,
+    page: &mut Page,
+    path: &str,
+    own: Attributes<'_>,
+    others: Attributes<'_>,
+) -> Result<(), AllocError>
+    requires { pass.is_alike ≡ true → AreAlike own others }
+    ensures { OnOk result (page.new ≡ with_members (objects (items_told pass.side path.now
+        (forest (members_at W.nest W.inner pass.is_state own.entry))
+        (forest (members_at W.nest W.inner pass.is_state others.entry)))) page.old) }
+{
+    tell_named::<W>(texts, pass, page, path, own, others)?;
+    tell_again::<W>(texts, pass, page, path, own, others)?;
+    tell_kept(texts, pass, page, path, own, others)
+}
