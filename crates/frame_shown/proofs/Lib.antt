@@ -15,3 +15,4 @@ pub mod ListsMeant
 pub mod AttributesMeant
 pub mod FramesMeant
 pub mod MessagesMeant
+pub mod Tied

@@ -8,3 +8,5 @@ pub mod Laws
 pub mod Accepted
 pub mod Names
 pub mod Meaning
+pub mod Annex
+pub mod Tied

@@ -3,6 +3,7 @@
 ghost use Rattle.frame_shown.specs.Laws.{FunctionsAreMeant, RecordsAreMeant, ValuesAreMeant};
 ghost use Rattle.frame_shown.specs.Meaning.{MessagesAreMeant};
 ghost use Rattle.frame_shown.specs.Names.{NamesAreApart};
+ghost use Rattle.frame_shown.specs.Tied.{TablesAreThese};
 ghost use Rattle.frame_shown.specs.Values.{Nesting};
 ghost use Rattle.frame_shown.specs.declared.form.Around.{Around as Beside};
 
@@ -24,6 +25,11 @@ pub fn law_functions()
 /// No two attributes of a list, and no two fields of a record, have one name.
 pub fn law_names()
     ensures { NamesAreApart }
+{}
+
+/// The tables of names, places and forms that the code goes by are those of the annex.
+pub fn law_tables()
+    ensures { TablesAreThese }
 {}
 
 /// Bytes that mean one message are shown alike. The header's type of link is shown as its number, also where it has no

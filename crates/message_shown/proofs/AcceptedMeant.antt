@@ -1,8 +1,7 @@
 -- Of bytes that are no message the attributes that are shown mean the part of the message that is accepted.
-use Rattle.std.proofs.Common.{◌≡◌, ◌⊎◌, ℕ, Bool, true, false, List, [], ◌∷◌, ◌++◌, cond, drop, length, map, take}
-use Rattle.std.proofs.Common.{refl, sym}
+use Rattle.std.proofs.Common.{◌≡◌, ◌⊎◌, ℕ, Bool, true, false, List, [], ◌∷◌, ◌++◌, cond, drop, length, take, refl, sym}
 use Rattle.std.proofs.Common.{ap, subst, ◌∙◌, arith, inl, inr, slice_index, ◌≤◌, length-append}
-use Rattle.std.specs.Prelude.{◌%◌, Option, None, Some, Result, Ok, Err}
+use Rattle.std.specs.Prelude.{◌%◌, Option, None, Some, Result}
 use Rattle.std.specs.List.{AllByRecursion}
 use Rattle.std.proofs.Math.Seq.{take-append_seam}
 use Rattle.std.proofs.lemmas.List.{get_or_append_left, map-id}

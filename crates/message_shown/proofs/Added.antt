@@ -1,6 +1,6 @@
 -- How the answer to a line is added.
 use Rattle.std.proofs.Common.{◌≡◌, ℕ, Bool, true, false, List, [], ◌∷◌, ◌++◌, refl, sym, ap, subst, ◌∙◌, append_assoc}
-use Rattle.std.proofs.Common.{arith, length, slice_index}
+use Rattle.std.proofs.Common.{arith, slice_index}
 use Rattle.std.proofs.lemmas.List.{get_or_append_left}
 use Rattle.std.specs.Prelude.{Result, Ok, Err, OnOk, codes, MatchBool}
 use Rattle.std.specs.List.{flat_map}

@@ -1,6 +1,6 @@
 -- Contexts that have the same rows show the frames of a message the same.
 use Rattle.std.proofs.Common.{◌≡◌, ℕ, zero, suc, Bool, true, false, List, [], ◌∷◌, ◌++◌, refl, sym, ap, ◌∙◌}
-use Rattle.std.specs.Prelude.{◌==◌, ◌&&◌, Option, None, Some, Ok, Err, codes, cond, drop, length, map, nat_lt, take}
+use Rattle.std.specs.Prelude.{◌==◌, ◌&&◌, Option, Some, Ok, Err, codes, cond, drop, length, map, nat_lt, take}
 use Rattle.std.specs.Prelude.{slice_index}
 use Rattle.std.specs.Int.{w32}
 use Rattle.json.specs.Token.{string}
@@ -8,7 +8,7 @@ use Rattle.nla_wire.specs.Fields.{signed_at, zero_filled}
 use Rattle.nla_wire.specs.Frames.{Frame, number}
 use Rattle.nla_wire.specs.Items.{Item as Read, items}
 use Rattle.link_info.specs.Lent.{lent, member_now, row_now, style_now}
-use Rattle.link_info.specs.Meanings.{Meaning, Raw, Present, Number, Signed, Words, Hardware, Four, Six}
+use Rattle.link_info.specs.Meanings.{Meaning, Number}
 use Rattle.link_info.specs.Meanings.{Members as Fields, Elements, Listed, Nested, read_as}
 use Rattle.link_info.specs.Places.{rows_of}
 use Rattle.link_info.specs.Styles.{plain_size}

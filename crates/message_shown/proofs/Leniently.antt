@@ -36,7 +36,7 @@ use Rattle.shown.proofs.Pages.{object_found, whole_text}
 use Rattle.frame_shown.specs.Accepted.{lenient_members}
 use Rattle.message_shown.specs.Causes.{cause_members, cause_text}
 use Rattle.message_shown.specs.Contexts.{for_frames}
-use Rattle.message_shown.specs.Leniently.{taken, in_front, accepted, accepted_part, ReadsAccepted, AreTold}
+use Rattle.message_shown.specs.Leniently.{taken, in_front, accepted, ReadsAccepted, AreTold}
 use Rattle.message_shown.specs.Leniently.{Fits, IsSplit, EachIsTold}
 use Rattle.message_shown.specs.Leniently.{AddsOne, AddsTold, IsLenientAnswerTo, TellsLeniently, frame_told}
 use Rattle.message_shown.specs.Leniently.{lenient_line, refusal_members, refused_member}

@@ -2,6 +2,7 @@ pub mod Added
 mod Filled
 mod Named
 mod NamesTied
+mod NamesShown
 mod Places
 mod Elements
 mod Forms

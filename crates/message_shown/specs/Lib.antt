@@ -15,6 +15,7 @@ pub mod Attributes
 pub mod Forms
 pub mod Names
 pub mod NamesTied
+pub mod NamesShown
 pub mod Leniently
 pub mod Raw
 pub mod Faults

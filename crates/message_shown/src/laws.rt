@@ -3,6 +3,7 @@
 ghost use Rattle.message_shown.specs.Leniently.{EachIsTold, IsLenientAnswerTo, TellsLeniently};
 ghost use Rattle.message_shown.specs.Lines.{IsAnswerTo, TellsMessage};
 ghost use Rattle.message_shown.specs.Meaning.{AcceptedAreMeant, AnswersAreMeant};
+ghost use Rattle.message_shown.specs.NamesShown.{NamesAreShown};
 ghost use Rattle.message_shown.specs.NamesTied.{NamesAreThese};
 ghost use Rattle.message_shown.specs.Plain.{ShownByOrder};
 ghost use Rattle.message_shown.specs.Whole.{BeginsAs, TellsAs, IsWholeAnswerTo, IsWholeLenientAnswerTo};
@@ -14,9 +15,11 @@ pub fn law_lenient()
     ensures accepted { AcceptedAreMeant }
 {}
 
-/// The tables of names that the code goes by are those of the annex.
+/// The tables of names that the code goes by are those of the annex: those of what is compared, and those of the annex of
+/// `frame_shown`, by which frames are shown.
 pub fn law_names()
-    ensures { NamesAreThese }
+    ensures these { NamesAreThese }
+    ensures shown { NamesAreShown }
 {}
 
 /// A whole answer begins with a fault or with the family of a message, and tells what the bytes mean.

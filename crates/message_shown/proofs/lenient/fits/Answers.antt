@@ -1,4 +1,4 @@
-use Rattle.std.proofs.Common.{◌∙◌, drop, sym, ap, arith}
+use Rattle.std.proofs.Common.{◌∙◌, ap, arith}
 use Rattle.link_info.specs.Styles.{are_frames}
 use Rattle.nla_wire.proofs.Front.{all_bytes}
 use Rattle.nla_wire.specs.Items.{items}
