@@ -286,12 +286,13 @@ def why_apart(old, new, key):
     return None
 
 
-def is_as_said(why, files, stream):
-    """Whether what both tell of an interface is what the page says of the exception."""
+def is_as_said(why, key, files, stream):
+    """Whether what both tell of an interface is what the page says of the exceptions, of which two may hold."""
     files, stream = ([json.loads("{" + it.decode())["change"] for it in lines] for lines in (files, stream))
-    if why == "refused in OLD":
-        return not files and stream[:1] == ["new"]
-    return why is not None and stream[-1:] == ["gone"] and files in ([], ["new"], ["gone", "new"])
+    if why == "refused in OLD" and not files and stream == ["new"]:
+        return True
+    return (why is not None and key[0] in told.PARTS and stream[-1:] == ["gone"]
+            and files in ([], ["new"], ["gone", "new"]))
 
 
 def hold_two_ways(linkdiff, options, known, pairs, counts):
@@ -315,7 +316,7 @@ def hold_two_ways(linkdiff, options, known, pairs, counts):
             why = why_apart(*sides, key)
             if one != other:
                 counts[f"two ways, {why}: not alike"] += 1
-                if not is_as_said(why, one, other):
+                if not is_as_said(why, key, one, other):
                     lines = [it for it in old + new if told.Line(it, known).host == host]
                     breaks("two ways", why, key, *one, "as files, and in a stream", *other, "of", *lines)
             counts["two ways, and told" if one else "two ways"] += why is None
