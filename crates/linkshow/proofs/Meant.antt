@@ -1,5 +1,6 @@
 -- Lines that spell one message have one answer.
-use Rattle.std.proofs.Common.{◌≡◌, ℕ, Bool, true, false, List, [], ◌∷◌, length, length-append, sym, ap, subst, ◌∙◌, arith}
+use Rattle.std.proofs.Common.{◌≡◌, ℕ, Bool, true, false, List, [], ◌∷◌, length, length-append, sym, ap, subst}
+use Rattle.std.proofs.Common.{◌∙◌, arith}
 use Rattle.std.specs.Prelude.{MatchBool, Result, Ok}
 use Rattle.std.proofs.lemmas.Bool.Decides.{nat_tests}
 use Rattle.std.proofs.lemmas.List.{nil_from_length}
@@ -33,8 +34,8 @@ not_alone : (front rest b : List ℕ) (m : LinkMessage) → decode_of (digits_of
     → are_alone front rest ≡ true → ⊥
 unfolding decode_pairs
 not_alone front rest b m spelled means alone =
-    no_message b m (subst (λ r. decode_of (digits_of r) ≡ Ok b) (nil_from_length rest (no_rest front rest alone)) spelled)
-    means
+    no_message b m
+    (subst (λ r. decode_of (digits_of r) ≡ Ok b) (nil_from_length rest (no_rest front rest alone)) spelled) means
 
 behind_words : (alone : Bool) (own answer : Type 0) → (alone ≡ true → ⊥) → MatchBool alone own answer → answer
 behind_words true own answer none is = absurd (none (λ i. true))

@@ -16,8 +16,8 @@ pub fn law_begin()
     ensures lenient { LenientAnswersBegin }
 {}
 
-/// Lines with the same words in front, whose bytes mean one message, have one answer, where the messages have one type of
-/// link: types without a name are one in a message, and are shown as their numbers.
+/// Lines with the same words in front, whose bytes mean one message, have one answer, where the messages have one type
+/// of link: types without a name are one in a message, and are shown as their numbers.
 pub fn law_meaning()
     ensures strict { AnswersAreMeant }
     ensures lenient { LenientAnswersAreMeant }

@@ -15,8 +15,8 @@ pub fn law_lenient()
     ensures accepted { AcceptedAreMeant }
 {}
 
-/// The tables of names that the code goes by are those of the annex: those of what is compared, and those of the annex of
-/// `frame_shown`, by which frames are shown.
+/// The tables of names that the code goes by are those of the annex: those of what is compared, and those of the annex
+/// of `frame_shown`, by which frames are shown.
 pub fn law_names()
     ensures these { NamesAreThese }
     ensures shown { NamesAreShown }
