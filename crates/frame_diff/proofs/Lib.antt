@@ -12,3 +12,4 @@ pub mod Walked
 pub mod Entries
 pub mod Parts
 pub mod Repeated
+pub mod Names

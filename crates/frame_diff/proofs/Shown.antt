@@ -249,7 +249,7 @@ module _ (nest : Nesting) (inner : Inner) (cx : Around) (list : Shape) (apart : 
       ++ list_is Step.repeated (earlier ms) (earlier_ones (all fs)) (earlier_agree fs) k
       ++ list_is Step.other (kept_in r list fs) (kept_ones (all fs)) (kept_agree fs) k)
 
-lists_shown : (n : ℕ) (cx : Around) (list : Shape) (p : List ℕ) → HasNamesApart cx list
+pub lists_shown : (n : ℕ) (cx : Around) (list : Shape) (p : List ℕ) → HasNamesApart cx list
     → shown_in (forest (members_in (reading n false cx) list (frames_in (items p))))
     ≡ members_of (items_in (levels n cx) cx list (items p))
 lists_shown zero cx list p apart =

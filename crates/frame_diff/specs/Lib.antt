@@ -6,6 +6,7 @@ pub mod Members
 pub mod Beside
 pub mod Items
 pub mod Shown
+pub mod Names
 pub mod Walked
 pub mod Values
 pub mod Repeated

@@ -2,6 +2,7 @@
 
 ghost use Rattle.frame_diff.specs.Laws.{CountersArePassed, EachIsToldOnce, ItemsAreChanges, MessagesAreTold};
 ghost use Rattle.frame_diff.specs.Laws.{SameIsSilent, WhatDiffersIsTold};
+ghost use Rattle.frame_diff.specs.Names.{NamesAreApart};
 ghost use Rattle.frame_diff.specs.Shown.{MembersAreShown};
 
 /// What is told of members beside others is what differs between the leaves of both.
@@ -39,4 +40,10 @@ pub fn law_items()
 /// a record.
 pub fn law_shown()
     ensures { MembersAreShown }
+{}
+
+/// With the rows of `link_info` no two numbers of a list have one name, so the members of each list are what is shown
+/// of it.
+pub fn law_names()
+    ensures { NamesAreApart }
 {}

@@ -11,7 +11,7 @@ use Rattle.frame_diff.proofs.Repeated.{again_fits, again_next}
 use Rattle.frame_diff.proofs.Entries.{place_small}
 use Rattle.frame_diff.proofs.again.tell_repeated.Goals as goal
 
-pub place_by-place-requires : goal.place_by-requires
+pub place_by-place-requires : goal.place_by-place-requires
 place_by-place-requires g c =
     let here : c.loop-item.item-iterator ≡ Ok c.in-Ok.frame ∷ c.next.new.self = rw c.in-Ok.is at
     c.in-Some.ensures.steps in
