@@ -16,8 +16,8 @@ use Rattle.message_diff.specs.Marked.{AreMarksOf}
 use Rattle.message_diff.specs.Paths.{part_of}
 use Rattle.message_diff.specs.Shown.{AreBeside}
 use Rattle.message_diff.specs.Listed.{AreApart, AreChained, IsAt, IsBeside, IsFound, IsInside, IsLikely, IsTidy}
-use Rattle.message_diff.specs.Listed.{AddsLeaves, TakesFrom, TakesInside, TakesOne, behind, label_in, leaves_from}
-use Rattle.message_diff.specs.Listed.{leaves_in, mark_at, marks_in, value_at, value_in}
+use Rattle.message_diff.specs.Listed.{AddsLeaves, TakesInside, TakesOne, behind, label_in, leaves_from, leaves_in}
+use Rattle.message_diff.specs.Listed.{mark_at, marks_in, value_at, value_in}
 use Rattle.message_diff.proofs.Spans.{First, IsNext, end_self, first_of, likely_next, none_left, part_take}
 
 -- ** beside which members
@@ -256,20 +256,6 @@ passes_init few text ms other others at end from to f g first tidy are are_too =
   is_likely = record { left = g; are = are_too; last = end_self g };
 }
 
--- the same, where the members are likely from another place on
-pub passes_from : (few : Bool) (text : List ℕ) (ms : List Mark) (other : List ℕ) (others : List Mark)
-    (at end to likely : ℕ)
-    (f g : Forest) (first : Leaves) → IsTidy first → AreMarksOf text at (marks_in ms at end) f
-    → IsLikely other others to g likely → Passes few text ms other others at end to likely f g first first
-passes_from few text ms other others at end to likely f g first tidy are is_likely = record {
-  left = f;
-  are = are;
-  done = [];
-  added = adds_none text ms first tidy;
-  all = refl;
-  is_likely = is_likely;
-}
-
 pub passes_end : (few : Bool) (text : List ℕ) (ms : List Mark) (other : List ℕ) (others : List Mark)
     (at end to likely : ℕ)
     (f g : Forest) (first now : Leaves) → end ≤ at ⊎ length ms ≤ at
@@ -306,22 +292,6 @@ adds_join text ms first now mid new done more paths spots path h k = record {
       ∙ ap (λ t. t ++ more) h.leaves ∙ append_assoc (leaves_in text ms first) done more;
   path = ap (λ (p : List ℕ). take (length p) new.path.items) (sym path) ∙ k.path ∙ path;
 }
-
--- the leaves of all that are left
-pub passes_rest : (few : Bool) (text : List ℕ) (ms : List Mark) (other : List ℕ) (others : List Mark)
-    (at end from to likely : ℕ)
-    (f g : Forest) (first now mid new : Leaves) → AreApart g → AreMarksOf other from (marks_in others from to) g
-    → mid.paths ≡ now.paths → mid.spots ≡ now.spots → mid.path.items ≡ take (length first.path.items) now.path.items
-    → TakesFrom few text ms at end other others from to likely mid new
-    → Passes few text ms other others at end to likely f g first now
-    → AddsLeaves text ms first new (beside_in few first.path.items f g)
-passes_rest few text ms other others at end from to likely f g first now mid new apart are_too paths spots path takes
-    p =
-    let same : mid.path.items ≡ first.path.items = path ∙ p.added.path in
-    let taken = takes p.left g apart (tidy_same now mid paths spots p.added.tidy) p.are are_too p.is_likely in
-    subst (λ (all : List Leaf). AddsLeaves text ms first new all)
-    (ap (λ (q : List ℕ). p.done ++ beside_in few q p.left g) same ∙ sym p.all)
-    (adds_join text ms first now mid new p.done (beside_in few mid.path.items p.left g) paths spots same p.added taken)
 
 -- the next one, in the place of the path to it
 pub passes_next : (few : Bool) (text : List ℕ) (ms : List Mark) (other : List ℕ) (others : List Mark)

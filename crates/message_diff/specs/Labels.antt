@@ -4,6 +4,7 @@ use Rattle.std.specs.BTreeMap.{BTreeMap, get_by}
 use Rattle.std.specs.Global.{Global}
 use Rattle.std.specs.Cmp.Lexicographic.{slice_cmp}
 use Rattle.std.specs.Ordering.{nat_cmp}
+use Rattle.message_diff.specs.declared.labels.Labels.{Labels}
 use Rattle.message_diff.specs.declared.members.Members.{Members}
 use Rattle.message_diff.specs.Known.{is_text}
 use Rattle.message_diff.specs.Trees.{Forest}
@@ -37,3 +38,11 @@ IsPut label at old new =
 
 abbrev pub HasPlaces : Members → ℕ → ℕ → PlaceMap → Type 0
 HasPlaces it from end map = (label : List ℕ) → IsFirst it from end label (place_in map label)
+
+abbrev pub HasThem : Members → ℕ → ℕ → Option PlaceMap → Type 0
+HasThem it from end None = Unit {0}
+HasThem it from end (Some map) = HasPlaces it from end map
+
+-- where members were put in order, they are those from one place to before another
+abbrev pub AreLabels : Members → ℕ → ℕ → Labels → Type 0
+AreLabels it from end labels = HasThem it from end labels.places

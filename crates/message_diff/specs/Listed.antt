@@ -122,13 +122,6 @@ TakesInside few text marks at end other others from to old new =
     → AreMarksOf other from (marks_in others from to) g
     → AddsLeaves text marks old new (beside_in few old.path.items f g)
 
--- the same, where those of the other text are likely from a place on
-abbrev pub TakesFrom : Bool → List ℕ → List Mark → ℕ → ℕ → List ℕ → List Mark → ℕ → ℕ → ℕ → Leaves → Leaves → Type 0
-TakesFrom few text marks at end other others from to likely old new =
-    (f : Forest) → (g : Forest) → AreApart g → IsTidy old → AreMarksOf text at (marks_in marks at end) f
-    → AreMarksOf other from (marks_in others from to) g → IsLikely other others to g likely
-    → AddsLeaves text marks old new (beside_in few old.path.items f g)
-
 -- what is inside the member at a place, behind which the next one is there
 pub record IsInside (text : List ℕ) (marks : List Mark) (at next : ℕ) (inside : Forest) : Type 0 where
   pub are : AreMarksOf text (suc at) (marks_in marks (suc at) next) inside

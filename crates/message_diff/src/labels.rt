@@ -1,9 +1,11 @@
 //! Where members beside each other are, by their labels: the name of each, or its place where it has none.
 
-ghost use Rattle.std.specs.Prelude.{◌≡◌, IfOk, OnOk};
+ghost use Rattle.std.specs.Prelude.{◌≡◌, ℕ, IfOk, OnOk};
+ghost use Rattle.message_diff.specs.declared.members.Members.{Members};
 ghost use Rattle.message_diff.specs.Listed.{label_in};
-ghost use Rattle.message_diff.specs.Labels.{HasPlaces, IsPut, place_in};
+ghost use Rattle.message_diff.specs.Labels.{AreLabels, HasPlaces, IsFirst, IsPut};
 
+use crate::lookup::{FEW, PASSES};
 use crate::members::{Members, name_of};
 use itoa::Buffer;
 use shown::Mark;
@@ -11,7 +13,7 @@ use std::alloc::{AllocError, Global};
 use std::collections::BTreeMap;
 
 /// The place of a member with each label.
-pub type Places = BTreeMap<Vec<u8>, usize>;
+type Places = BTreeMap<Vec<u8>, usize>;
 
 /// The label of a member.
 fn label_of(alloc: Global, text: &[u8], mark: &Mark) -> Result<Vec<u8>, AllocError>
@@ -36,7 +38,7 @@ fn put(places: &mut Places, label: Vec<u8>, at: usize) -> Result<(), AllocError>
 }
 
 /// The place of the first member with each label, of those from one place on and before another.
-pub fn places_of(
+fn places_of(
     alloc: Global,
     members: Members<'_>,
     from: usize,
@@ -54,16 +56,73 @@ pub fn places_of(
     Ok(places)
 }
 
-/// The place that stands under the label of a member of another text.
-pub fn place_of(
-    alloc: Global,
-    places: &Places,
-    text: &[u8],
-    mark: &Mark,
-) -> Result<Option<usize>, AllocError>
-    ensures { IfOk result
-        (λ place. place ≡ place_in places.now (label_in text.now mark.now)) }
-{
-    let label = label_of(alloc, text, mark)?;
-    Ok(places.get(label.as_slice()).copied())
+/// Labels that are looked for among the same members beside each other.
+#[derive(Drop)]
+pub struct Labels {
+    /// How often all members were passed.
+    passes: usize,
+    /// The place of each label, once they were passed too often.
+    places: Option<Places>,
+}
+
+impl Labels {
+    /// No label was looked for yet. It takes no memory.
+    #[inline(always)]
+    pub fn new() -> Labels
+        ensures { (members : Members) → (from : ℕ) → (end : ℕ)
+            → AreLabels members from end result }
+    {
+        Labels {
+            passes: 0,
+            places: None,
+        }
+    }
+
+    /// The place of the first member, from one place on and before another, with the label of one of another text. All
+    /// members are passed; where that was done too often, they are put in order.
+    pub fn find(
+        &mut self,
+        alloc: Global,
+        members: Members<'_>,
+        from: usize,
+        end: usize,
+        others: Members<'_>,
+        other: &Mark,
+    ) -> Result<Option<usize>, AllocError>
+        ensures first { AreLabels members.entry from end self.old
+            → IfOk result (IsFirst members.entry from end
+            (label_in others.entry.text.now other.now)) }
+        ensures labels { AreLabels members.entry from end self.old
+            → AreLabels members.entry from end self.new }
+    {
+        if self.passes < PASSES || end.saturating_sub(from) <= FEW {
+            self.passes = self.passes.saturating_add(1);
+            return Ok(members.find(from, end, others, other));
+        }
+        let label = label_of(alloc, others.text, other)?;
+        self.ordered(alloc, members, from, end, label.as_slice())
+    }
+
+    /// The same, by their order.
+    fn ordered(
+        &mut self,
+        alloc: Global,
+        members: Members<'_>,
+        from: usize,
+        end: usize,
+        label: &[u8],
+    ) -> Result<Option<usize>, AllocError>
+        ensures first { AreLabels members.entry from end self.old
+            → IfOk result (IsFirst members.entry from end label.now) }
+        ensures labels { AreLabels members.entry from end self.old
+            → AreLabels members.entry from end self.new }
+    {
+        if let Some(places) = &self.places {
+            return Ok(places.get(label).copied());
+        }
+        let places = places_of(alloc, members, from, end)?;
+        let place = places.get(label).copied();
+        self.places = Some(places);
+        Ok(place)
+    }
 }

@@ -1,20 +1,18 @@
 //! The members that two texts do not have in common, one below the other.
 
-ghost use Rattle.std.specs.Prelude.{◌≡◌, ◌+◌, ◌++◌, ◌∷◌, ◌<◌, ◌&&◌, ℕ, [], length, nat_lt};
-ghost use Rattle.std.specs.Prelude.{IfOk, IfSome, OnOk, Some, false, is_some, true};
+ghost use Rattle.std.specs.Prelude.{◌≡◌, ◌++◌, ◌∷◌, ◌<◌, ◌&&◌, ℕ, [], length, nat_lt};
+ghost use Rattle.std.specs.Prelude.{IfOk, IfSome, OnOk, is_some, true};
 ghost use Rattle.message_diff.specs.Differences.{leaves, has_path};
 ghost use Rattle.message_diff.specs.Paths.{start_in, path_in, paths_in};
 ghost use Rattle.message_diff.specs.Sorted.{AreSorted};
 ghost use Rattle.message_diff.specs.Known.{is_text};
 ghost use Rattle.message_diff.specs.Trees.{Forest, find_tree, joined, beside_in};
 ghost use Rattle.message_diff.specs.Marked.{AreMarksOf};
-ghost use Rattle.message_diff.specs.Labels.{HasPlaces};
+ghost use Rattle.message_diff.specs.Labels.{AreLabels};
 ghost use Rattle.message_diff.specs.Listed.{value_in, label_in, leaves_in, mark_at, marks_in};
-ghost use Rattle.message_diff.specs.Listed.{AreApart, IsAt, IsBeside, IsFound, IsLikely};
-ghost use Rattle.message_diff.specs.Listed.{TakesFrom, TakesInside, TakesOne};
+ghost use Rattle.message_diff.specs.Listed.{AreApart, IsAt, IsBeside, IsFound, IsLikely, TakesInside, TakesOne};
 
-use crate::labels::{Places, place_of, places_of};
-use crate::lookup::{FEW, PASSES};
+use crate::labels::Labels;
 use crate::members::{Members, name_of, part, value_of};
 use itoa::Buffer;
 use shown::Mark;
@@ -75,90 +73,40 @@ fn are_same(one: &[u8], other: &[u8]) -> bool
     one == other
 }
 
-/// Whether members were passed for one that was found, or for none.
-#[inline(always)]
-fn is_passed(found: Option<usize>, likely: usize) -> bool
-    ensures { result ≡ false → found ≡ Some likely }
-{
-    match found {
-        Some(place) => place != likely,
-        None => true,
-    }
-}
-
-impl Span {
-    /// Whether there are many members, and they were passed so often that they are put in order.
-    fn is_long(self, passes: usize) -> bool
-        ensures { result ≡ true → self.at + 64 < self.end }
-    {
-        passes >= PASSES && self.end.saturating_sub(self.at) > FEW
-    }
-}
-
 impl Both<'_> {
-    /// Whether the other text's member with the name of the one at this place is where it is likely.
-    #[inline(always)]
-    fn is_likely(self, at: usize, others: Span, likely: usize) -> bool
-        requires { at < length self.own.marks.now }
-        ensures within { result ≡ true → likely < length self.entry.others.marks.now }
-        ensures found { result ≡ true → (g : Forest) → AreApart g
-            → IsLikely self.entry.others.text.now self.entry.others.marks.now others.end g likely
-            → IsAt self.entry.others.text.now self.entry.others.marks.now others.end
-            (label_in self.entry.own.text.now (mark_at self.entry.own.marks.now at)) g likely }
-    {
-        let mark = &self.own.marks[at];
-        if likely < others.end && likely < self.others.marks.len() {
-            let other = &self.others.marks[likely];
-            return self.others.is_named_as(other, self.own, mark);
-        }
-        false
-    }
-
     /// The place of the other text's member with the name of the one at this place: it is looked for first where it is
     /// likely.
     #[inline(always)]
-    fn find(self, at: usize, others: Span, likely: usize) -> Option<usize>
-        requires { at < length self.own.marks.now }
-        ensures within { IfSome result (λ place. place < length self.entry.others.marks.now) }
-        ensures found { (g : Forest) → AreApart g
-            → AreMarksOf self.entry.others.text.now others.at
-            (marks_in self.entry.others.marks.now others.at others.end) g
-            → IsLikely self.entry.others.text.now self.entry.others.marks.now others.end g likely
-            → IsFound self.entry.others.text.now self.entry.others.marks.now others.end
-            (label_in self.entry.own.text.now (mark_at self.entry.own.marks.now at)) g result }
-    {
-        if self.is_likely(at, others, likely) {
-            return Some(likely);
-        }
-        let mark = &self.own.marks[at];
-        self.others.find(others.at, others.end, self.own, mark)
-    }
-
-    /// The same, where the places of the other text's members are known.
-    fn find_in(
+    fn find(
         self,
         alloc: Global,
         at: usize,
         others: Span,
         likely: usize,
-        places: &Places,
+        labels: &mut Labels,
     ) -> Result<Option<usize>, AllocError>
         requires { at < length self.own.marks.now }
-        ensures within { HasPlaces self.entry.others others.at others.end places.now
+        ensures within { AreLabels self.entry.others others.at others.end labels.old
             → IfOk result (λ found. IfSome found
             (λ place. place < length self.entry.others.marks.now)) }
-        ensures found { HasPlaces self.entry.others others.at others.end places.now
+        ensures found { AreLabels self.entry.others others.at others.end labels.old
             → IfOk result (λ found. (g : Forest) → AreApart g
             → AreMarksOf self.entry.others.text.now others.at
             (marks_in self.entry.others.marks.now others.at others.end) g
             → IsLikely self.entry.others.text.now self.entry.others.marks.now others.end g likely
             → IsFound self.entry.others.text.now self.entry.others.marks.now others.end
             (label_in self.entry.own.text.now (mark_at self.entry.own.marks.now at)) g found) }
+        ensures labels { AreLabels self.entry.others others.at others.end labels.old
+            → AreLabels self.entry.others others.at others.end labels.new }
     {
-        if self.is_likely(at, others, likely) {
-            return Ok(Some(likely));
+        let mark = &self.own.marks[at];
+        if likely < others.end && likely < self.others.marks.len() {
+            let other = &self.others.marks[likely];
+            if self.others.is_named_as(other, self.own, mark) {
+                return Ok(Some(likely));
+            }
         }
-        place_of(alloc, places, self.own.text, &self.own.marks[at])
+        labels.find(alloc, self.others, others.at, others.end, self.own, mark)
     }
 
     /// The members beside those that are inside the one at this place, where that has leaves: none where the other text
@@ -354,7 +302,6 @@ impl Leaves {
 
     /// Adds the leaves of the member at this place, behind which the next one is there, beside the other text's member
     /// at another place, if there is one.
-    #[inline(always)]
     #[cycle(leaves)]
     fn take_one(
         &mut self,
@@ -401,48 +348,10 @@ impl Leaves {
         let len = self.path.len();
         let mut at = own.at;
         let mut likely = others.at;
-        let mut passes = 0usize;
+        let mut labels = Labels::new();
         while at < own.end && at < both.own.marks.len() {
             let next = both.own.next_of(at, own.end);
-            let found = both.find(at, others, likely);
-            self.path.truncate(len);
-            if is_passed(found, likely) {
-                if others.is_long(passes) {
-                    let left = Span { at, end: own.end };
-                    return self.take_many(alloc, both, left, others, likely);
-                }
-                passes = passes.saturating_add(1);
-            }
-            likely = both.others.behind(found, likely);
-            self.take_one(alloc, both, at, next, found)?;
-            at = next;
-        }
-        Ok(())
-    }
-
-    /// The same, where those of the other text are put in order first.
-    #[inline(never)]
-    #[cycle(leaves)]
-    fn take_many(
-        &mut self,
-        alloc: Global,
-        both: Both<'_>,
-        own: Span,
-        others: Span,
-        first: usize,
-    ) -> Result<(), AllocError>
-        ensures { OnOk result
-            (TakesFrom both.entry.is_part both.entry.own.text.now both.entry.own.marks.now
-            own.at own.end both.entry.others.text.now both.entry.others.marks.now
-            others.at others.end first self.old self.new) }
-    {
-        let places = places_of(alloc, both.others, others.at, others.end)?;
-        let len = self.path.len();
-        let mut at = own.at;
-        let mut likely = first;
-        while at < own.end && at < both.own.marks.len() {
-            let next = both.own.next_of(at, own.end);
-            let found = both.find_in(alloc, at, others, likely, &places)?;
+            let found = both.find(alloc, at, others, likely, &mut labels)?;
             likely = both.others.behind(found, likely);
             self.path.truncate(len);
             self.take_one(alloc, both, at, next, found)?;

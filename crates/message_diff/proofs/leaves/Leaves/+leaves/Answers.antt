@@ -2,11 +2,11 @@ use Rattle.std.proofs.Common.{sym, ap, ◌∙◌, refl, subst, inl, inr, arith, 
 use Rattle.std.proofs.lemmas.Result.{on_ok_weaker}
 use Rattle.message_diff.specs.declared.leaves.Leaves.{Leaves}
 use Rattle.message_diff.proofs.Gone.{on_ok_both}
-use Rattle.message_diff.proofs.Passing.{Passes, passes_end, passes_from, passes_init, passes_next, passes_rest}
+use Rattle.message_diff.proofs.Passing.{Passes, passes_init, passes_next, passes_end}
 use Rattle.message_diff.proofs.Passing.{takes_none, takes_nest, takes_leaf}
 use Rattle.message_diff.proofs.leaves.Leaves.+leaves.Goals as goal
-use Rattle.message_diff.proofs.leaves.Leaves.+leaves.Goals.{take_many-else-loop-at-test}
-use Rattle.message_diff.proofs.leaves.Leaves.+leaves.Goals.{take_many-then-loop-at-test+else-at-both}
+use Rattle.message_diff.proofs.leaves.Leaves.+leaves.Goals.{take_span-else-loop-at-test}
+use Rattle.message_diff.proofs.leaves.Leaves.+leaves.Goals.{take_span-then-loop-at-test+else-at-both}
 
 pub take_one-returns-in_default : goal.take_one-returns-in_default
 take_one-returns-in_default t c = λ inside g end apart tidy in_it found.
@@ -51,6 +51,7 @@ take_span-loop-at-init t c =
           passes_init c.args.both.is_part own.text.now own.marks.now others.text.now others.marks.now c.args.own.at
           c.args.own.end
           c.args.others.at c.args.others.end f g c.args.self.now tidy are are_too;
+      labels = c.new-labels.ensures c.args.both.others c.args.others.at c.args.others.end;
     }
 
 pub take_span-loop-at-preserved : goal.take_span-loop-at-preserved
@@ -64,77 +65,7 @@ take_span-loop-at-preserved t c =
       long = i.long;
       passes = λ f g apart tidy are are_too.
           let p = i.passes f g apart tidy are are_too in
-          let found = c.find-found.ensures.found g apart are_too p.is_likely in
-          let mid : Leaves = record c.loop-at.self { path = c.truncate.new.self } in
-          let cut = e.items ∙ ap (λ n. take n c.loop-at.self.path.items) i.long in
-          subst (λ (n : ℕ). Passes c.args.both.is_part own.text.now own.marks.now others.text.now others.marks.now
-          c.next_of-next.result
-          c.args.own.end c.args.others.end n f g c.args.self.now c.take_one.new.self)
-          (sym c.behind-likely.ensures)
-          (passes_next c.args.both.is_part own.text.now own.marks.now others.text.now others.marks.now c.loop-at.at
-          c.args.own.end
-          c.args.others.end c.loop-at.likely c.next_of-next.result c.find-found.result f g c.args.self.now
-          c.loop-at.self mid c.take_one.new.self c.loop-at-test.true c.if-at-both.true apart
-          c.next_of-next.ensures.next found refl refl cut c.in_ok-take_one.ensures p);
-    }
-
-pub take_span-returns-then-is_long : goal.take_span-returns-then-is_long
-take_span-returns-then-is_long t c =
-    let own = c.args.both.own in
-    let others = c.args.both.others in
-    let i = c.loop-at.invariant in
-    on_ok_weaker c.take_many.result
-    (λ takes f g apart tidy are are_too.
-    let mid : Leaves = record c.loop-at.self { path = c.truncate.new.self } in
-    passes_rest c.args.both.is_part own.text.now own.marks.now others.text.now others.marks.now c.loop-at.at
-    c.args.own.end c.args.others.at c.args.others.end c.loop-at.likely f g c.args.self.now c.loop-at.self mid
-    c.take_many.new.self apart are_too refl refl
-    (c.truncate.ensures.items ∙ ap (λ n. take n c.loop-at.self.path.items) i.long) takes
-    (i.passes f g apart tidy are are_too)) c.take_many.ensures
-
-pub take_span-returns-else-at-both : goal.take_span-returns-else-at-both
-take_span-returns-else-at-both t c = λ f g apart tidy are are_too.
-    let own = c.args.both.own in
-    let others = c.args.both.others in
-    passes_end c.args.both.is_part own.text.now own.marks.now others.text.now others.marks.now c.loop-at.at
-    c.args.own.end c.args.others.end
-    c.loop-at.likely f g c.args.self.now c.loop-at.self (inr c.if-at-both.false)
-    (c.loop-at.invariant.passes f g apart tidy are are_too)
-
-pub take_span-returns-after-loop-at : goal.take_span-returns-after-loop-at
-take_span-returns-after-loop-at t c = λ f g apart tidy are are_too.
-    let own = c.args.both.own in
-    let others = c.args.both.others in
-    passes_end c.args.both.is_part own.text.now own.marks.now others.text.now others.marks.now c.loop-at.at
-    c.args.own.end c.args.others.end
-    c.loop-at.likely f g c.args.self.now c.loop-at.self (inl c.loop-at-test.false)
-    (c.loop-at.invariant.passes f g apart tidy are are_too)
-
-pub take_many-loop-at-init : goal.take_many-loop-at-init
-take_many-loop-at-init t c =
-    let own = c.args.both.own in
-    let others = c.args.both.others in
-    record {
-      behind = omega arith;
-      long = c.len-len.ensures ∙ c.args.self.now.path.ok.0;
-      passes = λ f g apart tidy are are_too is_likely.
-          passes_from c.args.both.is_part own.text.now own.marks.now others.text.now others.marks.now c.args.own.at
-          c.args.own.end
-          c.args.others.end c.args.first f g c.args.self.now tidy are is_likely;
-    }
-
-pub take_many-loop-at-preserved : goal.take_many-loop-at-preserved
-take_many-loop-at-preserved t c =
-    let own = c.args.both.own in
-    let others = c.args.both.others in
-    let i = c.loop-at.invariant in
-    let e = c.truncate.ensures in
-    record {
-      behind = let k : c.args.own.at ≤ c.loop-at.at = i.behind in omega (arith, c.next_of-next.ensures.behind);
-      long = i.long;
-      passes = λ f g apart tidy are are_too is_likely.
-          let p = i.passes f g apart tidy are are_too is_likely in
-          let found = c.in_ok-found.ensures.found c.in_ok-places.ensures g apart are_too p.is_likely in
+          let found = c.in_ok-found.ensures.found i.labels g apart are_too p.is_likely in
           let mid : Leaves = record c.loop-at.self { path = c.truncate.new.self } in
           let cut = e.items ∙ ap (λ n. take n c.loop-at.self.path.items) i.long in
           subst (λ (n : ℕ). Passes c.args.both.is_part own.text.now own.marks.now others.text.now others.marks.now
@@ -146,25 +77,26 @@ take_many-loop-at-preserved t c =
           c.args.others.end c.loop-at.likely c.next_of-next.result c.in_ok-found.found f g c.args.self.now
           c.loop-at.self mid c.take_one.new.self c.loop-at-test.true c.if-at-both.true apart
           c.next_of-next.ensures.next found refl refl cut c.in_ok-take_one.ensures p);
+      labels = c.in_ok-found.ensures.labels i.labels;
     }
 
-pub take_many-behind-likely-requires : goal.take_many-behind-likely-requires
-take_many-behind-likely-requires t c = c.in_ok-found.ensures.within c.in_ok-places.ensures
+pub take_span-behind-likely-requires : goal.take_span-behind-likely-requires
+take_span-behind-likely-requires t c = c.in_ok-found.ensures.within c.loop-at.invariant.labels
 
-pub take_many-take_one-requires : goal.take_many-take_one-requires
-take_many-take_one-requires t c =
-    (search rules, (c.if-at-both.true, c.in_ok-found.ensures.within c.in_ok-places.ensures))
+pub take_span-take_one-requires : goal.take_span-take_one-requires
+take_span-take_one-requires t c =
+    (search rules, (c.if-at-both.true, c.in_ok-found.ensures.within c.loop-at.invariant.labels))
 
-pub take_many-returns : goal.take_many-returns
-take_many-returns t c = λ f g apart tidy are are_too is_likely.
+pub take_span-returns : goal.take_span-returns
+take_span-returns t c = λ f g apart tidy are are_too.
     let own = c.args.both.own in
     let others = c.args.both.others in
     let over : c.args.own.end ≤ c.loop-at.at ⊎ length own.marks.now ≤ c.loop-at.at =
     elim c.loop-at-test.branch [
-      | take_many-then-loop-at-test+else-at-both w ↦ inr w.if-at-both.false
-      | take_many-else-loop-at-test w ↦ inl w.loop-at-test.false
+      | take_span-then-loop-at-test+else-at-both w ↦ inr w.if-at-both.false
+      | take_span-else-loop-at-test w ↦ inl w.loop-at-test.false
     ] in
     passes_end c.args.both.is_part own.text.now own.marks.now others.text.now others.marks.now c.loop-at.at
     c.args.own.end c.args.others.end
     c.loop-at.likely f g c.args.self.now c.loop-at.self over
-    (c.loop-at.invariant.passes f g apart tidy are are_too is_likely)
+    (c.loop-at.invariant.passes f g apart tidy are are_too)
