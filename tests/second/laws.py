@@ -1,6 +1,6 @@
 #!/usr/bin/env python3
-"""Holds linkdiff to the five laws of docs/LINKDIFF.md over streams that a seed makes, and beside told.py, a model that
-was written from that page.
+"""Holds linkdiff to the five laws of docs/LINKDIFF.md over streams that a seed makes, and to told.py, a model of the
+rules of that page.
 
     laws.py [--streams N] [--seed N] [--slips] FOLDER
     laws.py --store

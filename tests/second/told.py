@@ -1,5 +1,5 @@
-"""A model of linkdiff over what the second reader says of messages and linkshow shows of them, written from
-docs/LINKDIFF.md: messages() knows the messages of lines, and Model says what each line is to be told."""
+"""A model of linkdiff by the rules of docs/LINKDIFF.md, over what the second reader says of messages and linkshow shows
+of them: messages() knows the messages of lines, and Model says what each line is to be told."""
 import json
 import re
 import subprocess
