@@ -159,7 +159,8 @@
 #![allow(non_upper_case_globals)]
 // forms of the sources that this is made from
 #![allow(clippy::manual_map, clippy::match_like_matches_macro, clippy::needless_range_loop)]
-#![allow(clippy::manual_flatten, clippy::redundant_closure, clippy::unnecessary_map_on_constructor)]
+#![allow(clippy::manual_flatten, clippy::non_canonical_clone_impl, clippy::redundant_closure)]
+#![allow(clippy::unnecessary_map_on_constructor)]
 #![allow(clippy::single_match, clippy::slow_vector_initialization, clippy::while_let_on_iterator)]
 
 #[cfg(not(any(target_pointer_width = "32", target_pointer_width = "64")))]

@@ -1,10 +1,9 @@
 //! Typed views of a message over borrowed bytes: no memory is taken, and only what is asked for is read.
 //!
 //! [`LinkView::new`] checks the whole message, as [`LinkMessage::parse`](crate::LinkMessage::parse) does, and
-//! [`LinkView::peek`] its header alone. A **key** is a type that stands for a variant of
-//! [`LinkAttribute`](crate::LinkAttribute) and has its name: of the last attribute of its number
-//! [`get`](LinkView::get) reads the value that `parse` gives under that variant, over borrowed bytes.
-//! [`iter`](LinkView::iter) reads all, front to back.
+//! [`LinkView::peek`] its header alone. A **key** is a type that stands for a variant of [`LinkAttribute`] and has its
+//! name: of the last attribute of its number [`get`](LinkView::get) reads the value that `parse` gives under that
+//! variant, over borrowed bytes. [`iter`](LinkView::iter) reads all, front to back.
 //!
 //! ```
 //! use linkwire::view::{AttributeView, IfName, LinkView, Mtu, OperState};
@@ -128,6 +127,8 @@ pub trait Place<'a>: Sized {
     /// # Errors
     ///
     /// The fault of the payload.
+    ///
+    /// [`ListView`] has an example of what is made of it.
     fn member(attribute: Attribute<'a>, family: AddressFamily) -> Result<Option<Self::Member>, DecodeError>;
 }
 
