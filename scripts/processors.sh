@@ -5,15 +5,18 @@
 # tests/c, whose bytes are lowest first, is left out: processors.sh [LINES [PROCESSOR..]].
 #
 # It takes Debian's packages qemu-user-static, gcc-TRIPLET and libstd-rust-dev of the processor, or a rustc whose target
-# is there; a processor that lacks one is said to be skipped. SYSROOTS is the folder that has the folders of the
-# triplets, by default /usr. The last line says how many processors were tested.
+# is there; a processor that lacks one is said to be skipped. What this machine runs itself, as i386 on x86-64, is run
+# without qemu. SYSROOTS is the folder that has the folders of the triplets, by default /usr. The last line says how many
+# processors were tested.
 self=processors
 . "$(dirname "$0")/common.sh"
 count=${1:-20000}
 wanted=("${@:2}")
 sysroots=${SYSROOTS:-/usr}
 export CARGO_NET_OFFLINE=true CARGO_TARGET_DIR=${CARGO_TARGET_DIR:-$folder/target}
-export CARGO_INCREMENTAL=0 CARGO_PROFILE_DEV_DEBUG=0 CARGO_PROFILE_TEST_DEBUG=0
+export RUST_BACKTRACE=0 CARGO_INCREMENTAL=0 CARGO_PROFILE_DEV_DEBUG=0 CARGO_PROFILE_TEST_DEBUG=0
+# of the crate, not of the tests: overflow is checked all the same, and qemu takes less time
+export CARGO_PROFILE_DEV_OPT_LEVEL=1 CARGO_PROFILE_TEST_OPT_LEVEL=0
 needs cargo rustc python3
 
 # the processor as Debian names it, rustc's target, the triplet of its C, and qemu's name
@@ -91,14 +94,19 @@ tests_c() {
 
 # tests NAME TARGET TRIPLET QEMU: one processor
 tests() {
-    local name=$1 target=$2 triplet=$3 qemu rustc variable is_turned=''
+    local name=$1 target=$2 triplet=$3 qemu rustc variable loader runner is_turned=''
     qemu=$(command -v "qemu-$4" || command -v "qemu-$4-static" || true)
     rustc=$(rust_of "$target")
     [ -n "$qemu" ] || { echo "$self: $name: skipped: no qemu-$4" && return; }
     command -v "$triplet-gcc" >/dev/null || { echo "$self: $name: skipped: no $triplet-gcc" && return; }
     [ -n "$rustc" ] || { echo "$self: $name: skipped: no library of $target for rustc" && return; }
+    runner=("$qemu" -L "$sysroots/$triplet")
+    loader=$sysroots/$triplet/lib/ld-linux.so.2
+    if "$loader" --version >/dev/null 2>&1; then
+        runner=("$loader" --library-path "$sysroots/$triplet/lib")
+    fi
     variable=CARGO_TARGET_$(tr a-z- A-Z_ <<<"$target")
-    export "${variable}_LINKER=$triplet-gcc" "${variable}_RUNNER=$qemu -L $sysroots/$triplet"
+    export "${variable}_LINKER=$triplet-gcc" "${variable}_RUNNER=${runner[*]}"
     PATH=$(dirname "$rustc"):$PATH
     export PATH RUSTC=$rustc
     "$rustc" --print cfg --target "$target" | grep -q '^target_endian="big"$' && is_turned=turned.canonical
@@ -106,8 +114,8 @@ tests() {
     runs cargo test --locked --target "$target" </dev/null
     awk -v of="$self: $name: " '/^test result: ok/ { ok += $4; not += $8 }
         END { print of ok " tests passed, " not " ignored" }' "$log"
-    answers "$qemu" -L "$sysroots/$triplet" "$CARGO_TARGET_DIR/$target/debug/examples/lines"
-    [ "$is_turned" ] || tests_c "$target" "$triplet" "$qemu" -L "$sysroots/$triplet"
+    answers "${runner[@]}" "$CARGO_TARGET_DIR/$target/debug/examples/lines"
+    [ "$is_turned" ] || tests_c "$target" "$triplet" "${runner[@]}"
     tested=$((tested + 1))
 }
 

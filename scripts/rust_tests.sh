@@ -15,6 +15,24 @@ cd "$top/rust"
 runs cargo test --locked
 awk '/^test result: ok/ { sum += $4 } END { print "rust: " sum " tests passed" }' "$folder/log"
 
+# by the oldest rustc that the crate is said to need: a toolchain of rustup, or the distribution's
+oldest=$(sed -n 's/^rust-version = "\(.*\)"/\1/p' Cargo.toml)
+toolchain=$(rustup toolchain list 2>/dev/null | grep -oE "^${oldest//./\\.}(\.[0-9]+)?-[^ ]+" | head -n 1 || true)
+old=()
+if [ -n "$toolchain" ]; then
+    old=(rustup run "$toolchain" cargo)
+elif [[ $(/usr/bin/rustc --version 2>/dev/null) = "rustc $oldest."* ]] && [ -x /usr/bin/cargo ]; then
+    old=(env RUSTC=/usr/bin/rustc RUSTDOC=/usr/bin/rustdoc /usr/bin/cargo)
+fi
+if [ "${#old[@]}" != 0 ]; then
+    CARGO_TARGET_DIR=$folder/oldest runs "${old[@]}" test --locked
+    awk -v old="$oldest" '/^test result: ok/ { sum += $4 } END { print "rust: " sum " tests passed by rustc " old }' \
+        "$folder/log"
+    rm -rf "$folder/oldest"
+else
+    echo "rust: the tests by rustc $oldest: skipped: no such rustc"
+fi
+
 "$top/scripts/rust_netlink.sh"
 
 # block LANGUAGE: the first of that language after the page's line '<!-- runs: rust -->'
