@@ -6,8 +6,8 @@
 #
 # It takes Debian's packages qemu-user-static, gcc-TRIPLET and libstd-rust-dev of the processor, or a rustc whose target
 # is there; a processor that lacks one is said to be skipped. What this machine runs itself, as i386 on x86-64, is run
-# without qemu. SYSROOTS is the folder that has the folders of the triplets, by default /usr. The last line says how many
-# processors were tested.
+# without qemu. SYSROOTS is the folder that has the folders of the triplets, by default /usr. The last line says how
+# many processors were tested.
 self=processors
 . "$(dirname "$0")/common.sh"
 count=${1:-20000}
@@ -56,9 +56,15 @@ makes_lines() {
         grep -v '^#' "$top/tests/kernels/messages.txt"
         cat "$folder/made"
         awk -v each=$(($(wc -l <"$folder/all") / (count - count / 2) + 1)) 'NR % each == 0' "$folder/all"
-    } | head -n "$count" >"$folder/lines"
+    } | awk -v count="$count" 'NR <= count' >"$folder/lines"
     "$linkwire" <"$folder/lines" >"$folder/canonical"
     "$linkstate" <"$folder/lines" >"$folder/state"
+}
+
+# turns_lines: once, the lines and the answers as machines of the other byte order have them
+turns_lines() {
+    local it
+    [ ! -e "$folder/turned.state" ] || return 0
     for it in canonical state; do
         python3 "$top/scripts/turned.py" "$folder/lines" "$folder/$it" "$folder/turned.$it" "$folder/answers.$it" \
             >"$folder/log"
@@ -70,6 +76,7 @@ answers() {
     local it
     makes_lines
     [ -s "$folder/canonical" ] || return 0
+    [ -z "$is_turned" ] || turns_lines
     for it in canonical state; do
         if [ "$is_turned" ]; then
             "$@" "${it/canonical/}" <"$folder/turned.$it" | cmp - "$folder/answers.$it"
