@@ -13,3 +13,4 @@ pub mod Entries
 pub mod Parts
 pub mod Repeated
 pub mod Names
+pub mod Records
