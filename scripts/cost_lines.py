@@ -121,6 +121,12 @@ def refused_turning(count):
                             for at in range(count)) for is_on in (0, 1) * 2]
 
 
+def refused_swapped(count):
+    """So many attributes that are refused: MTUs of three bytes in a line, and queue lengths in the next."""
+    return [HEAD + b"".join(frame((IFLA_MTU, IFLA_TXQLEN)[is_on], struct.pack("<I", at)[:3]) for at in range(count))
+            for is_on in (0, 1) * 2]
+
+
 def long(size):
     """Half texts and half names, all in so many bytes, and an MTU that turns."""
     text = frame(IFLA_IFALIAS, b"a text " * 8000)
@@ -172,6 +178,8 @@ def of_messages():
         "stats-repeated": repeated(IFLA_STATS64, bytes(range(200)), 64),
         "mtus-repeated": repeated(IFLA_MTU, struct.pack("<I", 1500), 256),
         "refused-turning": refused_turning(256),
+        "refused-64": refused_swapped(64),
+        "refused-256": refused_swapped(256),
         "long": long(140_000) + long(1_000_000),
         # half of the message stays
         "turning-alias": [HEAD + kept + alias for alias in aliases(len(kept), 20)],

@@ -42,7 +42,8 @@ FILES = "linkdiff--files"
 OPTIONS = {"linkshow--lenient": ["--lenient"], "linkshow--kernel": ["--kernel", "6.16.0"],
            "linkstate--lenient": ["--lenient"], "linkdiff--lenient": ["--lenient"],
            "linkdiff--counters": ["--counters"], "linkdiff--changes-only": ["--changes-only"], FILES: []}
-OF_OPTIONS = ["dumps", "repeats", "events", "damaged", "settings-64", "swapped-64", "all-refused", "refused-turning"]
+OF_OPTIONS = ["dumps", "repeats", "events", "damaged", "settings-64", "swapped-64", "all-refused", "refused-turning",
+              "refused-64", "refused-256"]
 LIBRARY, CRATE, DUMP = "link_c", "rust", "linkdump--read"
 CALLS = ["check", "canonical_len", "canonical", "state", "same_message", "unlike_message", "same_state", "unlike_state",
          "next", "pick", "put", "fault_at", "fault_path", "canonical_lenient_len", "canonical_lenient", "state_lenient",
