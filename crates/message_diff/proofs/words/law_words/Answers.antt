@@ -14,11 +14,11 @@ unfolding answer_keys own_keys
 told_new None None None = tt
 told_new None None (Some c) = (refl, tt)
 told_new None (Some b) None = (refl, tt)
-told_new None (Some b) (Some c) = (refl, refl, tt)
+told_new None (Some b) (Some c) = (refl, (refl, tt))
 told_new (Some a) None None = (refl, tt)
-told_new (Some a) None (Some c) = (refl, refl, tt)
-told_new (Some a) (Some b) None = (refl, refl, tt)
-told_new (Some a) (Some b) (Some c) = (refl, refl, refl, tt)
+told_new (Some a) None (Some c) = (refl, (refl, tt))
+told_new (Some a) (Some b) None = (refl, (refl, tt))
+told_new (Some a) (Some b) (Some c) = (refl, (refl, (refl, tt)))
 
 pub returns : goal.returns
 returns c front =
