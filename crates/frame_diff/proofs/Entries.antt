@@ -1,12 +1,12 @@
 -- Attributes that are kept as they are: what they tell at their places.
 use Rattle.std.proofs.Common.{◌≡◌, ℕ, zero, suc, ◌+◌, ◌*◌, ◌<◌, ◌≤◌, Bool, true, false, List, [], ◌∷◌, ◌++◌, refl}
-use Rattle.std.proofs.Common.{sym, ap, ◌∙◌, Ok, append-nil, arith, eqb-true, eq-eqb}
+use Rattle.std.proofs.Common.{sym, ap, ◌∙◌, Ok, append-nil, arith, eqb-true, eq-eqb, map, length}
 use Rattle.std.specs.Prelude.{Option, Some, None, ◌==◌, bit_and, codes, cond, decimal, option_map}
 use Rattle.std.proofs.lemmas.List.{map-append}
 use Rattle.std.proofs.lemmas.List.Sums.{fold-append}
 use Rattle.json.specs.Token.{Token, number as number_token}
 use Rattle.nla_wire.specs.Frames.{Frame, number}
-use Rattle.nla_wire.specs.Items.{Item, frame_count}
+use Rattle.nla_wire.specs.Items.{Item, frame_count, items}
 use Rattle.link_info.specs.Tables.{frames_in}
 use Rattle.shown.specs.Drafts.{Draft, Members, object_of, with_members, with_value}
 use Rattle.shown.specs.Values.{flags_of}
@@ -20,12 +20,12 @@ use Rattle.frame_shown.proofs.Items.{on_next}
 use Rattle.frame_diff.specs.Counters.{is_passed}
 use Rattle.frame_diff.specs.Differences.{inside_in, leaf_in}
 use Rattle.frame_diff.specs.Forests.{Forest, Held, Step, comes, find, forest}
-use Rattle.frame_diff.specs.Items.{items_told, joined, leaf_items}
+use Rattle.frame_diff.specs.Items.{items_told, joined, leaf_items, member_items}
 use Rattle.frame_diff.specs.Members.{as_object, fields, is_nest, kept_by, placed, places}
 use Rattle.frame_diff.specs.Values.{entry_held, entry_items, flags_shown, is_at, kept_among, kept_forest, kept_members}
 use Rattle.frame_diff.specs.Values.{kept_of, less_by, maybe_items, more_by, name_items, name_shown, nth, number_shown}
 use Rattle.frame_diff.specs.Values.{payload_shown, text_or_none}
-use Rattle.frame_diff.specs.Walked.{held_items}
+use Rattle.frame_diff.specs.Walked.{held_items, last_items}
 use Rattle.frame_diff.specs.declared.kept.Entry.{Entry}
 use Rattle.frame_diff.specs.declared.kept.Entry.TheVariants as Entries
 use Rattle.frame_diff.specs.declared.kept.Kept.{Kept}

@@ -13,4 +13,3 @@ pub mod Entries
 pub mod Parts
 pub mod Repeated
 pub mod Names
-pub mod Records

@@ -1,6 +1,6 @@
 -- No two numbers of a list are shown under one name, by computation over the rows.
 use Rattle.std.proofs.Common.{◌≡◌, ℕ, zero, suc, ◌+◌, ◌<◌, Bool, true, false, List, [], ◌∷◌, refl, sym, ap, ◌∙◌, map}
-use Rattle.std.proofs.Common.{arith, eqb-true, eq-eqb}
+use Rattle.std.proofs.Common.{arith, eqb-true, eq-eqb, get_or}
 use Rattle.std.specs.Prelude.{Option, Some, None, ◌==◌, ◌&&◌, ◌||◌, codes, cond, nat_lt, not}
 use Rattle.std.specs.List.{find, list_any}
 use Rattle.std.proofs.Math.Bool.{or-true}

@@ -1,10 +1,10 @@
 -- Attributes behind which another one of their name stands: what they tell at their places.
-use Rattle.std.proofs.Common.{◌≡◌, ℕ, zero, suc, ◌+◌, ◌≤◌, Bool, true, false, List, [], ◌∷◌, ◌++◌, refl}
+use Rattle.std.proofs.Common.{◌≡◌, ℕ, zero, suc, ◌+◌, ◌*◌, ◌<◌, ◌≤◌, Bool, true, false, List, [], ◌∷◌, ◌++◌, refl}
 use Rattle.std.proofs.Common.{sym, ap, ◌∙◌, Ok, append-nil, arith}
 use Rattle.std.specs.Prelude.{Option, Some, None, cond, decimal, option_map}
 use Rattle.std.proofs.lemmas.List.{map-append}
 use Rattle.nla_wire.specs.Frames.{Frame, number}
-use Rattle.nla_wire.specs.Items.{Item, frame_count}
+use Rattle.nla_wire.specs.Items.{Item, frame_count, items}
 use Rattle.link_info.specs.Tables.{frames_in}
 use Rattle.shown.specs.Drafts.{Draft, object_of, with_members}
 use Rattle.frame_shown.specs.Items.{objects}
@@ -14,12 +14,12 @@ use Rattle.frame_shown.proofs.Items.{on_next}
 use Rattle.frame_diff.specs.Beside.{held_of}
 use Rattle.frame_diff.specs.Counters.{is_passed}
 use Rattle.frame_diff.specs.Differences.{inside_in}
-use Rattle.frame_diff.specs.Forests.{Held, Member, Step, comes, find, forest}
+use Rattle.frame_diff.specs.Forests.{Forest, Held, Member, Step, comes, find, forest}
 use Rattle.frame_diff.specs.Items.{items_told, joined}
 use Rattle.frame_diff.specs.Members.{Reading, alone, earlier, named_in, placed, places}
 use Rattle.frame_diff.specs.Repeated.{again_held, again_in, again_items, alone_at, is_next, left_by, place_by}
 use Rattle.frame_diff.specs.Values.{nth}
-use Rattle.frame_diff.specs.Walked.{Holding, Showing, held_at, held_items}
+use Rattle.frame_diff.specs.Walked.{Holding, Showing, held_at, held_items, reading_at}
 use Rattle.frame_diff.specs.declared.again.Named.{Named}
 use Rattle.frame_diff.specs.declared.side.Side.{Side}
 use Rattle.frame_diff.proofs.Entries.{AreNests, found_place, later}

@@ -17,6 +17,8 @@ use Rattle.link_info.specs.Tables.{frames_in}
 use Rattle.shown.specs.Drafts.{Draft, object_of, with_members}
 use Rattle.frame_shown.specs.Items.{objects}
 use Rattle.frame_shown.specs.Tables.{is_kept, row_in}
+use Rattle.frame_shown.specs.Values.{Nesting}
+use Rattle.frame_shown.specs.declared.form.Around.{Around}
 use Rattle.frame_shown.specs.declared.form.List.{List as Shape}
 use Rattle.frame_shown.proofs.Items.{on_next}
 use Rattle.frame_diff.specs.Beside.{held_of, is_named}

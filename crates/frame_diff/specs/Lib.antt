@@ -10,5 +10,4 @@ pub mod Names
 pub mod Walked
 pub mod Values
 pub mod Repeated
-pub mod Records
 pub mod Laws

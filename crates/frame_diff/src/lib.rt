@@ -10,6 +10,5 @@ pub mod list;
 pub mod members;
 pub mod named;
 pub mod path;
-pub mod record;
 pub mod side;
 pub mod walk;

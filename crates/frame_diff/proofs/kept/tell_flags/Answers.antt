@@ -1,5 +1,6 @@
+use Rattle.std.proofs.Common.{[], ◌∷◌}
 use Rattle.std.proofs.lemmas.Result.{on_ok_weaker}
-use Rattle.std.specs.Prelude.{bit_and, codes, option_map}
+use Rattle.std.specs.Prelude.{bit_and, codes, decimal, option_map}
 use Rattle.shown.specs.Values.{flags_of}
 use Rattle.frame_shown.specs.Kept.{frame_flags}
 use Rattle.frame_shown.specs.Values.{hexadecimal}

@@ -1,5 +1,6 @@
+use Rattle.std.proofs.Common.{[], ◌∷◌}
 use Rattle.std.proofs.lemmas.Result.{on_ok_weaker}
-use Rattle.std.specs.Prelude.{codes, option_map}
+use Rattle.std.specs.Prelude.{bit_and, codes, decimal, option_map}
 use Rattle.frame_shown.specs.Values.{hexadecimal}
 use Rattle.frame_diff.specs.Items.{joined}
 use Rattle.frame_diff.specs.Values.{payload_shown, value_shown}
