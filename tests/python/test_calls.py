@@ -185,8 +185,9 @@ class Calls(unittest.TestCase):
     def test_lenient(self):
         """What linkshow --lenient and linkstate --lenient answer, and where nothing is refused what all do."""
         for words, message, shown, state in stored_lenient():
-            found = {**words, **linkwire.show(message, words.get("kernel"), lenient=True)}
-            self.assertEqual(found, shown)
+            others = shown.pop("words", [])
+            members = {key: it for key, it in words.items() if f"{key}={it}" not in others}
+            self.assertEqual({**members, **linkwire.show(message, words.get("kernel"), lenient=True)}, shown)
             found = answered(linkwire.state, message, True)
             self.assertIn(state, (found, found.split()[0], found.split()[1]))
             if state.startswith("ok"):
