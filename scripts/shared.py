@@ -13,8 +13,8 @@ HEADER_SIZE = 16
 
 
 def read(name):
-    """Returns the text of a file of the repository."""
-    with open(f"{TOP}/{name}", encoding="utf-8", newline="") as it:
+    """Returns the text of a file of the repository; bytes that are no UTF-8 stand for themselves."""
+    with open(f"{TOP}/{name}", encoding="utf-8", errors="surrogateescape", newline="") as it:
         return it.read()
 
 
