@@ -97,7 +97,7 @@ class Told:
 def read_lines(files, folder=None):
     found = []
     for file in files:
-        with open(file, encoding="utf-8", newline="") as it:
+        with open(file, encoding="utf-8", errors="replace", newline="") as it:
             found += [line for line in it.read().split("\n") if LINE.match(line)]
     for archive in sorted(glob.glob(f"{folder}/*.tar.xz")) if folder else []:
         ran = subprocess.run(["tar", "-xJOf", archive, *ARCHIVED], capture_output=True, check=True, timeout=60)
