@@ -9,6 +9,7 @@ use crate::link_c::message::{
     write_state,
 };
 use crate::link_c::path::{Path, look_along};
+use crate::link_c::pick::pick_attributes;
 use crate::link_c::refusal::{done_code, fault_code, length_code, whether_code};
 use crate::link_c::refused::{Refused, next_refused};
 use crate::link_c::show::{numbered_order, release_number, write_shown};
@@ -39,6 +40,11 @@ pub fn linkwire_same_message(alloc: Global, a: &[u8], b: &[u8]) -> i32 {
 /// `linkwire_next` of linkwire.h.
 pub fn linkwire_next(list: &[u8], at: &mut usize, attribute: &mut Attribute) -> i32 {
     whether_code(next_attribute(list, at, attribute))
+}
+
+/// `linkwire_pick` of linkwire.h.
+pub fn linkwire_pick(list: &[u8], found: &mut [Attribute]) -> i32 {
+    fault_code(pick_attributes(list, found))
 }
 
 /// `linkwire_put` of linkwire.h.

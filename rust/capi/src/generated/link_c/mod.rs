@@ -8,6 +8,7 @@ pub mod lenient;
 pub mod list;
 pub mod message;
 pub mod path;
+pub mod pick;
 pub mod refusal;
 pub mod refused;
 pub mod show;

@@ -124,7 +124,7 @@ fn take_counters(
     }
     take_text(&mut counters.part, is_part, filled.as_slice(), text)?;
     counters.show(alloc, of.order)?;
-    counters.take_leaves_of(of, is_part)
+    counters.take_leaves_of(alloc, of, is_part)
 }
 
 impl Counters {

@@ -48,7 +48,7 @@ impl Pair {
         self.is_part = take_parts(old, new, is_alike, &mut self.old.part, &mut self.new.part)?;
         self.old.show(alloc, orders.0)?;
         self.new.show(alloc, orders.1)?;
-        self.old.take_leaves(&self.new)?;
-        self.new.take_leaves(&self.old)
+        self.old.take_leaves(alloc, &self.new)?;
+        self.new.take_leaves(alloc, &self.old)
     }
 }

@@ -50,14 +50,19 @@ impl Half {
     }
 
     /// Takes the leaves that the other one does not have.
-    pub fn take_leaves(&mut self, other: &Half) -> Result<(), AllocError> {
+    pub fn take_leaves(&mut self, alloc: Global, other: &Half) -> Result<(), AllocError> {
         let own = Members::of(&self.page);
-        self.leaves.take(own, other.members(), false)
+        self.leaves.take(alloc, own, other.members(), false)
     }
 
     /// Takes the leaves of the other one that this one does not have; of a part, those whose path it has.
-    pub fn take_leaves_of(&mut self, other: &Half, is_part: bool) -> Result<(), AllocError> {
+    pub fn take_leaves_of(
+        &mut self,
+        alloc: Global,
+        other: &Half,
+        is_part: bool,
+    ) -> Result<(), AllocError> {
         let own = Members::of(&self.page);
-        self.leaves.take(other.members(), own, is_part)
+        self.leaves.take(alloc, other.members(), own, is_part)
     }
 }

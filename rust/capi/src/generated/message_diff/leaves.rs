@@ -2,6 +2,7 @@
 //! The members that two texts do not have in common, one below the other.
 
 use crate::rattle::prelude::Vec;
+use crate::message_diff::labels::Labels;
 use crate::message_diff::members::{Members, name_of, part, value_of};
 use crate::rattle::itoa::Buffer;
 use crate::shown::Mark;
@@ -63,15 +64,22 @@ impl Both<'_> {
     /// The place of the other text's member with the name of the one at this place: it is looked for first where it is
     /// likely.
     #[inline(always)]
-    fn find(self, at: usize, others: Span, likely: usize) -> Option<usize> {
+    fn find(
+        self,
+        alloc: Global,
+        at: usize,
+        others: Span,
+        likely: usize,
+        labels: &mut Labels,
+    ) -> Result<Option<usize>, AllocError> {
         let mark = &self.own.marks[at];
         if likely < others.end && likely < self.others.marks.len() {
             let other = &self.others.marks[likely];
             if self.others.is_named_as(other, self.own, mark) {
-                return Some(likely);
+                return Ok(Some(likely));
             }
         }
-        self.others.find(others.at, others.end, self.own, mark)
+        labels.find(alloc, self.others, others.at, others.end, self.own, mark)
     }
 
     /// The members beside those that are inside the one at this place, where that has leaves: none where the other text
@@ -212,6 +220,7 @@ impl Leaves {
     /// at another place, if there is one.
     fn take_one(
         &mut self,
+        alloc: Global,
         both: Both<'_>,
         at: usize,
         next: usize,
@@ -227,22 +236,29 @@ impl Leaves {
                 at: at + 1,
                 end: next,
             };
-            return self.take_span(both, inside, beside);
+            return self.take_span(alloc, both, inside, beside);
         }
         self.add(at)
     }
 
     /// Adds the leaves of these members beside those of the other text.
-    fn take_span(&mut self, both: Both<'_>, own: Span, others: Span) -> Result<(), AllocError> {
+    fn take_span(
+        &mut self,
+        alloc: Global,
+        both: Both<'_>,
+        own: Span,
+        others: Span,
+    ) -> Result<(), AllocError> {
         let len = self.path.len();
         let mut at = own.at;
         let mut likely = others.at;
+        let mut labels = Labels::new();
         while at < own.end && at < both.own.marks.len() {
             let next = both.own.next_of(at, own.end);
-            let found = both.find(at, others, likely);
+            let found = both.find(alloc, at, others, likely, &mut labels)?;
             likely = both.others.behind(found, likely);
             self.path.truncate(len);
-            self.take_one(both, at, next, found)?;
+            self.take_one(alloc, both, at, next, found)?;
             at = next;
         }
         Ok(())
@@ -252,6 +268,7 @@ impl Leaves {
     /// have with another value.
     pub fn take(
         &mut self,
+        alloc: Global,
         own: Members<'_>,
         others: Members<'_>,
         is_part: bool,
@@ -263,6 +280,7 @@ impl Leaves {
             is_part,
         };
         self.take_span(
+            alloc,
             both,
             Span {
                 at: 0,

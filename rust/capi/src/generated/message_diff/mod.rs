@@ -11,6 +11,7 @@ mod files;
 mod frames;
 mod half;
 mod key;
+mod labels;
 mod leaves;
 mod line;
 mod listed;

@@ -63,3 +63,6 @@ pub fn push_not_hex(alloc: Global, front: &[u8], out: &mut Vec<u8>) -> Result<()
     }
     push_line(alloc, front, "fault", "not-hex", out)
 }
+
+/// No word that is told has the key of another member of its line.
+pub fn law_words() {}

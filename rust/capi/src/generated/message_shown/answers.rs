@@ -2,19 +2,18 @@
 //! The answer to a line.
 
 use crate::rattle::prelude::Vec;
-use crate::message_shown::attribute::show_header;
 use crate::message_shown::context::{Context, Order};
 use crate::message_shown::fault::show_fault;
-use crate::message_shown::member::show_members;
 use crate::message_shown::reading::Reading;
 use crate::message_shown::wire::cause_name;
 use crate::message_shown::worded::{order_for, show_words};
+use crate::frame_shown::message::show_message;
 use crate::line_filter::answers::Take;
 use crate::line_filter::digits::{decode, values};
 use crate::line_filter::words::{are_alone, digits_of, split};
 use crate::link_info::{Tables, all_rows};
-use crate::link_msg::{Cause, DecodeError, LinkMessage};
-use crate::shown::{Page, Room};
+use crate::link_msg::{DecodeError, LinkMessage};
+use crate::shown::Room;
 use crate::rattle::alloc::{AllocError, Global};
 use std::mem;
 
@@ -105,33 +104,17 @@ impl<R: Reading> Take for Shown<R> {
     }
 }
 
-/// Adds what a message says.
-pub(crate) fn show_message(
-    cx: &Context<'_>,
-    page: &mut Page,
-    bytes: &[u8],
-    message: &LinkMessage,
-) -> Result<(), AllocError> {
-    let family = u8::from(message.header.interface_family);
-    page.keyed_number("ifi-family", family.into())?;
-    show_header(page, bytes)?;
-    let attributes = message.attributes.as_slice();
-    show_members(&cx.with_address(attributes), page, attributes)?;
-    Ok(())
-}
-
-/// Adds the answer to a line that spells this message.
+/// Adds the answer to a line whose bytes are a message.
 pub(crate) fn push_message(
     cx: &Context<'_>,
     room: &mut Room,
     waiting: &mut Vec<u8>,
     front: &[u8],
     bytes: &[u8],
-    message: &LinkMessage,
 ) -> Result<(), AllocError> {
     let mut page = room.begin()?;
     show_words(cx.alloc, &mut page, front)?;
-    show_message(cx, &mut page, bytes, message)?;
+    show_message(&cx.for_frames(), &mut page, bytes)?;
     room.finish(page, waiting)?;
     waiting.push(b'\n')?;
     Ok(())
@@ -209,14 +192,9 @@ pub fn push_bytes_in(
     front: &[u8],
     bytes: &[u8],
 ) -> Result<(), AllocError> {
-    match LinkMessage::parse(cx.alloc, bytes) {
-        Ok(message) => push_message(cx, room, waiting, front, bytes, &message),
-        Err(error) => {
-            if let Cause::OutOfMemory = error.cause {
-                return Err(AllocError);
-            }
-            push_fault(cx, room, waiting, front, bytes, &error)
-        }
+    match LinkMessage::check(bytes) {
+        Ok(()) => push_message(cx, room, waiting, front, bytes),
+        Err(error) => push_fault(cx, room, waiting, front, bytes, &error),
     }
 }
 

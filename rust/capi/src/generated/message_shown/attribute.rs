@@ -20,7 +20,7 @@ fn show_link_flags(page: &mut Page, bits: u64) -> Result<(), AllocError> {
 }
 
 /// Adds the index of a link.
-pub fn show_index(page: &mut Page, bytes: &[u8]) -> Result<(), AllocError> {
+fn show_index(page: &mut Page, bytes: &[u8]) -> Result<(), AllocError> {
     page.keyed_signed("ifi-index", i32_at(bytes, 4).into())
 }
 

@@ -2,82 +2,24 @@
 //! Bytes of which some attributes are refused: the others are shown, and those last.
 
 use crate::rattle::prelude::Vec;
-use crate::message_shown::answers::{push_fault, push_message, show_message};
+use crate::message_shown::answers::{push_fault, push_message};
 use crate::message_shown::attribute::row_of;
 use crate::message_shown::context::Context;
 use crate::message_shown::wire::{cause_name, show_cause};
 use crate::message_shown::worded::show_words;
+use crate::frame_shown::accepted::{are_frames, show_leniently};
 use crate::link_msg::header::HEADER_SIZE;
-use crate::link_msg::{
-    AddressFamily, Cause, DecodeError, LinkAttribute, LinkHeader, LinkMessage, List, NlaBuffer,
-    NlasIterator, Refusal,
-};
+use crate::link_msg::{DecodeError, LinkMessage, Refusal};
 use crate::shown::{Nest, Page, Room};
-use crate::rattle::alloc::{AllocError, Global};
+use crate::rattle::alloc::AllocError;
 
-/// Whether bytes are frames that fit.
-fn are_frames(bytes: &[u8]) -> bool {
-    for item in NlasIterator::new(bytes) {
-        if item.is_err() {
-            return false;
-        }
-    }
-    true
-}
-
-/// What a frame means, where it is accepted.
-fn read_one(
-    alloc: Global,
-    frame: &NlaBuffer<'_>,
-    family: AddressFamily,
-) -> Result<Option<LinkAttribute>, AllocError> {
-    match LinkAttribute::parse_with_param(alloc, frame, family) {
-        Ok(attribute) => Ok(Some(attribute)),
-        Err(error) => match error.cause {
-            Cause::OutOfMemory => Err(AllocError),
-            _ => Ok(None),
-        },
-    }
-}
-
-/// What those frames mean that are accepted.
-fn accepted_in(
-    alloc: Global,
-    family: AddressFamily,
-    bytes: &[u8],
-) -> Result<Vec<LinkAttribute>, AllocError> {
-    let mut attributes = Vec::new(alloc);
-    for item in NlasIterator::new(bytes) {
-        let frame = match item {
-            Ok(frame) => frame,
-            _ => break,
-        };
-        if let Some(attribute) = read_one(alloc, &frame, family)? {
-            attributes.reserve(1)?;
-            attributes.push_reserved(attribute);
-        }
-    }
-    Ok(attributes)
-}
-
-/// What bytes mean leniently, without the attributes that are refused; `None` where they mean nothing.
-pub(crate) fn parse_accepted(alloc: Global, bytes: &[u8]) -> Result<Option<LinkMessage>, AllocError> {
+/// Whether bytes are a header and frames that fit.
+fn fits(bytes: &[u8]) -> bool {
     if bytes.len() < HEADER_SIZE {
-        return Ok(None);
+        return false;
     }
-    let (front, rest) = bytes.split_at(HEADER_SIZE);
-    let header = match LinkHeader::parse(front) {
-        Ok(header) => header,
-        _ => return Ok(None),
-    };
-    if !are_frames(rest) {
-        return Ok(None);
-    }
-    let attributes = accepted_in(alloc, header.interface_family, rest)?;
-    Ok(Some(LinkMessage {
-        header,
-        attributes: List::new(attributes),
-    }))
+    let (_, rest) = bytes.split_at(HEADER_SIZE);
+    are_frames(rest)
 }
 
 /// Adds the name of an attribute of this kind, where these numbers lead to one that is inside of it.
@@ -130,18 +72,18 @@ fn show_refused(page: &mut Page, bytes: &[u8]) -> Result<(), AllocError> {
     page.end()
 }
 
-/// Adds the answer to a line whose bytes mean this message leniently, without the attributes that are refused.
+/// Adds the answer to a line whose bytes mean a message leniently: the attributes that are accepted, and last those
+/// that are refused.
 fn push_accepted(
     cx: &Context<'_>,
     room: &mut Room,
     waiting: &mut Vec<u8>,
     front: &[u8],
     bytes: &[u8],
-    part: &LinkMessage,
 ) -> Result<(), AllocError> {
     let mut page = room.begin()?;
     show_words(cx.alloc, &mut page, front)?;
-    show_message(cx, &mut page, bytes, part)?;
+    show_leniently(&cx.for_frames(), &mut page, cx.alloc, bytes)?;
     show_refused(&mut page, bytes)?;
     room.finish(page, waiting)?;
     waiting.push(b'\n')?;
@@ -157,10 +99,10 @@ fn push_refused(
     bytes: &[u8],
     error: &DecodeError,
 ) -> Result<(), AllocError> {
-    match parse_accepted(cx.alloc, bytes)? {
-        Some(part) => push_accepted(cx, room, waiting, front, bytes, &part),
-        None => push_fault(cx, room, waiting, front, bytes, error),
+    if fits(bytes) {
+        return push_accepted(cx, room, waiting, front, bytes);
     }
+    push_fault(cx, room, waiting, front, bytes, error)
 }
 
 /// Adds the answer to a line that spells these bytes, and writes its page in this room. The answer to bytes that are a
@@ -173,13 +115,8 @@ pub fn push_leniently_in(
     front: &[u8],
     bytes: &[u8],
 ) -> Result<(), AllocError> {
-    match LinkMessage::parse(cx.alloc, bytes) {
-        Ok(message) => push_message(cx, room, waiting, front, bytes, &message),
-        Err(error) => {
-            if let Cause::OutOfMemory = error.cause {
-                return Err(AllocError);
-            }
-            push_refused(cx, room, waiting, front, bytes, &error)
-        }
+    match LinkMessage::check(bytes) {
+        Ok(()) => push_message(cx, room, waiting, front, bytes),
+        Err(error) => push_refused(cx, room, waiting, front, bytes, &error),
     }
 }

@@ -3,13 +3,13 @@
 
 use crate::rattle::vec::ToVecBy;
 use crate::rattle::prelude::String;
-use crate::message_shown::answers::show_message;
-use crate::message_shown::attribute::row_of;
+use crate::message_shown::accepted::parse_accepted;
+use crate::message_shown::attribute::{row_of, show_header};
 use crate::message_shown::context::Context;
 use crate::message_shown::fault::show_fault;
-use crate::message_shown::lenient::parse_accepted;
+use crate::message_shown::member::show_members;
 use crate::message_shown::wire::cause_name;
-use crate::link_msg::{Cause, DecodeError, LinkMessage, Refusal};
+use crate::link_msg::{Cause, DecodeError, LinkAttribute, LinkMessage, Refusal};
 use crate::shown::{Marked, Nest, Page};
 use crate::rattle::alloc::{AllocError, Global};
 
@@ -58,6 +58,29 @@ fn show_raw_object(alloc: Global, page: &mut Page, bytes: &[u8]) -> Result<(), A
     page.begin("refused", Nest::Object)?;
     show_raws(alloc, page, bytes)?;
     page.end()
+}
+
+/// Adds what the attributes of a message say.
+pub fn show_attributes(
+    cx: &Context<'_>,
+    page: &mut Page,
+    attributes: &[LinkAttribute],
+) -> Result<(), AllocError> {
+    show_members(&cx.with_address(attributes), page, attributes)
+}
+
+/// Adds what a message says, whose bytes these are.
+pub fn show_message(
+    cx: &Context<'_>,
+    page: &mut Page,
+    bytes: &[u8],
+    message: &LinkMessage,
+) -> Result<(), AllocError> {
+    let family = u8::from(message.header.interface_family);
+    page.keyed_number("ifi-family", family.into())?;
+    show_header(page, bytes)?;
+    let attributes = message.attributes.as_slice();
+    show_attributes(cx, page, attributes)
 }
 
 /// Writes what a message says, whose bytes these are.

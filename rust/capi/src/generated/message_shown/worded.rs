@@ -2,8 +2,9 @@
 //! The words in front of a line: what they are shown as, and the kernel that they name.
 
 use crate::message_shown::context::{Order, text_of};
-use crate::line_filter::words::{first_word, value_of};
-use crate::shown::Page;
+use crate::message_shown::word_keys::Keys;
+use crate::line_filter::words::{Word, first_word, value_of};
+use crate::shown::{Nest, Page};
 use crate::rattle::alloc::{AllocError, Global};
 
 /// Adds the value of a word under its name: bytes that are no UTF-8 are shown by their digits.
@@ -14,23 +15,84 @@ pub fn show_value(page: &mut Page, name: &str, value: &[u8]) -> Result<(), Alloc
     }
 }
 
-/// Adds a word, whose key is shown as its value is.
-fn show_word(alloc: Global, page: &mut Page, key: &[u8], value: &[u8]) -> Result<(), AllocError> {
-    match text_of(key) {
-        Some(name) => show_value(page, name, value),
-        None => show_value(page, crate::rattle::hex::encode(alloc, key)?.as_str(), value),
+/// Adds a word if it is a member; whether it is none.
+fn show_member<'a>(
+    keys: &mut Keys<'a>,
+    page: &mut Page,
+    key: &'a [u8],
+    value: &[u8],
+) -> Result<bool, AllocError> {
+    match keys.take(key) {
+        Some(name) => {
+            show_value(page, name, value)?;
+            Ok(false)
+        }
+        None => Ok(true),
     }
 }
 
-/// Adds the words in front of a line.
-pub fn show_words(alloc: Global, page: &mut Page, line: &[u8]) -> Result<(), AllocError> {
+/// Adds the words that are members; whether there are others.
+fn show_members(page: &mut Page, line: &[u8]) -> Result<bool, AllocError> {
+    let mut keys = Keys::new();
+    let mut others = false;
     let mut rest = line;
     while let Some(word) = first_word(rest) {
-        show_word(alloc, page, word.key, word.value)?;
+        others |= show_member(&mut keys, page, word.key, word.value)?;
+        rest = &rest[word.len..];
+    }
+    Ok(others)
+}
+
+/// A word as it stands in front of a line.
+fn text_of_word<'a>(line: &'a [u8], word: &Word<'_>) -> &'a [u8] {
+    &line[..word.key.len() + 1 + word.value.len()]
+}
+
+/// Adds a word, as it stands, to a list, unless it is a member.
+fn show_other<'a>(
+    keys: &mut Keys<'a>,
+    page: &mut Page,
+    key: &'a [u8],
+    text: &[u8],
+) -> Result<(), AllocError> {
+    match keys.take(key) {
+        Some(_) => Ok(()),
+        None => show_value(page, "", text),
+    }
+}
+
+/// Adds the words that are no members, as they stand, to a list.
+fn show_items(page: &mut Page, line: &[u8]) -> Result<(), AllocError> {
+    let mut keys = Keys::new();
+    let mut rest = line;
+    while let Some(word) = first_word(rest) {
+        let text = text_of_word(rest, &word);
+        show_other(&mut keys, page, word.key, text)?;
         rest = &rest[word.len..];
     }
     Ok(())
 }
+
+/// Adds the list of the words that are no members, if there are any.
+fn show_others(page: &mut Page, line: &[u8]) -> Result<(), AllocError> {
+    page.begin("words", Nest::List)?;
+    show_items(page, line)?;
+    page.end()
+}
+
+/// Adds the words in front of a line.
+pub fn show_words(_alloc: Global, page: &mut Page, line: &[u8]) -> Result<(), AllocError> {
+    if line.is_empty() {
+        return Ok(());
+    }
+    if show_members(page, line)? {
+        return show_others(page, line);
+    }
+    Ok(())
+}
+
+/// No word has a key of the rest of an answer, no two members have one key, and no word is left out.
+pub fn law_words() {}
 
 /// How many digits a text begins with.
 fn digits_len(text: &[u8]) -> usize {
