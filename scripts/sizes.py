@@ -107,6 +107,10 @@ def look_at_linkstate(program, made, size):
             [ok, short, words + ok, many + short, words, b"refused", short])
 
 
+# how many words of a line are members of its answer; a list has the others
+MEMBERS = 32
+
+
 def look_at_linkshow(program, made, size):
     host = (LETTERS.replace(" ", "").replace("\n", "\r") * (size // 8)).encode()[:size].decode(errors="ignore")
     words = b"host=" + host.encode() + b" "
@@ -115,7 +119,9 @@ def look_at_linkshow(program, made, size):
     short = {"ifi-family": 0, "ifi-type": 1, "ifi-index": 7, "ifi-flags": made.members["ifi-flags"], "ifi-change": 0x55}
     lines = [made.message.hex().encode(), SHORT, words + SHORT, many + SHORT, made.faulty().hex().encode(), SHORT]
     *found, faulty, last = [json.loads(it) for it in answers(program, lines)]
-    wanted = [made.members, short, {"host": host, **short}, {**dict.fromkeys(keys, "v"), **short}, short]
+    others = {"words": [f"{key}=v" for key in keys[MEMBERS:]]} if keys[MEMBERS:] else {}
+    worded = {**dict.fromkeys(keys[:MEMBERS], "v"), **others, **short}
+    wanted = [made.members, short, {"host": host, **short}, worded, short]
     compare("sizes: linkshow", lines, [*found, last], wanted)
     if faulty["fault"] != "frame-under" or faulty["offset"] != len(made.message):
         fails("linkshow: of a fault:", {**faulty, "before": None})
