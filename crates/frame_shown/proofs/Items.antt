@@ -10,7 +10,7 @@ use Rattle.std.proofs.lemmas.List.Concat.{flat_map-append}
 use Rattle.std.proofs.lemmas.Bool.Decides.{eqb_tells}
 use Rattle.std.proofs.lemmas.Bool.{eq-eqb, ne_eqb, or_from, or_parts}
 use Rattle.std.proofs.lemmas.List.Sums.{fold-append}
-use Rattle.std.proofs.Math.Bool.{or-false}
+use Rattle.std.proofs.Math.Bool.{or-false, or-true}
 use Rattle.json.specs.Token.{Token}
 use Rattle.nla_wire.specs.Frames.{Frame, number}
 use Rattle.nla_wire.specs.Items.{Item as Read, frame_count}
@@ -29,13 +29,13 @@ use Rattle.frame_shown.specs.declared.form.List.{List as Shape}
 
 -- ** an attribute by its row
 
-pub kept_says_nothing : (nest : Nesting) (cx : Around) (row : Known) (f : Frame) → is_kept row.1 f.payload ≡ true
+kept_says_nothing : (nest : Nesting) (cx : Around) (row : Known) (f : Frame) → is_kept row.1 f.payload ≡ true
     → shown_as (by_row nest cx row f) ≡ []
 kept_says_nothing nest cx row f is =
     ap (λ b. shown_as (cond b (Item.as_is row.0 (kind_shown row.1 f.kind) f.payload)
     (Item.named (number f) ((row.0, way_shown nest cx row.1 f.payload) ∷ [])))) is
 
-pub named_says : (nest : Nesting) (cx : Around) (row : Known) (f : Frame) → is_kept row.1 f.payload ≡ false
+named_says : (nest : Nesting) (cx : Around) (row : Known) (f : Frame) → is_kept row.1 f.payload ≡ false
     → shown_as (by_row nest cx row f) ≡ (row.0, way_shown nest cx row.1 f.payload) ∷ []
 named_says nest cx row f is =
     ap (λ b. shown_as (cond b (Item.as_is row.0 (kind_shown row.1 f.kind) f.payload)
@@ -64,6 +64,16 @@ pub named_not_said : (nest : Nesting) (cx : Around) (row : Known) (f : Frame) �
 named_not_said nest cx row f is =
     ap (λ b. kept_ones (cond b (Item.as_is row.0 (kind_shown row.1 f.kind) f.payload)
     (Item.named (number f) ((row.0, way_shown nest cx row.1 f.payload) ∷ [])) ∷ [])) is
+
+-- what one that is kept says and is, and what one that has a name
+pub kept_frame : (nest : Nesting) (cx : Around) (row : Known) (f : Frame) → is_kept row.1 f.payload ≡ true
+    → (shown_as (by_row nest cx row f) ≡ []) × (are_any (kept_ones (by_row nest cx row f ∷ [])) ≡ true)
+kept_frame nest cx row f is = (kept_says_nothing nest cx row f is, ap are_any (kept_said nest cx row f is))
+
+pub named_frame : (nest : Nesting) (cx : Around) (row : Known) (f : Frame) → is_kept row.1 f.payload ≡ false
+    → (shown_as (by_row nest cx row f) ≡ (row.0, way_shown nest cx row.1 f.payload) ∷ [])
+    × (are_any (kept_ones (by_row nest cx row f ∷ [])) ≡ false)
+named_frame nest cx row f is = (named_says nest cx row f is, ap are_any (named_not_said nest cx row f is))
 
 -- ** one attribute more
 
@@ -354,7 +364,7 @@ any_told_then m table (y ∷ rest) l =
     ∙ ap (λ b. (has_number m y || is_told table y) || b) (any_told_then m table rest l)
     ∙ crossed (has_number m y) (is_told table y) (comes_in m rest) (list_any (is_told table) rest)
 
-any_earlier : (m : ℕ) (ms : Members) (rest : List Item)
+pub any_earlier : (m : ℕ) (ms : Members) (rest : List Item)
     → are_any (earlier_ones (Item.named m ms ∷ rest)) ≡ (comes_in m rest || are_any (earlier_ones rest))
 any_earlier m ms rest = by_cases (comes_in m rest) where
   by_cases : (b : Bool) → are_any (cond b (ms ∷ []) [] ++ earlier_ones rest) ≡ (b || are_any (earlier_ones rest))
@@ -419,6 +429,14 @@ some_under name os any = under name (map object_of os) (any_mapped object_of os 
 pub kept_any : (x : Item) (rest : List Item) → number_in x ≡ None → are_any (kept_ones (x ∷ rest)) ≡ true
 kept_any (Item.named n ms) rest is = absurd cc
 kept_any (Item.as_is name kind payload) rest is = refl
+
+-- whether one of them is kept, one attribute further
+pub any_kept_then : (x : Item) (rest : List Item) (before : Bool)
+    → (are_any (kept_ones rest) || (before || are_any (kept_ones (x ∷ []))))
+    ≡ (are_any (kept_ones (x ∷ rest)) || before)
+any_kept_then (Item.named n ms) rest before = ap (λ b. are_any (kept_ones rest) || b) (or-false before)
+any_kept_then (Item.as_is name kind payload) rest before =
+    ap (λ b. are_any (kept_ones rest) || b) (or-true before) ∙ or-true (are_any (kept_ones rest))
 
 pub named_any : (x : Item) (n : ℕ) (rest : List Item) → number_in x ≡ Some n
     → are_any (kept_ones (x ∷ rest)) ≡ are_any (kept_ones rest)

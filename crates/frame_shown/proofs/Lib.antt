@@ -9,6 +9,8 @@ pub mod FunctionsMeant
 pub mod NamesApart
 pub mod Alike
 pub mod Rows
+pub mod RowKeys
+pub mod Twice
 pub mod InnerMeant
 pub mod FamiliesMeant
 pub mod ListsMeant

@@ -14,7 +14,6 @@ use Rattle.link_recs.specs.Inet6StatsOrder.{order_since_6_16}
 use Rattle.link_recs.specs.MapFields.{map_of}
 use Rattle.link_recs.specs.Stats64Fields.{stats64_fields, stats64_table}
 use Rattle.link_recs.specs.StatsFields.{stats_fields, stats_table}
-use Rattle.link_recs.specs.declared.map.Map.{Map}
 use Rattle.nla_wire.proofs.FieldLemmas.{number_at_below, signed_number_again}
 use Rattle.nla_wire.specs.Fields.{number_at, numbers_from, signed_at, signed_from}
 use Rattle.nla_wire.specs.Frames.{IsBytes}

@@ -2,6 +2,7 @@
 use Rattle.std.proofs.Common.{◌≡◌, ℕ, ◌≤◌, ◌||◌, set, ◌+◌, ◌-◌, ◌*◌, ◌<◌, List, [], ◌∷◌, length}
 use Rattle.std.proofs.Common.{sym, ap, ◌∙◌, arith}
 use Rattle.std.specs.Prelude.{Bool, true, Some, None, Ok, slice_index, not, ◌==◌}
+use Rattle.std.specs.List.{flat_map}
 use Rattle.std.proofs.Math.Bool.{or-true}
 use Rattle.nla_wire.specs.Frames.{Frame}
 use Rattle.nla_wire.specs.Items.{Item as Read, frame_count}
@@ -15,7 +16,7 @@ use Rattle.frame_shown.specs.declared.form.List.{List as Shape}
 use Rattle.frame_shown.proofs.Items.{one_more, one_less, count_first, few_of, none_comes, some_comes, last_shown}
 use Rattle.frame_shown.proofs.Items.{last_passed}
 use Rattle.frame_shown.proofs.Items.{earlier_shown, earlier_passed, on_next, repeats, kept_repeats, kept_any}
-use Rattle.frame_shown.proofs.Items.{named_any}
+use Rattle.frame_shown.proofs.Items.{any_kept_then, named_any}
 use Rattle.frame_shown.proofs.Items.{count_passed, earlier_kept, last_kept, named_repeats}
 
 module _ (nest : Nesting) (cx : Around) (list : Shape) (f : Frame) (it next : List Read) (here : it ≡ Ok f ∷ next)
@@ -135,6 +136,25 @@ module _ (nest : Nesting) (cx : Around) (list : Shape) (f : Frame) (it next : Li
         or-true _
         ∙ sym (ap (λ b. b || before) (kept_any (frame_item nest cx list f) (items_in nest cx list next) is))
         ∙ sym (ap (λ xs. are_any (kept_ones (items_in nest cx list xs)) || before) here) ∙ was
+
+    -- whether one of them is kept
+    pub any_kept_next : (before kept all : Bool) → kept ≡ are_any (kept_ones (frame_item nest cx list f ∷ []))
+        → (are_any (kept_ones (items_in nest cx list it)) || before) ≡ all
+        → (are_any (kept_ones (items_in nest cx list next)) || (before || kept)) ≡ all
+    any_kept_next before kept all is was =
+        ap (λ b. are_any (kept_ones (items_in nest cx list next)) || (before || b)) is
+        ∙ any_kept_then (frame_item nest cx list f) (items_in nest cx list next) before
+        ∙ sym (ap (λ xs. are_any (kept_ones (items_in nest cx list xs)) || before) here) ∙ was
+
+    -- one that is shown
+    pub shown_next : (page new all : Draft)
+        → with_members (flat_map shown_as (items_in nest cx list it)) page ≡ all
+        → new ≡ with_members (shown_as (frame_item nest cx list f)) page
+        → with_members (flat_map shown_as (items_in nest cx list next)) new ≡ all
+    shown_next page new all was then =
+        on_next (flat_map shown_as (items_in nest cx list it)) (shown_as (frame_item nest cx list f))
+        (flat_map shown_as (items_in nest cx list next)) page new all
+        (ap (λ xs. flat_map shown_as (items_in nest cx list xs)) here) was then
 
     -- one that is kept
     pub left_over : (left : List ℕ) → number_in (frame_item nest cx list f) ≡ None

@@ -1,5 +1,5 @@
 -- What frames are shown as, by the rows of their numbers.
-use Rattle.std.specs.Prelude.{ℕ, zero, suc, cond, ◌==◌, List, [], ◌∷◌, map}
+use Rattle.std.specs.Prelude.{ℕ, zero, suc, Bool, cond, ◌==◌, List, [], ◌∷◌, map, nat_lt}
 use Rattle.json.specs.Token.{Token}
 use Rattle.nla_wire.specs.Frames.{Frame, number}
 use Rattle.nla_wire.specs.Items.{Item as Read, items}
@@ -10,7 +10,7 @@ use Rattle.frame_shown.specs.declared.form.List.{List as Shape}
 use Rattle.frame_shown.specs.declared.form.List.TheVariants as Shapes
 use Rattle.frame_shown.specs.declared.form.Way.{Way}
 use Rattle.frame_shown.specs.declared.form.Way.TheVariants as Ways
-use Rattle.frame_shown.specs.Items.{Item, members_of, listed_under, objects_under}
+use Rattle.frame_shown.specs.Items.{Item, are_any, earlier_ones, members_of, listed_under, objects_under}
 use Rattle.frame_shown.specs.Tables.{Known, entry_list, group_name, is_kept, kind_shown, row_in}
 use Rattle.frame_shown.specs.Values.{Nesting, form_shown, hexadecimal, style_shown}
 
@@ -29,6 +29,14 @@ frame_item nest cx list f = by_row nest cx (row_in cx list (number f)) f
 -- all frames of a list
 abbrev pub items_in : Nesting → Around → Shape → List Read → List Item
 items_in nest cx list xs = map (frame_item nest cx list) (frames_in xs)
+
+-- a frame by its number alone, where that can have a row
+abbrev pub by_number : Frame → Item
+by_number f = cond (nat_lt (number f) 256) (Item.named (number f) []) (Item.as_is [] 0 [])
+
+-- whether a number that can have a row stands twice
+abbrev pub are_twice : List Read → Bool
+are_twice xs = are_any (earlier_ones (map by_number (frames_in xs)))
 
 -- the objects in the attributes of number 1
 abbrev pub entries_in : Nesting → Around → Shape → List Frame → List Members

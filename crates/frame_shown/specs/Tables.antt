@@ -110,9 +110,12 @@ abbrev pub nest_row : List ℕ → Option Place → Known
 nest_row name None = (name, Ways.Own Forms.Kept)
 nest_row name (Some place) = (name, Ways.By (S.Nest place))
 
+abbrev pub xstats_way : Around → Option Place → Way
+xstats_way cx (Some Places.Can) = Ways.By (S.Record cx.can_stats)
+xstats_way cx _ = Ways.Own Forms.Kept
+
 abbrev pub xstats_row : Around → Option Place → Known
-xstats_row cx (Some Places.Can) = (codes "xstats", Ways.By (S.Record cx.can_stats))
-xstats_row cx _ = (codes "xstats", Ways.Own Forms.Kept)
+xstats_row cx link = (codes "xstats", xstats_way cx link)
 
 abbrev pub info_row : Around → Option Place → Option Place → ℕ → Known
 info_row cx link port n =
@@ -135,6 +138,11 @@ listed_row cx (Shapes.Info link port) n = info_row cx link port n
 -- only numbers below 256 have one
 abbrev pub row_in : Around → Shape → ℕ → Known
 row_in cx list n = cond (nat_lt n 256) (listed_row cx list n) no_row
+
+-- a row of this crate
+abbrev pub is_own : Way → Bool
+is_own (Ways.Own form) = true
+is_own (Ways.By style) = false
 
 -- an attribute with this payload is kept as it is
 abbrev pub is_kept_form : Form → List ℕ → Bool

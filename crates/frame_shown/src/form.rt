@@ -1,7 +1,8 @@
 //! Tables: how the payload of each number of a list is shown.
 
-ghost use Rattle.std.specs.Prelude.{◌≡◌, ◌<◌, ℕ, List as Seq, false, map};
-ghost use Rattle.frame_shown.specs.Tables.{af_spec_form, entry_list, group_name, info_row, is_kept, kind_shown};
+ghost use Rattle.std.specs.Prelude.{◌≡◌, ◌<◌, ℕ, List as Seq, false, map, true};
+ghost use Rattle.shown.specs.Keys.{IsKey};
+ghost use Rattle.frame_shown.specs.Tables.{af_spec_form, entry_list, group_name, info_row, is_kept, is_own, kind_shown};
 ghost use Rattle.frame_shown.specs.Tables.{message_row, nest_row, place_row, proto_info_form, proto_inet6_row};
 ghost use Rattle.frame_shown.specs.Tables.{row_by, row_in, row_of_list, rows_in, xstats_row};
 
@@ -428,8 +429,10 @@ pub(crate) fn kind_shown(way: Way, kind: u16) -> u16
 
 /// The row of a number in a list.
 #[inline(always)]
+#[tactic(auto, using(crate::proofs::RowKeys::row_key))]
 pub fn row_in(cx: &Around<'_>, list: List, number: u16) -> Known
     ensures row { (result.0.now, result.1) ≡ row_in cx.now list number }
+    ensures key { is_own result.1 ≡ true → IsKey result.0.now }
     ensures small { (p : Seq ℕ) → is_kept result.1 p ≡ false → number < 256 }
 {
     if number as usize >= NUMBERS {

@@ -1,6 +1,6 @@
 //! Lists of attributes.
 
-ghost use Rattle.std.specs.Prelude.{◌≡◌, ◌<◌, ◌++◌, ℕ, true, [], ◌∷◌, OnOk, IfSome, codes, map, slice_index};
+ghost use Rattle.std.specs.Prelude.{◌≡◌, ◌<◌, ◌++◌, ℕ, true, [], ◌∷◌, OnOk, IfOk, IfSome, codes, map, slice_index};
 ghost use Rattle.std.specs.List.{flat_map};
 ghost use Rattle.nla_wire.specs.Items.{items};
 ghost use Rattle.link_info.specs.Tables.{frames_in};
@@ -9,8 +9,10 @@ ghost use Rattle.frame_shown.specs.Items.{are_any, count_of, earlier_ones, kept_
 ghost use Rattle.frame_shown.specs.Items.{listed_under, members_of, named_ones, number_in, objects, shown_as};
 ghost use Rattle.frame_shown.specs.Items.{values_of};
 ghost use Rattle.frame_shown.specs.Items.{objects_under};
-ghost use Rattle.frame_shown.specs.Frames.{entries_in, frame_item, items_in, list_shown, way_shown};
-ghost use Rattle.frame_shown.specs.Tables.{entry_list, group_name};
+ghost use Rattle.frame_shown.specs.Frames.{are_twice, by_number, entries_in, frame_item, items_in, list_shown};
+ghost use Rattle.frame_shown.specs.Frames.{way_shown};
+ghost use Rattle.frame_shown.specs.Tables.{entry_list, group_name, is_own};
+ghost use Rattle.shown.specs.Keys.{IsKey};
 
 use crate::depth::Depth;
 use crate::form::{Around, Group, List, NUMBERS, Way, is_kept, kind_shown, row_in};
@@ -29,6 +31,7 @@ pub fn show_way<D: Depth>(
     way: Way,
     payload: &[u8],
 ) -> Result<(), AllocError>
+    requires key { is_own way ≡ true → IsKey name.now }
     ensures { OnOk result
         (page.new ≡ with_value name.now (way_shown (D.nest cx.now) cx.now way payload.now) page.old) }
 {
@@ -38,23 +41,26 @@ pub fn show_way<D: Depth>(
     }
 }
 
-/// Adds what an attribute says under its name. One that is kept says nothing here.
+/// Adds what an attribute says under its name, and returns whether it is kept as it is: then it says nothing here.
 #[inline(always)]
-#[tactic(auto, using(crate::proofs::Items::kept_says_nothing, crate::proofs::Items::named_says))]
+#[tactic(auto, using(crate::proofs::Items::kept_frame, crate::proofs::Items::named_frame))]
 fn show_frame<D: Depth>(
     cx: &Around<'_>,
     page: &mut Page,
     list: List,
     frame: &NlaBuffer<'_>,
-) -> Result<(), AllocError>
-    ensures { OnOk result (page.new ≡ with_members
+) -> Result<bool, AllocError>
+    ensures shown { OnOk result (page.new ≡ with_members
         (shown_as (frame_item (D.nest cx.now) cx.now list frame.now)) page.old) }
+    ensures kept { IfOk result (λ kept. kept
+        ≡ are_any (kept_ones (frame_item (D.nest cx.now) cx.now list frame.now ∷ []))) }
 {
     let (name, way) = row_in(cx, list, frame.kind());
     if is_kept(way, frame.value()) {
-        return Ok(());
+        return Ok(true);
     }
-    show_way::<D>(cx, page, name, way, frame.value())
+    show_way::<D>(cx, page, name, way, frame.value())?;
+    Ok(false)
 }
 
 /// The number of an attribute that is shown under a name.
@@ -70,6 +76,35 @@ fn number_in<D: Depth>(cx: &Around<'_>, list: List, frame: &NlaBuffer<'_>) -> Op
         return None;
     }
     Some(number as usize)
+}
+
+/// The number of an attribute, where that can have a row.
+#[inline(always)]
+fn small_number(frame: &NlaBuffer<'_>) -> Option<usize>
+    ensures value { result ≡ number_in (by_number frame.now) }
+    ensures small { IfSome result (λ n. n < 256) }
+{
+    let number = frame.kind() as usize;
+    if number < NUMBERS { Some(number) } else { None }
+}
+
+/// Whether a number that can have a row stands twice in a list. Where none does, no attribute comes again.
+fn has_twice(bytes: &[u8]) -> bool
+    ensures { result ≡ are_twice (items bytes.now) }
+{
+    let mut seen = [0u8; NUMBERS];
+    for item in NlasIterator::new(bytes) {
+        let Ok(frame) = item else {
+            break;
+        };
+        if let Some(number) = small_number(&frame) {
+            if seen[number] != 0 {
+                return true;
+            }
+            seen[number] = 1;
+        }
+    }
+    false
 }
 
 /// What the attributes of a list are together.
@@ -108,23 +143,27 @@ fn look_over<D: Depth>(cx: &Around<'_>, list: List, bytes: &[u8]) -> Survey
     }
 }
 
-/// Adds the attributes that have a name.
+/// Adds the attributes that have a name, and returns whether one of the others is kept as it is.
 fn show_named<D: Depth>(
     cx: &Around<'_>,
     page: &mut Page,
     list: List,
     bytes: &[u8],
-) -> Result<(), AllocError>
-    ensures { OnOk result (page.new ≡ with_members
+) -> Result<bool, AllocError>
+    ensures shown { OnOk result (page.new ≡ with_members
         (flat_map shown_as (items_in (D.nest cx.now) cx.now list (items bytes.now))) page.old) }
+    ensures kept { IfOk result (λ kept. kept
+        ≡ are_any (kept_ones (items_in (D.nest cx.now) cx.now list (items bytes.now)))) }
 {
+    let mut is_any_kept = false;
     for item in NlasIterator::new(bytes) {
         let Ok(frame) = item else {
             break;
         };
-        show_frame::<D>(cx, page, list, &frame)?;
+        let is_kept = show_frame::<D>(cx, page, list, &frame)?;
+        is_any_kept |= is_kept;
     }
-    Ok(())
+    Ok(is_any_kept)
 }
 
 /// Adds an attribute that is kept.
@@ -312,11 +351,13 @@ fn show_all<D: Depth>(
     if is_any_repeated {
         return show_repeated::<D>(cx, page, list, bytes);
     }
-    show_named::<D>(cx, page, list, bytes)
+    show_named::<D>(cx, page, list, bytes)?;
+    Ok(())
 }
 
-/// Adds the attributes of a list as members.
-pub fn show_members<D: Depth>(
+/// Adds the attributes of a list as members, where some may come again.
+#[inline(never)]
+fn show_surveyed<D: Depth>(
     cx: &Around<'_>,
     page: &mut Page,
     list: List,
@@ -328,6 +369,23 @@ pub fn show_members<D: Depth>(
     let survey = look_over::<D>(cx, list, bytes);
     show_all::<D>(cx, page, list, bytes, survey.is_any_repeated)?;
     show_others::<D>(cx, page, list, bytes, survey.is_any_kept)
+}
+
+/// Adds the attributes of a list as members. Where no number stands twice, they are shown in one pass.
+pub fn show_members<D: Depth>(
+    cx: &Around<'_>,
+    page: &mut Page,
+    list: List,
+    bytes: &[u8],
+) -> Result<(), AllocError>
+    ensures { OnOk result (page.new ≡ with_members
+        (members_of (items_in (D.nest cx.now) cx.now list (items bytes.now))) page.old) }
+{
+    if has_twice(bytes) {
+        return show_surveyed::<D>(cx, page, list, bytes);
+    }
+    let is_any_kept = show_named::<D>(cx, page, list, bytes)?;
+    show_others::<D>(cx, page, list, bytes, is_any_kept)
 }
 
 /// Adds the attributes of a list as an object.
@@ -346,20 +404,23 @@ fn show_object<D: Depth>(
     page.end()
 }
 
-/// Adds the attributes of a list that have a name as one list.
+/// Adds the attributes of a list that have a name as one list, and returns whether one of the others is kept as it is.
 fn show_one_list<D: Depth>(
     cx: &Around<'_>,
     page: &mut Page,
     name: &str,
     list: List,
     bytes: &[u8],
-) -> Result<(), AllocError>
-    ensures { OnOk result (page.new ≡ with_value name.now (list_of (flat_map values_of
+) -> Result<bool, AllocError>
+    ensures shown { OnOk result (page.new ≡ with_value name.now (list_of (flat_map values_of
         (named_ones (items_in (D.nest cx.now) cx.now list (items bytes.now))))) page.old) }
+    ensures kept { IfOk result (λ kept. kept
+        ≡ are_any (kept_ones (items_in (D.nest cx.now) cx.now list (items bytes.now)))) }
 {
     page.begin(name, Nest::List)?;
-    show_named::<D>(cx, page, list, bytes)?;
-    page.end()
+    let is_any_kept = show_named::<D>(cx, page, list, bytes)?;
+    page.end()?;
+    Ok(is_any_kept)
 }
 
 /// Adds the attributes of a list as an object in which all that have a name stand in one list.
@@ -374,10 +435,9 @@ fn show_listed<D: Depth>(
     ensures { OnOk result (page.new ≡ with_value name.now (object_of (listed_under (group_name group)
         (items_in (D.nest cx.now) cx.now list (items bytes.now)))) page.old) }
 {
-    let survey = look_over::<D>(cx, list, bytes);
     page.begin(name, Nest::Object)?;
-    show_one_list::<D>(cx, page, group.name(), list, bytes)?;
-    show_others::<D>(cx, page, list, bytes, survey.is_any_kept)?;
+    let is_any_kept = show_one_list::<D>(cx, page, group.name(), list, bytes)?;
+    show_others::<D>(cx, page, list, bytes, is_any_kept)?;
     page.end()
 }
 

@@ -4,11 +4,13 @@ ghost use Rattle.std.specs.Prelude.{◌≡◌, ◌<◌, ◌≤◌, ◌^◌, ◌+
 ghost use Rattle.json.specs.Token.{string, number};
 ghost use Rattle.nla_wire.specs.Fields.{number_at};
 ghost use Rattle.nla_wire.specs.Items.{items};
-ghost use Rattle.link_info.specs.Meanings.{meaning};
+ghost use Rattle.link_info.specs.Meanings.{meaning, read_as};
+ghost use Rattle.link_info.specs.declared.style.Style.TheVariants as S;
 ghost use Rattle.link_info.specs.Styles.{plain_size, width};
 ghost use Rattle.link_info.specs.Tables.{frames_in};
 ghost use Rattle.shown.specs.Drafts.{with_members, with_value, object_of};
-ghost use Rattle.shown.specs.Keys.{AreKeys};
+ghost use Rattle.shown.specs.Keys.{AreKeys, IsKey};
+ghost use Rattle.nla_wire.specs.Payloads.{IsTextOf};
 ghost use Rattle.shown.specs.Values.{flags_of};
 ghost use Rattle.frame_shown.specs.declared.form.Choice.TheVariants as Choices;
 ghost use Rattle.frame_shown.specs.Values.{number_shown, plain_shown, plain_in, spelled, hexadecimal, listed};
@@ -19,7 +21,7 @@ ghost use Rattle.frame_shown.specs.Values.{counters_shown, elements_in, event_in
 ghost use Rattle.frame_shown.specs.Values.{fields_shown, first_text, form_shown, info_of, ipv6_counters_shown};
 ghost use Rattle.frame_shown.specs.Values.{ipv6_named, placed_shown, protocol_name, setting_names, setting_of};
 ghost use Rattle.frame_shown.specs.Values.{settings_shown, signed_unless_zero, text_in, truth_of};
-ghost use Rattle.frame_shown.specs.Values.{unless_zero_named, wireless_shown};
+ghost use Rattle.frame_shown.specs.Values.{text_shown, unless_zero_named, wireless_shown};
 
 use crate::depth::Depth;
 use crate::form::{Around, Bits, Choice, Field, Form, List, Order, Record, Settings, Words};
@@ -35,6 +37,7 @@ use nla_wire::NlasIterator;
 use nla_wire::fields::{be16_at, bytes_32_at, i32_at, u8_at, u16_at, u32_at, u64_at};
 use shown::{Nest, Page};
 use std::alloc::AllocError;
+use std::str;
 
 /// Adds a number, by how it is spelled.
 fn show_number(page: &mut Page, name: &str, plain: Plain, number: u64) -> Result<(), AllocError>
@@ -265,15 +268,16 @@ fn show_field(
     bytes: &[u8],
     place: u8,
 ) -> Result<(), AllocError>
+    requires key { IsKey name.now }
     ensures { OnOk result
         (page.new ≡ with_value name.now (field_shown cx.now field bytes.now place) page.old) }
 {
     let place = usize::from(place);
     match field {
-        Field::Number(size) => page.number(name, number_at(size, bytes, place)),
-        Field::Setting => page.number(name, setting_of(u32_at(bytes, place))),
+        Field::Number(size) => page.keyed_number(name, number_at(size, bytes, place)),
+        Field::Setting => page.keyed_number(name, setting_of(u32_at(bytes, place))),
         Field::LinkState => page.choice(name, u32_at(bytes, place).into(), &VF_LINK_STATES),
-        Field::Protocol => page.string(name, protocol_name(be16_at(bytes, place))),
+        Field::Protocol => page.keyed_string(name, protocol_name(be16_at(bytes, place))),
         Field::Address => show_address(cx, page, name, &bytes_32_at(bytes, place)),
     }
 }
@@ -285,6 +289,7 @@ fn show_fields(
     parts: &[Part],
     bytes: &[u8],
 ) -> Result<(), AllocError>
+    requires keys { AreKeys (map (λ part. part.0.now) parts.now) }
     ensures { OnOk result (page.new ≡ with_members (fields_shown cx.now
         (map (λ part. (part.0.now, (part.1, part.2))) parts.now) bytes.now) page.old) }
 {
@@ -296,7 +301,8 @@ fn show_fields(
 
 /// The fields of a record.
 fn parts_of(kind: Record) -> &'static [Part]
-    ensures { map (λ part. (part.0.now, (part.1, part.2))) result.now ≡ fields_in kind }
+    ensures fields { map (λ part. (part.0.now, (part.1, part.2))) result.now ≡ fields_in kind }
+    ensures keys { AreKeys (map (λ part. part.0.now) result.now) }
 {
     match kind {
         Record::Map => &MAP,
@@ -319,10 +325,11 @@ fn show_parts_of(
     kind: Record,
     bytes: &[u8],
 ) -> Result<(), AllocError>
+    requires key { IsKey name.now }
     ensures { OnOk result (page.new ≡ with_value name.now (object_of
         (fields_shown cx.now (fields_in kind) bytes.now)) page.old) }
 {
-    page.begin(name, Nest::Object)?;
+    page.keyed_begin(name, Nest::Object)?;
     show_fields(cx, page, parts_of(kind), bytes)?;
     page.end()
 }
@@ -345,6 +352,7 @@ fn show_numbers(page: &mut Page, names: &[&str], size: Size, bytes: &[u8]) -> Re
 
 /// Adds counters.
 fn show_counters(page: &mut Page, name: &str, words: Words, bytes: &[u8]) -> Result<(), AllocError>
+    requires key { IsKey name.now }
     ensures { OnOk result (page.new ≡ with_value name.now (object_of
         (counters_shown (counter_names words) (counter_width words) bytes.now 0)) page.old) }
 {
@@ -394,12 +402,13 @@ fn show_placed(
     is_since: bool,
     bytes: &[u8],
 ) -> Result<(), AllocError>
+    requires keys { AreKeys (map (λ row. row.0.now) rows.now) }
     ensures { OnOk result (page.new ≡ with_members (placed_shown is_since
         (map (λ row. (row.0.now, (row.1, row.2))) rows.now) bytes.now) page.old) }
 {
     for row in rows {
         let place = 8 * counter_place(is_since, row.1, row.2);
-        page.number(row.0, u64_at(bytes, place))?;
+        page.keyed_number(row.0, u64_at(bytes, place))?;
     }
     Ok(())
 }
@@ -498,10 +507,11 @@ fn show_reserved(page: &mut Page, name: &str, value: i32) -> Result<(), AllocErr
 
 /// Adds settings as an object.
 fn show_settings(page: &mut Page, name: &str, set: Settings, bytes: &[u8]) -> Result<(), AllocError>
+    requires key { IsKey name.now }
     ensures { OnOk result (page.new ≡ with_value name.now (object_of
         (settings_shown (setting_names set) bytes.now 0 ++ behind_settings set bytes.now)) page.old) }
 {
-    page.begin(name, Nest::Object)?;
+    page.keyed_begin(name, Nest::Object)?;
     show_named_settings(page, set, bytes)?;
     show_behind(page, set, bytes)?;
     page.end()
@@ -515,12 +525,13 @@ fn show_numbers_under(
     size: Size,
     bytes: &[u8],
 ) -> Result<(), AllocError>
+    requires key { IsKey name.now }
     requires keys { AreKeys (map (λ name. name.now) names.now) }
     requires few { length names.now ≤ 256 }
     ensures { OnOk result (page.new ≡ with_value name.now (object_of
         (counters_shown (map (λ name. name.now) names.now) (width size) bytes.now 0)) page.old) }
 {
-    page.begin(name, Nest::Object)?;
+    page.keyed_begin(name, Nest::Object)?;
     show_numbers(page, names, size, bytes)?;
     page.end()
 }
@@ -569,6 +580,30 @@ fn show_bits(page: &mut Page, name: &str, bits: Bits, number: u32) -> Result<(),
     match bits {
         Bits::ExtMask => page.flags(name, number.into(), &EXT_MASK),
         Bits::Inet6 => page.flags(name, number.into(), &INET6_FLAGS),
+    }
+}
+
+/// The bytes without one NUL at their end, if they have one.
+#[inline(always)]
+fn without_last_nul(bytes: &[u8]) -> &[u8]
+    ensures { IsTextOf bytes.now result.now }
+{
+    match bytes {
+        [front @ .., 0] => front,
+        _ => bytes,
+    }
+}
+
+/// Adds a text, or the digits of bytes that are none.
+#[inline(always)]
+fn show_text(page: &mut Page, name: &str, payload: &[u8]) -> Result<(), AllocError>
+    requires key { IsKey name.now }
+    ensures { OnOk result
+        (page.new ≡ with_value name.now (text_shown (read_as S.Text payload.now)) page.old) }
+{
+    match str::from_utf8(without_last_nul(payload)) {
+        Ok(text) => page.keyed_string(name, text),
+        Err(_) => page.hex(name, payload),
     }
 }
 
@@ -677,17 +712,18 @@ pub fn show_form<D: Depth>(
     form: Form,
     payload: &[u8],
 ) -> Result<(), AllocError>
+    requires key { IsKey name.now }
     ensures { OnOk result
         (page.new ≡ with_value name.now (form_shown (D.nest cx.now) cx.now form payload.now) page.old) }
 {
     match form {
-        Form::Number(size) => page.number(name, number_at(size, payload, 0)),
-        Form::Text => show_plain(page, name, Plain::Octets(0), read(Style::Text, payload)),
-        Form::Signed => page.signed(name, i32_at(payload, 0).into()),
+        Form::Number(size) => page.keyed_number(name, number_at(size, payload, 0)),
+        Form::Text => show_text(page, name, payload),
+        Form::Signed => page.keyed_signed(name, i32_at(payload, 0).into()),
         Form::Address => page.address(name, payload),
         Form::Choice(choice) => show_choice(page, name, choice, choice_number(choice, payload)),
-        Form::Exact(size) => page.number(name, number_at(size, payload, 0)),
-        Form::Truth => page.number(name, truth_of(u8_at(payload, 0).into())),
+        Form::Exact(size) => page.keyed_number(name, number_at(size, payload, 0)),
+        Form::Truth => page.keyed_number(name, truth_of(u8_at(payload, 0).into())),
         Form::Id => show_id(page, name, payload),
         Form::Flags(bits) => show_bits(page, name, bits, u32_at(payload, 0)),
         Form::Counters(words) => show_counters(page, name, words, payload),

@@ -1,11 +1,12 @@
 //! Hardware addresses, and bytes as digits.
 
 ghost use Rattle.std.specs.Prelude.{◌≡◌, ◌+◌, ◌*◌, ◌<◌, ◌≤◌, IfOk, length, string_bytes, take};
+ghost use Rattle.std.specs.Net.Text.{ipv4_text};
 ghost use Rattle.hex.specs.Hex.{encode_lower};
 ghost use Rattle.json.specs.Filled.{Placed};
 ghost use Rattle.shown.specs.Values.{hardware_address, octet_text};
 
-use crate::piece::put_byte;
+use crate::piece::{put_byte, put_number};
 use std::alloc::{AllocError, Global};
 
 const DIGITS: [char; 16] = [
@@ -68,4 +69,22 @@ pub(crate) fn put_hex(buf: &mut [u8], bytes: &[u8]) -> usize
         end = put_octet(buf, end, *byte);
     }
     end
+}
+
+/// The room that four numbers are stored in, with dots between them.
+pub(crate) const DOTTED: usize = 96;
+
+/// Stores four numbers with dots between them; where they end.
+pub(crate) fn put_ipv4(buf: &mut [u8], octets: &[u8; 4]) -> usize
+    requires room { 96 ≤ length buf.old }
+    ensures text { take result buf.new ≡ ipv4_text octets.now }
+    ensures within { result ≤ length buf.new }
+{
+    let mut end = put_number(buf, 0, octets[0].into());
+    end = put_byte(buf, end, b'.');
+    end = put_number(buf, end, octets[1].into());
+    end = put_byte(buf, end, b'.');
+    end = put_number(buf, end, octets[2].into());
+    end = put_byte(buf, end, b'.');
+    put_number(buf, end, octets[3].into())
 }

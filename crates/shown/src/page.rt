@@ -16,7 +16,7 @@ ghost use Rattle.shown.specs.Nesting.{opening};
 ghost use Rattle.shown.specs.Marks.{scalar_token, noted, nothing_noted, marks_of};
 ghost use Rattle.shown.specs.Pages.{IsPlain, IsWholeText, AddsText, ended};
 
-use crate::address::{address_text, put_address, put_hex};
+use crate::address::{DOTTED, address_text, put_address, put_hex, put_ipv4};
 use crate::marks::Marks;
 use crate::sheet::Sheet;
 use std::alloc::{AllocError, Global};
@@ -591,14 +591,30 @@ impl Page {
         self.address_late(name, bytes)
     }
 
-    /// Adds an IPv4 address, as four decimal numbers with dots between them.
-    pub fn ipv4_address(&mut self, name: &str, address: &Ipv4Addr) -> Result<(), AllocError>
+    /// Adds an IPv4 address where it is not written at once.
+    #[cold]
+    #[inline(never)]
+    fn ipv4_late(&mut self, name: &str, address: &Ipv4Addr) -> Result<(), AllocError>
         ensures { OnOk result
             (self.new ≡ with_value name.now (string (ipv4_text (ipv4_octets address.now)) ∷ [])
             self.old) }
     {
         let dotted = format!(in self.alloc; "{address}")?;
         self.string(name, dotted.as_str())
+    }
+
+    /// Adds an IPv4 address, as four decimal numbers with dots between them. It takes no memory.
+    pub fn ipv4_address(&mut self, name: &str, address: &Ipv4Addr) -> Result<(), AllocError>
+        ensures { OnOk result
+            (self.new ≡ with_value name.now (string (ipv4_text (ipv4_octets address.now)) ∷ [])
+            self.old) }
+    {
+        let mut dotted = [0u8; DOTTED];
+        let end = put_ipv4(&mut dotted, &address.octets());
+        if self.try_text::<false>(name, &dotted[..end]) {
+            return Ok(());
+        }
+        self.ipv4_late(name, address)
     }
 
     /// Adds an IPv6 address, as RFC 5952 writes it.
@@ -699,12 +715,12 @@ impl Page {
         Ok(())
     }
 
-    /// Does what `finish` does, and returns the bytes that the page was written over.
-    pub(crate) fn finish_over(self, out: &mut Vec<u8>) -> Result<Vec<u8>, AllocError>
+    /// Does what `finish` does, and returns the bytes that the page was written over, and the room for what is open.
+    pub(crate) fn finish_over(self, out: &mut Vec<u8>) -> Result<(Vec<u8>, Vec<Nest>), AllocError>
         ensures { OnOk result (AddsText self out.old.items out.new.items) }
     {
-        let (bytes, len, ..) = self.text()?;
+        let (bytes, len, outer, _) = self.text()?;
         out.extend_from_slice(&bytes[..len])?;
-        Ok(bytes)
+        Ok((bytes, outer))
     }
 }

@@ -118,7 +118,7 @@ fn put_digits(buf: &mut [u8], at: usize, value: u64) -> usize
 
 /// Stores a number. Most of a link's have one digit.
 #[inline(always)]
-fn put_number(buf: &mut [u8], at: usize, value: u64) -> usize
+pub(crate) fn put_number(buf: &mut [u8], at: usize, value: u64) -> usize
     requires { at + 20 ≤ length buf.old }
     ensures placed { Placed buf.old buf.new at (decimal value) result }
     ensures within { result ≤ at + 20 }

@@ -1,4 +1,4 @@
-use Rattle.std.proofs.Common.{false, drop, ◌∙◌, refl}
+use Rattle.std.proofs.Common.{false, ◌∙◌, refl}
 use Rattle.std.specs.Prelude.{codes}
 use Rattle.std.proofs.lemmas.Result.{on_ok_weaker}
 use Rattle.shown.specs.Drafts.{object_of, with_value}

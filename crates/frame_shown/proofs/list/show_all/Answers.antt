@@ -1,5 +1,4 @@
 use Rattle.std.proofs.Common.{◌≡◌, false, ◌∙◌, ap}
-use Rattle.std.proofs.lemmas.Result.{on_ok_weaker}
 use Rattle.nla_wire.specs.Items.{items as read}
 use Rattle.shown.specs.Drafts.{with_members}
 use Rattle.frame_shown.specs.Items.{are_any, earlier_ones}
@@ -11,5 +10,4 @@ pub returns : goal.returns
 returns g c =
     let its = items_in (g.D.Depth.nest c.args.cx.now) c.args.cx.now c.args.list (read c.args.bytes.now) in
     let none : are_any (earlier_ones its) ≡ false = cc (c.requires, c.if-is_any_repeated.false) in
-    on_ok_weaker c.show_named.result (λ is. is ∙ ap (λ ms. with_members ms c.args.page.now) (all_shown its none))
-    c.show_named.ensures
+    c.in_ok-show_named.ensures.shown ∙ ap (λ ms. with_members ms c.args.page.now) (all_shown its none)

@@ -41,7 +41,8 @@ loop-item-preserved-in-Continue-branch-3 g c =
           (left ∙ h))
           c.loop-item.invariant.shown
           (object_ended [] (shown_as x) c.loop-item.page _ _
-          (c.in_ok-show_frame.ensures ∙ ap (with_members (shown_as x)) c.in_ok-begin.ensures) c.in_ok-end.ensures);
+          (c.in_ok-show_frame.ensures.shown ∙ ap (with_members (shown_as x)) c.in_ok-begin.ensures)
+          c.in_ok-end.ensures);
     }
 
 pub loop-item-preserved-else-left-number-ne0 : goal.loop-item-preserved-else-left-number-ne0

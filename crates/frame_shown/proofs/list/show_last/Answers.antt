@@ -18,8 +18,8 @@ overflow_sub-left g c =
     one_left (g.D.Depth.nest c.args.cx.now) c.args.cx.now c.args.list c.in-Ok.frame c.loop-item.item-iterator
     c.next.new.self here c.loop-item.left m c.in-Some-number_in.ensures.small is c.loop-item.invariant.told
 
-pub loop-item-preserved-in-Continue-1 : goal.loop-item-preserved-in-Continue-1
-loop-item-preserved-in-Continue-1 g c =
+pub loop-item-preserved-in_ok-show_frame : goal.loop-item-preserved-in_ok-show_frame
+loop-item-preserved-in_ok-show_frame g c =
     let here : c.loop-item.item-iterator ≡ Ok c.in-Ok.frame ∷ c.next.new.self = rw c.in-Ok.is at
     c.in-Some.ensures.steps in
     let m = c.in-Some-number_in.number in
@@ -36,7 +36,7 @@ loop-item-preserved-in-Continue-1 g c =
       shown = last_next (g.D.Depth.nest c.args.cx.now) c.args.cx.now c.args.list c.in-Ok.frame
           c.loop-item.item-iterator c.next.new.self here m c.loop-item.page _ _ is (sym left ∙
           c.if-left-number-eq0.true)
-          c.loop-item.invariant.shown c.in_ok-show_frame.ensures;
+          c.loop-item.invariant.shown c.in_ok-show_frame.ensures.shown;
     }
 
 pub loop-item-preserved-else-left-number-eq0 : goal.loop-item-preserved-else-left-number-eq0

@@ -19,5 +19,5 @@ returns g c =
     let others = list_under (codes "other") (map object_of (kept_ones its)) in
     on_ok_weaker c.end.result (λ ends. object_ended c.args.name.now (listed_under group its) c.args.page.now _ _
     (both_added ((group, value) ∷ []) others _ _ _
-    (c.in_ok-show_one_list.ensures ∙ ap (λ n. with_value n value c.begin.new.self) c.name.ensures
+    (c.in_ok-is_any_kept.ensures.shown ∙ ap (λ n. with_value n value c.begin.new.self) c.name.ensures
     ∙ ap (with_value group value) c.in_ok-begin.ensures) c.in_ok-show_others.ensures) ends) c.end.ensures

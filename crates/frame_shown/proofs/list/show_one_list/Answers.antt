@@ -1,6 +1,5 @@
 use Rattle.std.proofs.Common.{◌∙◌, ap}
 use Rattle.std.specs.List.{flat_map}
-use Rattle.std.proofs.lemmas.Result.{on_ok_weaker}
 use Rattle.nla_wire.specs.Items.{items as read}
 use Rattle.shown.specs.Drafts.{with_members}
 use Rattle.frame_shown.specs.Items.{shown_as}
@@ -11,5 +10,9 @@ use Rattle.frame_shown.proofs.list.show_one_list.Goals as goal
 pub returns : goal.returns
 returns g c =
     let its = items_in (g.D.Depth.nest c.args.cx.now) c.args.cx.now c.args.list (read c.args.bytes.now) in
-    on_ok_weaker c.end.result (λ ends. named_shown c.args.name.now its c.args.page.now _ _
-    (c.in_ok-show_named.ensures ∙ ap (with_members (flat_map shown_as its)) c.in_ok-begin.ensures) ends) c.end.ensures
+    record {
+      shown = named_shown c.args.name.now its c.args.page.now _ _
+          (c.in_ok-is_any_kept.ensures.shown ∙ ap (with_members (flat_map shown_as its)) c.in_ok-begin.ensures)
+          c.in_ok-end.ensures;
+      kept = c.in_ok-is_any_kept.ensures.kept;
+    }

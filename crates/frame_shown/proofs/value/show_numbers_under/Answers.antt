@@ -10,4 +10,4 @@ pub returns : goal.returns
 returns c =
     let members = counters_shown (map (λ name. name.now) c.args.names.now) (width c.args.size) c.args.bytes.now 0 in
     on_ok_weaker c.end.result (λ ends. object_ended c.args.name.now members c.args.page.now _ _
-    (c.in_ok-show_numbers.ensures ∙ ap (with_members members) c.in_ok-begin.ensures) ends) c.end.ensures
+    (c.in_ok-show_numbers.ensures ∙ ap (with_members members) c.in_ok-keyed_begin.ensures) ends) c.end.ensures

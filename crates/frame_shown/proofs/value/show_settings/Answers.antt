@@ -12,5 +12,5 @@ returns c =
     let behind = behind_settings c.args.set c.args.bytes.now in
     on_ok_weaker c.end.result (λ ends. object_ended c.args.name.now (named ++ behind) c.args.page.now _ _
     (both_added named behind _ _ _ (c.in_ok-show_named_settings.ensures ∙ ap (with_members named)
-    c.in_ok-begin.ensures)
+    c.in_ok-keyed_begin.ensures)
     c.in_ok-show_behind.ensures) ends) c.end.ensures
