@@ -36,6 +36,7 @@ ATTRIBUTES = {"name": lambda it: attribute(3, it.encode() + b"\0"),
               "mtu": lambda it: attribute(4, struct.pack("<I", int(it))),
               "kind": lambda it: attribute(18, attribute(1, it.encode() + b"\0")),
               "carrier": lambda it: attribute(35, struct.pack("<I", int(it))),
+              "ipv6": lambda it: attribute(12, attribute(3, struct.pack(f"<{it}Q", *range(int(it))))),
               "alias": lambda it: attribute(20, bytes.fromhex(it))}
 
 

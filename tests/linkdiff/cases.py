@@ -37,6 +37,15 @@ def counters_of(last):
     return attribute(26, attribute(10, attribute(3, struct.pack("<38Q", 38, *range(1, 37), last))))
 
 
+def protinfo(*attributes):
+    return attribute(12, b"".join(attributes))
+
+
+def counted(*numbers):
+    """The counters of IPv6 as a kernel sends them that has so many."""
+    return attribute(3, struct.pack(f"<{len(numbers)}Q", *numbers))
+
+
 def kind(*names):
     return attribute(18, b"".join(attribute(1, name.encode() + b"\0") for name in names))
 
@@ -52,6 +61,9 @@ def functions(count):
 
 
 NAME = attribute(3, b"e5\0")
+# counters of IPv6 and of ICMPv6: of an older kernel, and none
+SHORT = protinfo(counted(36, *range(1, 36)), attribute(6, struct.pack("<6Q", 6, *range(1, 6))))
+EMPTY = protinfo(counted(), attribute(6, b""))
 
 STREAMS = [
     ("refused attributes whose numbers turn", ["--lenient"], [link(*refused(4)), link(*refused(13))],
@@ -101,6 +113,13 @@ STREAMS = [
     ("a host of which a dump was whole is known", ["--changes-only"],
      ["host=a " + BEGIN, "host=a " + DONE, "host=a " + link(NAME), "host=a type=del " + link(NAME),
       "host=a " + link(NAME), "host=b " + link(NAME)], ["new 5", "gone 5", "new 5"]),
+    ("counters of IPv6 are not told, of however many numbers and in whatever order", [],
+     ["kernel=5.10.0 " + link(NAME, SHORT, family=10), "kernel=6.18.0 " + link(mtu(9), SHORT, family=10),
+      link(NAME, SHORT, family=10), "kernel=6.18.0 " + link(mtu(9), EMPTY, family=10),
+      "kernel=5.10.0 " + link(NAME, protinfo(counted()), SHORT, family=10), link(mtu(9), family=10),
+      link(protinfo(counted(), counted(1, 1)), family=10), link(family=10)],
+     ["new 5", *["changed 5 ifname mtu", "changed 5 mtu ifname"] * 2, "changed 5 ifname mtu", "changed 5 mtu",
+      "changed 5 state"]),
     ("IFLA_EVENT is not compared", [], [link(NAME), link(NAME, EVENT), link(NAME, EVENT, mtu(9))],
      ["new 5", "changed 5 mtu"]),
 ]

@@ -10,6 +10,8 @@ import second
 WORD = re.compile(rb"([^= \t]+)=([^ \t]*)(?:[ \t]+|\Z)")
 NUMERAL = re.compile(rb"\+?([0-9]+)")
 IFNAME, WIRELESS, LINKINFO, EVENT = 3, 11, 18, 44
+# the counters of IPv6 in IFLA_PROTINFO: their record may be shorter than its names
+IPV6 = re.compile(r"(repeated\.[0-9]+\.)?protinfo\.(repeated\.[0-9]+\.)?(icmp6-)?stats(\.|$)")
 PARTS = 7, 10
 # in the place of changes of which the page does not say what is told
 ANY = "[..]"
@@ -109,7 +111,8 @@ class Shown:
         self.leaves = dict(leaves)
         self.is_single = len(leaves) == len(self.leaves)
         others = dict(leaves_of(json.loads(filled)))
-        self.counters = {path for path, value in leaves if path not in others or others[path] != value}
+        self.counters = {path for path, value in leaves
+                         if path not in others or others[path] != value or IPV6.match(path)}
         self.settings = {path: value for path, value in self.leaves.items()
                          if not (path in self.counters and may_be_zero(text_of(value)))}
         self.named = named(page.get("ifname"))

@@ -24,3 +24,4 @@ pub mod GoodLeniently
 pub mod PlainNames
 pub mod Compared
 pub mod Told
+pub mod Counters

@@ -5,3 +5,4 @@ pub mod Leniently
 pub mod Good
 pub mod Compared
 pub mod Told
+pub mod Counters

@@ -5,6 +5,7 @@
 #![tactic(auto)]
 
 ghost use Rattle.diff_laws.specs.Compared.{AllIsTold, AllIsToldLeniently};
+ghost use Rattle.diff_laws.specs.Counters.{NoneIsIpv6};
 ghost use Rattle.diff_laws.specs.Good.{PlainIsNamed, TreesAreGood, TreesAreApart, GoodChangesStay};
 ghost use Rattle.diff_laws.specs.Good.{LenientTreesAreGood, LenientGoodChangesStay};
 ghost use Rattle.diff_laws.specs.LeftOut.{HaveTrees, MarksTell, FramesAre, PartsMean, LeavesStay, ChangesStay};
@@ -88,3 +89,9 @@ pub fn law_told()
     law_lenient_state();
     law_shown()
 }
+
+/// Where states are compared, nothing is told at a counter of IPv6 in `IFLA_PROTINFO`, whatever the length of its record
+/// and the order of its names.
+pub fn law_counters()
+    ensures { NoneIsIpv6 }
+{}

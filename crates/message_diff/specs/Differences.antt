@@ -5,6 +5,7 @@ use Rattle.std.specs.List.{flat_map, list_any}
 use Rattle.message_diff.specs.declared.leaves.Leaf as held
 use Rattle.message_diff.specs.declared.differences.Change.{Change}
 use Rattle.message_diff.specs.declared.differences.Change.TheVariants.{Came, Went, Turned}
+use Rattle.message_diff.specs.Ipv6.{is_ipv6_counter}
 use Rattle.message_diff.specs.Known.{is_text}
 
 -- a leaf: a path and the value at it
@@ -124,10 +125,13 @@ may_be (Some value) = may_be_zero value
 abbrev pub has_path : List (List ℕ) → List ℕ → Bool
 has_path paths path = list_any (λ p. is_text p path) paths
 
--- without an old value that may be of zeros at one of these paths, and a new one that may be so at one of those
+-- a value that is left out: at a counter of IPv6 each, and at one of these paths one that may be of zeros
+abbrev pub is_counter : List (List ℕ) → List ℕ → Option (List ℕ) → Bool
+is_counter paths path value = is_ipv6_counter path || (may_be value && has_path paths path)
+
+-- without an old value at one of these paths, and a new one at one of those
 abbrev pub left_by : List (List ℕ) → List (List ℕ) → Diff → List Diff
-left_by olds news d =
-    left_of (may_be (old_of d) && has_path olds (path_of d)) (may_be (new_of d) && has_path news (path_of d)) d
+left_by olds news d = left_of (is_counter olds (path_of d) (old_of d)) (is_counter news (path_of d) (new_of d)) d
 
 abbrev pub less : List (List ℕ) → List (List ℕ) → List Diff → List Diff
 less olds news ds = flat_map (left_by olds news) ds
@@ -138,6 +142,10 @@ any_old ds = list_any (λ d. may_be (old_of d)) ds
 
 abbrev pub any_new : List Diff → Bool
 any_new ds = list_any (λ d. may_be (new_of d)) ds
+
+-- whether one of them is at a counter of IPv6
+abbrev pub any_ipv6 : List Diff → Bool
+any_ipv6 ds = list_any (λ d. is_ipv6_counter (path_of d)) ds
 
 -- ** leaves and changes
 

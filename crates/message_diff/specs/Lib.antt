@@ -1,6 +1,7 @@
 pub mod Frames
 pub mod Announced
 pub mod Compared
+pub mod Ipv6
 pub mod Differences
 pub mod Paths
 pub mod Shots

@@ -1,9 +1,10 @@
 //! What of the changes is of what the state encodings of the messages have at zero.
 
-ghost use Rattle.std.specs.Prelude.{◌≡◌, ◌&&◌, IfOk, OnOk, option_map, true};
+ghost use Rattle.std.specs.Prelude.{◌≡◌, [], IfOk, OnOk, option_map, true, false};
 ghost use Rattle.message_diff.specs.Differences.{left_of, diff_of, diff_in, diffs_of, less};
 ghost use Rattle.message_diff.specs.Differences.{is_above_zero, has_zero, may_be_zero, may_be};
-ghost use Rattle.message_diff.specs.Differences.{has_path, old_of, new_of, any_old, any_new};
+ghost use Rattle.message_diff.specs.Differences.{is_counter, path_of, old_of, new_of, any_old, any_new, any_ipv6};
+ghost use Rattle.message_diff.specs.Ipv6.{is_ipv6_counter};
 ghost use Rattle.message_diff.specs.Paths.{paths_in};
 ghost use Rattle.message_diff.specs.Sorted.{IsLookup};
 ghost use Rattle.message_diff.specs.declared.leaves.Leaves.{Leaves};
@@ -13,6 +14,7 @@ ghost use Rattle.message_diff.specs.Counted.{IsWithoutCounters, IsLeftBy};
 use crate::desk::Pair;
 use crate::differences::Change;
 use crate::half::Half;
+use crate::ipv6::is_ipv6_counter;
 use crate::lookup::Lookup;
 use crate::parts::Part;
 use crate::snapshot::Compared;
@@ -72,6 +74,13 @@ fn is_zero(change: &Change<'_>) -> bool
     may_be(change.new())
 }
 
+/// Whether a change is at a counter of IPv6, of which states tell nothing.
+fn is_ipv6(change: &Change<'_>) -> bool
+    ensures { result ≡ is_ipv6_counter (path_of (diff_of change.now)) }
+{
+    is_ipv6_counter(change.path())
+}
+
 /// What is left of a change without what the old message clears, and the new one.
 fn left_of<'a>(change: &Change<'a>, by_old: bool, by_new: bool) -> Option<Change<'a>>
     ensures { diff_in result ≡ left_of by_old by_new (diff_of change.now) }
@@ -84,7 +93,7 @@ fn left_of<'a>(change: &Change<'a>, by_old: bool, by_new: bool) -> Option<Change
     }
 }
 
-/// Whether a value may be of zeros at the path of one of the leaves.
+/// Whether a value stands at a counter of IPv6, or may be of zeros at the path of one of the leaves.
 fn is_counter(
     alloc: Global,
     leaves: &mut Lookup<'_>,
@@ -92,12 +101,11 @@ fn is_counter(
     value: Option<&[u8]>,
 ) -> Result<bool, AllocError>
     ensures is { (counters : Leaves) → IsLookup counters leaves.old → IfOk result (λ is.
-        is ≡ (may_be (option_map (λ value. value.now) value.entry)
-        && has_path (paths_in counters) path.now)) }
+        is ≡ is_counter (paths_in counters) path.now (option_map (λ value. value.now) value.entry)) }
     ensures lookup { (counters : Leaves) → IsLookup counters leaves.old
         → IsLookup counters leaves.new }
 {
-    Ok(may_be(value) && leaves.has(alloc, path)?)
+    Ok(is_ipv6_counter(path) || (may_be(value) && leaves.has(alloc, path)?))
 }
 
 /// The counters of two messages, each with other bytes in the place of the zeros of its state encoding: they are the
@@ -203,7 +211,16 @@ impl Counters {
         )
     }
 
-    /// The changes without values at the counters that were taken.
+    /// Whether it is certain that none of the changes is at a counter.
+    fn has_none(&self, changes: &[Change<'_>]) -> bool
+        ensures old { result ≡ true → paths_in self.now.old.leaves ≡ [] }
+        ensures new { result ≡ true → paths_in self.now.new.leaves ≡ [] }
+        ensures ipv6 { result ≡ true → any_ipv6 (diffs_of changes.now) ≡ false }
+    {
+        self.old.leaves.is_empty() && self.new.leaves.is_empty() && !changes.iter().any(is_ipv6)
+    }
+
+    /// The changes without values at the counters that were taken, and at those of IPv6.
     fn without<'a>(
         &self,
         alloc: Global,
@@ -237,7 +254,7 @@ impl Counters {
             (diffs_of changes.entry.items) (diffs_of left.items)) }
     {
         self.take(alloc, pair, changes.as_slice())?;
-        if self.old.leaves.is_empty() && self.new.leaves.is_empty() {
+        if self.has_none(changes.as_slice()) {
             return Ok(changes);
         }
         self.without(alloc, changes.as_slice())
