@@ -90,8 +90,8 @@ pub fn law_told()
     law_shown()
 }
 
-/// Where states are compared, nothing is told at a counter of IPv6 in `IFLA_PROTINFO`, whatever the length of its record
-/// and the order of its names.
+/// Where states are compared, nothing is told at a counter of IPv6 in `IFLA_PROTINFO`, whatever the length of its
+/// record and the order of its names.
 pub fn law_counters()
     ensures { NoneIsIpv6 }
 {}

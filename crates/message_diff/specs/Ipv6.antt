@@ -1,5 +1,5 @@
--- The paths of what IFLA_PROTINFO counts of IPv6. Such a record may be shorter than its names, and a name that it has no
--- bytes for is shown as zero.
+-- The paths of what IFLA_PROTINFO counts of IPv6. Such a record may be shorter than its names, and a name that it has
+-- no bytes for is shown as zero.
 use Rattle.std.specs.Prelude.{ℕ, ◌==◌, ◌&&◌, ◌||◌, List, [], ◌∷◌, Bool, codes, cond, drop, length, take}
 use Rattle.message_diff.specs.Known.{is_text}
 

@@ -5,6 +5,7 @@ use crate::rattle::prelude::Vec;
 use crate::message_diff::desk::Pair;
 use crate::message_diff::differences::Change;
 use crate::message_diff::half::Half;
+use crate::message_diff::ipv6::is_ipv6_counter;
 use crate::message_diff::lookup::Lookup;
 use crate::message_diff::parts::Part;
 use crate::message_diff::snapshot::Compared;
@@ -52,6 +53,11 @@ fn is_zero(change: &Change<'_>) -> bool {
     may_be(change.new())
 }
 
+/// Whether a change is at a counter of IPv6, of which states tell nothing.
+fn is_ipv6(change: &Change<'_>) -> bool {
+    is_ipv6_counter(change.path())
+}
+
 /// What is left of a change without what the old message clears, and the new one.
 fn left_of<'a>(change: &Change<'a>, by_old: bool, by_new: bool) -> Option<Change<'a>> {
     match (*change, by_old, by_new) {
@@ -62,14 +68,14 @@ fn left_of<'a>(change: &Change<'a>, by_old: bool, by_new: bool) -> Option<Change
     }
 }
 
-/// Whether a value may be of zeros at the path of one of the leaves.
+/// Whether a value stands at a counter of IPv6, or may be of zeros at the path of one of the leaves.
 fn is_counter(
     alloc: Global,
     leaves: &mut Lookup<'_>,
     path: &[u8],
     value: Option<&[u8]>,
 ) -> Result<bool, AllocError> {
-    Ok(may_be(value) && leaves.has(alloc, path)?)
+    Ok(is_ipv6_counter(path) || (may_be(value) && leaves.has(alloc, path)?))
 }
 
 /// The counters of two messages, each with other bytes in the place of the zeros of its state encoding: they are the
@@ -159,7 +165,12 @@ impl Counters {
         )
     }
 
-    /// The changes without values at the counters that were taken.
+    /// Whether it is certain that none of the changes is at a counter.
+    fn has_none(&self, changes: &[Change<'_>]) -> bool {
+        self.old.leaves.is_empty() && self.new.leaves.is_empty() && !changes.iter().any(is_ipv6)
+    }
+
+    /// The changes without values at the counters that were taken, and at those of IPv6.
     fn without<'a>(
         &self,
         alloc: Global,
@@ -187,7 +198,7 @@ impl Counters {
         changes: Vec<Change<'a>>,
     ) -> Result<Vec<Change<'a>>, AllocError> {
         self.take(alloc, pair, changes.as_slice())?;
-        if self.old.leaves.is_empty() && self.new.leaves.is_empty() {
+        if self.has_none(changes.as_slice()) {
             return Ok(changes);
         }
         self.without(alloc, changes.as_slice())

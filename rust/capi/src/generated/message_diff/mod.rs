@@ -10,6 +10,7 @@ mod differences;
 mod files;
 mod frames;
 mod half;
+mod ipv6;
 mod key;
 mod labels;
 mod leaves;
