@@ -12,7 +12,7 @@ export PYTHONPATH=$top/python LINKWIRE=$programs/liblinkwire.so.0 LINKDIFF=$prog
 # tables VERSION PYTHON
 tables() {
     local start=$SECONDS log=$folder/$1.log
-    runs env PYTHONPATH="$PYTHONPATH:tests/linkwatch" "$2" -m unittest test_wording test_folding test_reading test_rates
+    runs env PYTHONPATH="$PYTHONPATH:tests/linkwatch" "$2" -m unittest test_folding test_reading test_rates
     echo "linkwatch: Python $1: $(sed -n 's/^Ran \([0-9]* tests\).*/\1/p' "$log"): ok, $((SECONDS - start)) s"
 }
 

@@ -7,23 +7,23 @@ from typing import List
 from linkwire import __version__
 
 from .options import HELP, Options
-from .printing import Enough, Output
-from .reading import Teller, compared, live, recorded, says
-from .wording import Words
-
-TROUBLE = 2
+from .printing import Output, says
+from .rates import watch_rates
+from .reading import compared, live, once, recorded
 
 
 def run(arguments: List[str]) -> int:
     """Runs the command, and returns its exit status: linkwatch(1) says which there are."""
-    if sys.stdout is None:
-        says("standard output is closed")
-        return TROUBLE
     try:
-        try:
-            status = _done(Options(arguments))
-        except Enough:
-            status = 0
+        if sys.stdout is None:
+            raise ValueError("standard output is closed")
+        options, status = Options(arguments), 0
+        task = live if options.read is None else recorded
+        task = once if options.once else watch_rates if options.rates else compared if options.diff else task
+        if options.help or options.version:
+            sys.stdout.write(HELP if options.help else f"linkwatch {__version__}\n")
+        else:
+            status = task(options, Output(options, sys.stdout))
         sys.stdout.flush()
         return status
     except OSError as error:
@@ -31,29 +31,4 @@ def run(arguments: List[str]) -> int:
     except ValueError as error:
         says(str(error))
     sys.stdout = open(os.devnull, "w", encoding="utf-8")  # what could not be written is not tried again at the end
-    return TROUBLE
-
-
-def _done(options: Options) -> int:
-    if options.help or options.version:
-        sys.stdout.write(HELP if options.help else f"linkwatch {__version__}\n")
-        return 0
-    output = Output(sys.stdout, Words(sys.stdout.encoding or "ascii", options.details), options.color, options.count)
-    if options.once:
-        from .tables import once
-
-        return once(options, output)
-    if options.rates:
-        from .rates import watch_rates
-
-        watch_rates(options, output)
-        return 0
-    teller = Teller(options, output)
-    if options.diff:
-        options.time, options.settle = "none", 0
-        return compared(options, teller)
-    if options.read is None:
-        live(options, teller)
-    else:
-        recorded(options, teller, options.read)
-    return 0
+    return 2

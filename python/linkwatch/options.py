@@ -1,7 +1,7 @@
 """The arguments of the command."""
 
 import re
-from typing import Any, Callable, Dict, Iterator, List, Optional, Tuple
+from typing import Any, Callable, Dict, List, Optional, Tuple
 
 HELP = """usage: linkwatch [OPTION ..] [NAME ..]
        linkwatch --once [NAME ..]
@@ -31,84 +31,63 @@ pattern such as 'veth*'. An interface that was selected stays selected when it i
 The manual page linkwatch(1) says the rest.
 """
 
-
-class Misused(ValueError):
-    """What is wrong with the arguments."""
-
-
-def _seconds(text: str) -> float:
-    if not 0 < float(text) <= 1e6:  # which poll(2) can wait for
-        raise ValueError
-    return float(text)
-
-
-def _lines(text: str) -> int:
-    if int(text) < 1:
-        raise ValueError
-    return int(text)
-
-
-# The words that the help has behind options: what a value is made by, which raises ValueError, and what it is.
-VALUES: Dict[str, Tuple[Callable[[str], Any], str]] = {
-    "FILE": (str, "a file"),
-    "NAME": (str, "a name or a path"),
-    "SECONDS": (_seconds, "a number of seconds above 0"),
-    "N": (_lines, "a number from 1 on"),
-    "FORM": ({it: it for it in ("clock", "utc", "none")}.__getitem__, "clock, utc or none"),
-    "WHEN": ({it: it for it in ("auto", "always", "never")}.__getitem__, "auto, always or never"),
-    "OLD": (str, "two files"),
+# of the word that the help has behind an option: what makes a value of a text, whether it fits, and what it is
+VALUES: Dict[str, Tuple[Callable[[str], Any], Optional[Callable[[Any], bool]], str]] = {
+    "FILE": (str, None, "a file"),
+    "NAME": (str, None, "a name or a path"),
+    "OLD": (str, None, "two files"),
+    "SECONDS": (float, lambda it: 0 < it <= 1e6, "a number of seconds above 0"),  # poll(2) waits no longer
+    "N": (int, lambda it: it > 0, "a number from 1 on"),
+    "FORM": (str, ("clock", "utc", "none").__contains__, "clock, utc or none"),
+    "WHEN": (str, ("auto", "always", "never").__contains__, "auto, always or never"),
 }
 OPTIONS: Dict[str, str] = {"-h": "", "--help": "", **dict(re.findall(r"^  (--[a-z]+) +\[?([A-Z]*)\b", HELP, re.M))}
 KEPT_AS = {"-h": "help", "--for": "end"}
 
 
 class Options:
-    """What the arguments ask for. Raises Misused. Options and names come in any order; after `--` all are names."""
+    """What the arguments ask for. Options and names come in any order; after `--` all are names. Raises ValueError."""
 
     once = json = details = help = version = False
     read: Optional[str] = None
     netns: Optional[str] = None
-    every, end, settle, rates = 60.0, 0.0, 0.0, 0.0  # 0 is none
-    count: Optional[int] = None
+    every, end, settle, rates, count = 60.0, 0.0, 0.0, 0.0, 0  # 0 is none
     time, color = "clock", "auto"
 
     def __init__(self, words: List[str]) -> None:
         self.names: List[str] = []
         self.diff: List[str] = []
-        rest = iter(_with_rates(words))
-        for word in rest:
+        rest = words[::-1]
+        while rest:
+            word = rest.pop()
             if word == "--":
-                self.names += rest
-            elif not word.startswith("-") or word == "-":
+                self.names += reversed(rest)
+                break
+            if word == "-" or not word.startswith("-"):
                 self.names.append(word)
             elif word not in OPTIONS:
-                raise Misused(f"there is no option {word}")
+                raise ValueError(f"there is no option {word}")
             elif word == "--diff":
                 self.diff = [_value(word, rest), _value(word, rest)]
+            elif word == "--rates" and not "".join(rest[-1:]).replace(".", "", 1).isdecimal():
+                self.rates = 1.0
             else:
                 setattr(self, KEPT_AS.get(word, word[2:]), not OPTIONS[word] or _value(word, rest))
         if [self.once, bool(self.diff), self.read is not None, self.rates > 0].count(True) > 1:
-            raise Misused("only one of --once, --read, --diff and --rates")
+            raise ValueError("only one of --once, --read, --diff and --rates")
         if self.diff == ["-", "-"]:
-            raise Misused("--diff: only one of the files can be standard input")
+            raise ValueError("--diff: only one of the files can be standard input")
 
 
-def _with_rates(words: List[str]) -> List[str]:
-    """The arguments with a number behind --rates, where there is none."""
-    found: List[str] = []
-    for at, word in enumerate(words):
-        found.append(word)
-        is_option = word == "--rates" and "--" not in words[:at]
-        if is_option and not "".join(words[at + 1:at + 2]).replace(".", "", 1).isdecimal():
-            found.append("1")
-    return found
-
-
-def _value(word: str, rest: Iterator[str]) -> Any:
-    made, what = VALUES[OPTIONS[word]]
-    for text in rest:
-        try:
-            return made(text)
-        except (KeyError, ValueError):
-            raise Misused(f"{word}: {what}, not {text}") from None
-    raise Misused(f"{word}: {what} is missing")
+def _value(word: str, rest: List[str]) -> Any:
+    """What an option has for its value, taken from the end of the arguments that are left."""
+    make, fits, what = VALUES[OPTIONS[word]]
+    if not rest:
+        raise ValueError(f"{word}: {what} is missing")
+    text = rest.pop()
+    try:
+        if fits is None or fits(make(text)):
+            return make(text)
+    except ValueError:
+        pass
+    raise ValueError(f"{word}: {what}, not {text}")

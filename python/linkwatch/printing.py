@@ -1,114 +1,113 @@
 """Lines on standard output: as wide as the terminal is, in colours where it has them."""
 
 import os
-from typing import Dict, List, Optional, TextIO, Tuple
+import select
+import sys
+from datetime import datetime
+from math import inf
+from typing import Dict, Iterable, List, Optional, Sequence, TextIO, Tuple
 
-from linkwire import Change
+from linkwire import Event, Settling, Stream, Told, View, Words, escaped, width
 
-from .folding import Told
-from .wording import Part, Words, width
+from .options import Options
 
-SGR = {"time": "2", "name": "36", "new": "32", "gone": "31", "lost": "1;33", "again": "32", "fault": "1;31",
-       "value": "1"}
+SGR = {"time": "2", "name": "36", "value": "1", "new": "32", "gone": "31", "lost": "1;33", "again": "32",
+       "fault": "1;31", "up": "32", "down": "31", "lowerlayerdown": "31"}
+UTC = "%Y-%m-%dT%H:%M:%S.%fZ"
 NAME_WIDTH = 15
 
 
-class Enough(Exception):
-    """As many lines were written as --count asks for."""
+def says(text: str) -> None:
+    """Writes a line to standard error."""
+    if sys.stderr is not None:
+        print(f"linkwatch: {escaped(text)}", file=sys.stderr)
 
 
-def has_colours(when: str, is_terminal: bool) -> bool:
-    """Whether to write colours, by --color and what the environment says of the terminal."""
-    if when == "auto":
-        return is_terminal and not os.environ.get("NO_COLOR") and os.environ.get("TERM") != "dumb"
-    return when == "always"
+def is_read(seconds: float, stream: Optional[Stream[Event]] = None) -> bool:
+    """Waits so long, or until the stream has something; false where nobody reads standard output any more."""
+    poll = select.poll()
+    poll.register(1, 0)  # an error is told in any case
+    if stream is not None:
+        poll.register(stream.fileno(), select.POLLIN)
+    ready = poll.poll(None if seconds == inf else 1000 * max(0.0, seconds))
+    return not any(fd == 1 and what & (select.POLLERR | select.POLLNVAL) for fd, what in ready)
 
 
-def size_of(out: TextIO) -> os.terminal_size:
-    """The columns and lines of a terminal; it is asked each time, as its window may be made wider."""
-    try:
-        columns, lines = os.get_terminal_size(out.fileno())
-    except OSError:
-        columns, lines = 0, 0
-    return os.terminal_size((columns or 80, lines or 24))
+def aligned(rows: Sequence[Sequence[str]]) -> List[List[str]]:
+    """Cells as wide as the widest of their column."""
+    widths = [max(map(width, column)) for column in zip(*rows)]
+    return [[cell + " " * (size - width(cell)) for cell, size in zip(it, widths)] for it in rows]
 
 
 class Output:
-    """Where text goes. `left` is how many lines may still be written."""
+    """Where lines go, of what the options ask for and in their form."""
 
-    def __init__(self, out: TextIO, words: Words, colour: str = "auto", left: Optional[int] = None) -> None:
-        self.out, self.words, self.left = out, words, left
-        self.is_terminal = out.isatty()
-        self.has_colours = has_colours(colour, self.is_terminal)
+    def __init__(self, options: Options, out: TextIO) -> None:
+        self.out, self.is_json, self.time, self.left = out, options.json, options.time, options.count or inf
+        self.view, self.settling = View(options.names, options.details), Settling(options.settle)
+        self.words, self.is_terminal = Words(out.encoding or "ascii", options.details), out.isatty()
+        is_plain = os.environ.get("NO_COLOR") or os.environ.get("TERM") == "dumb" or not self.is_terminal
+        self.has_colours = options.color == "always" or options.color == "auto" and not is_plain
+
+    def size(self) -> Tuple[int, int]:
+        """The columns and lines of the terminal; it is asked each time, as its window may be made wider."""
+        columns, lines = os.get_terminal_size(self.out.fileno())
+        return columns or 80, lines or 24
+
+    def stamp(self, when: Optional[datetime]) -> str:
+        """A time, as --time asks for it; dashes where there is none."""
+        if self.time == "none" or when is None:
+            return "" if self.time == "none" else "-" * 12
+        return when.strftime(UTC) if self.time == "utc" else when.astimezone().strftime("%H:%M:%S.%f")[:12]
 
     def paint(self, kind: str, text: str) -> str:
-        return f"\x1b[{SGR[kind]}m{text}\x1b[0m" if self.has_colours and text else text
+        """The text in the colour of its kind, if that has one."""
+        return f"\x1b[{SGR[kind]}m{text}\x1b[0m" if self.has_colours and text and kind in SGR else text
 
     def write(self, line: str) -> None:
-        """Writes a line. Raises Enough after the last one that is asked for."""
+        """Writes a line, and ends the command after as many as --count asks for."""
         self.out.write(line + "\n")
-        if self.left is not None:
-            self.left -= 1
-            if self.left <= 0:
-                raise Enough
+        self.left -= 1
+        if self.left <= 0:
+            self.out.flush()
+            sys.exit()
 
-    def wrapped(self, parts: List[Part], indent: int) -> str:
-        """Parts with commas between; on a terminal those that do not fit begin a line under the first."""
-        room = size_of(self.out).columns - indent if self.is_terminal else 0
-        text, used = "", 0
-        for at, it in enumerate(parts):
-            comma = "," if at + 1 < len(parts) else ""
-            size = width(it.before + it.new + comma)
-            if used and self.is_terminal and used + 1 + size > room:
-                text, used = text + "\n" + " " * indent, 0
-            elif at:
-                text, used = text + " ", used + 1
-            text, used = text + it.before + self.paint("value", it.new) + comma, used + size
-        return text
+    def tell(self, event: Event, words: Optional[Dict[str, str]] = None) -> bool:
+        """Writes what an event says, or holds it for --settle; false if that is nothing."""
+        told = self.view.told(event)
+        if not self.is_json:
+            for it in told or ():
+                self.lines(self.settling.add(it))
+            return bool(told)
+        is_told = told is not None and not event.is_first and event.change not in ("done", "again")
+        if is_told:
+            self.write(event.json(words))
+        return is_told
 
-    def tell(self, time: str, told: Told) -> None:
-        """Writes what is told, behind a time; without one where it is empty."""
-        words = self.words
-        name = f"{words.name(told.host)}/" if told.host else ""
-        name += words.name(told.name)
-        name += " " * (NAME_WIDTH - width(name))
-        indent = width(time) + 2 * bool(time) + width(name) + 2
-        if told.what == "changed":
-            parts = [words.change(it) for it in told.items]
-            if told.port_of:
-                parts[0] = parts[0]._replace(before=f"port of {words.name(told.port_of)}: {parts[0].before}")
-            text = self.wrapped(parts, indent)
-        else:
-            parts = [Part(words.text(told.text))] if told.text else [words.there(it) for it in told.items]
-            size = len(told.what) + 1
-            text = f"{self.paint(told.what, told.what)} {self.wrapped(parts, indent + size)}".rstrip()
-        self.write(self.paint("time", time) + "  " * bool(time) + self.paint("name", name) + "  " + text)
+    def lines(self, lines: Iterable[Told]) -> None:
+        """Writes what is told, a line each."""
+        for told in lines:
+            time, host = self.stamp(told.event.when), told.event.host
+            name = (f"{self.words.name(host)}/" if host else "") + self.words.name(told.name)
+            name += " " * (NAME_WIDTH - width(name))
+            head = (self.paint("time", time) + "  " if time else "") + self.paint("name", name) + "  "
+            indent = (len(time) + 2 if time else 0) + width(name) + 2
+            if told.what != "changed":
+                head += self.paint(told.what, told.what) + " "
+                indent += len(told.what) + 1
+            self.write((head + self.wrapped(told, indent)).rstrip())
 
-
-class Settled:
-    """Lines that wait a moment, so that the changes of a link become one."""
-
-    def __init__(self, output: Output) -> None:
-        self.output = output
-        self.held: Dict[Tuple[str, Optional[int], bool], Tuple[str, Told]] = {}
-
-    def tell(self, time: str, told: Told) -> None:
-        """Holds a change, with those of the same link; another line is written, after all that wait."""
-        if told.what != "changed":
-            self.release()
-            self.output.tell(time, told)
-            return
-        key = told.host, told.ifindex, bool(told.port_of)
-        time, last = self.held.get(key, (time, told._replace(items=[])))
-        items = {it.path: it for it in last.items}
-        for it in told.items:
-            items[it.path] = Change(it.path, items.get(it.path, it).old, it.new)
-        self.held[key] = time, told._replace(items=list(items.values()))
-
-    def release(self) -> None:
-        """Writes what waits, but for what is as it was."""
-        held, self.held = self.held, {}
-        for time, told in held.values():
-            items = [it for it in told.items if it.old != it.new]
-            if items:
-                self.output.tell(time, told._replace(items=items))
+    def wrapped(self, told: Told, indent: int) -> str:
+        """What is told, with commas between; on a terminal what does not fit begins a line under the first."""
+        parts = self.words.told(told)
+        room, used = self.size()[0] - indent if self.is_terminal else inf, 0
+        rows: List[List[str]] = []
+        for at, (before, new) in enumerate(parts, 1):
+            comma = "," if at < len(parts) else ""
+            size = width(before + new + comma)
+            if not rows or used + 1 + size > room:
+                rows.append([])
+                used = -1
+            rows[-1].append(before + self.paint("value", new) + comma)
+            used += 1 + size
+        return ("\n" + " " * indent).join(map(" ".join, rows))

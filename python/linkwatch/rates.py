@@ -1,20 +1,18 @@
 """The table of --rates: bytes, packets and errors a second, by link."""
 
 import json
-import select
 import struct
 import sys
 import time
+from datetime import datetime, timezone
+from math import inf
 from typing import Dict, Iterator, List, NamedTuple, Optional, Sequence, Tuple
 
 from linkwire import Links, attributes, pick
 from linkwire.numbers import IFLA_ALT_IFNAME, IFLA_IFNAME, IFLA_PROP_LIST, IFLA_STATS64
 
-from .folding import Folding
 from .options import Options
-from .printing import Output, size_of
-from .reading import UNREAD, stamp
-from .tables import aligned
+from .printing import UTC, Output, aligned, is_read
 
 # the first of struct rtnl_link_stats64, and the columns of the table
 COUNTERS = "rx-packets", "tx-packets", "rx-bytes", "tx-bytes", "rx-errors", "tx-errors"
@@ -94,37 +92,35 @@ def json_lines(found: Sequence[Rate], at: str, seconds: float) -> Iterator[str]:
 
 def show(found: Sequence[Rate], seconds: float, options: Options, output: Output) -> None:
     """Writes a table: over the last one on a terminal, else below it, behind a time."""
-    now = time.time()
-    at = time.strftime("%Y-%m-%dT%H:%M:%S", time.gmtime(now)) + f".{int(now % 1 * 1e6):06}Z"
+    now = datetime.now(timezone.utc)
     if options.json:
-        text = "".join(f"{it}\n" for it in json_lines(found, at, seconds))
+        text = "".join(f"{it}\n" for it in json_lines(found, now.strftime(UTC), seconds))
     elif output.is_terminal:
-        lines = table(found, output, max(1, size_of(output.out).lines - 3))
+        lines = table(found, output, max(1, output.size()[1] - 3))
         text = HOME + "".join(f"{it}{TO_END_OF_LINE}\n" for it in lines) + TO_END
     else:
-        time_of = stamp(options.time, at)
+        time_of = output.stamp(now)
         text = "".join(f"{it}\n" for it in ([time_of] if time_of else []) + table(found, output, None)) + "\n"
     output.out.write(text)
     output.out.flush()
 
 
-def watch_rates(options: Options, output: Output) -> None:
+def watch_rates(options: Options, output: Output) -> int:
     """Shows rates each so many seconds, until --for or --count is over or nobody reads standard output."""
-    poll = select.poll()
-    poll.register(1, 0)
-    folding, left = Folding(options.names), options.count
+    left = options.count or inf
     with Links(options.netns) as links:
         old, begun = counted(links.dump()), time.monotonic()
         end, last, due = begun + options.end, begun, begun
         if output.is_terminal and not options.json:
             output.out.write(HOME + TO_END)
-        while left != 0 and (not options.end or due < end):
+        while left > 0 and (not options.end or due < end):
             due += options.rates
             while time.monotonic() < due:
-                if any(what & UNREAD for _, what in poll.poll(max(1, 1000 * (due - time.monotonic())))):
-                    return
+                if not is_read(due - time.monotonic()):
+                    return 0
             new, now = counted(links.dump()), time.monotonic()
-            found = [it for it in rates(old, new, now - last) if folding.matches(new[it.ifindex].names)]
+            found = [it for it in rates(old, new, now - last) if output.view.matches(new[it.ifindex].names)]
             show(found, now - last, options, output)
             old, last, due = new, now, max(due, now - options.rates)
-            left = None if left is None else left - 1
+            left -= 1
+    return 0

@@ -1,160 +1,62 @@
-"""Where events come from: the running kernel, a recording, or two of them."""
+"""Where events come from: the running kernel, a recording, or the ends of two of them; and what is there now."""
 
-import functools
 import json
-import select
 import sys
 import time
-from datetime import datetime
 from math import inf
-from typing import Any, Dict, Iterator, List, Optional, Set, Tuple, Union
+from typing import Any, Dict, Iterator, List, Tuple
 
-from linkwire import Event, Links, Watch, read_line, show_json
+from linkwire import Event, Links, Settling, Watch, number, read_line, show
 
-from .folding import AF_UNSPEC, Folding
 from .options import Options
-from .printing import Output, Settled
-from .wording import escaped
+from .printing import Output, aligned, is_read, says
 
 AT_ONCE = .02  # seconds for which what comes is read before anything is written
-CANNOT_TELL = 2
-UNREAD = select.POLLERR | select.POLLNVAL
-FAMILIES = range(256)
+HEAD = ["NAME", "INDEX", "KIND", "MASTER", "STATE", "MTU", "ADDRESS"]
 
 
-def says(text: str) -> None:
-    """Writes a line to standard error."""
-    if sys.stderr is not None:
-        print(f"linkwatch: {escaped(text)}", file=sys.stderr)
-
-
-@functools.lru_cache(maxsize=1)  # what comes at once has one time
-def stamp(form: str, when: str) -> str:
-    """A word `time=`, as --time asks for it; dashes where there is none."""
-    if form == "none":
-        return ""
-    try:
-        at = datetime.strptime(when[:26].rstrip("Z") + "+0000", "%Y-%m-%dT%H:%M:%S.%f%z")
-    except ValueError:
-        return "-" * 12
-    return at.strftime("%Y-%m-%dT%H:%M:%S.%fZ") if form == "utc" else at.astimezone().strftime("%H:%M:%S.%f")[:12]
-
-
-def json_line(event: Event, words: Dict[str, str]) -> str:
-    """The line of linkdiff(1), in ASCII. `words` are `type=`, `time=` and `host=` of the line that was read."""
-    found: Dict[str, Any] = {}
-    for name in "type", "time", "host":
-        if name in words:
-            raw = words[name].encode("utf-8", "surrogateescape")
-            found[name] = words[name] if raw == words[name].encode("utf-8", "replace") else raw.hex()
-    if event.fault is not None:
-        found.update(json.loads(show_json(event.message, "running", True)))
-    else:
-        found.update({"change": event.change, "ifi-family": event.family, "ifi-index": event.ifindex,
-                      "ifname": event.ifname})
-        if event.change == "changed":
-            found["changes"] = [_there(it._asdict()) for it in event.changes]
-        found = _there(found)
-    return json.dumps(found, separators=(",", ":"))
-
-
-def _there(members: Dict[str, Any]) -> Dict[str, Any]:
-    return {name: it for name, it in members.items() if it is not None}
-
-
-class Teller:
-    """Hands on what events tell, as the options ask for it."""
-
-    def __init__(self, options: Options, output: Output) -> None:
-        self.options, self.output, self.folding = options, output, Folding(options.names, options.details)
-        self.settled = Settled(output)
-        self.lines: Union[Output, Settled] = self.settled if options.settle else output
-        self.whole: Set[Tuple[str, Optional[int]]] = set()  # hosts and families of which all links are known
-        self.ended: Optional[Tuple[str, Optional[int]]] = None  # the link that the event before told as gone
-        # the lines are then those of Watch itself
-        self.is_all = options.json and not options.names and not options.diff
-
-    def tell(self, event: Event, words: Dict[str, str]) -> bool:
-        """Writes what an event tells; false if that is nothing. A link that is there at first is not told."""
-        if event.change == "done":
-            self.whole.add((event.host, event.family))
-            return False
-        key = event.host, event.ifindex
-        is_of_another_kind = key == self.ended
-        self.ended = key if event.change == "gone" else None
-        is_whole = (event.host, event.family) in self.whole
-        is_first = event.change == "new" and not is_whole and not is_of_another_kind
-        if self.options.json:
-            is_told = self.is_all or self._is_asked_for(event, is_first)
-            if is_told:
-                self.output.write(json_line(event, words))
-            return is_told
-        told = self.folding.told(event, is_first)
-        for it in told:
-            self.lines.tell(stamp(self.options.time, event.time), it)
-        return bool(told)
-
-    def _is_asked_for(self, event: Event, is_first: bool) -> bool:
-        was_selected = self.folding.selects(event)
-        told = self.folding.told(event, is_first)
-        return not is_first and event.change != "again" and bool(was_selected or told or self.folding.selects(event))
-
-    def missing(self) -> List[str]:
-        """The names of which there is no link."""
-        there = [[it.name, *it.names] for it in self.folding.links.values()]
-        return [name for name in self.options.names if not any(map(Folding([name]).matches, there))]
-
-
-def live(options: Options, teller: Teller) -> None:
+def live(options: Options, output: Output) -> int:
     """Tells what the kernel announces, until --for is over or nobody reads standard output."""
-    with Links(options.netns) as links, links.watch(
-            every=options.every, lenient=True, changes_only=teller.is_all, dumps=not teller.is_all) as stream:
-        poll = select.poll()
-        poll.register(stream.fileno(), select.POLLIN)
-        poll.register(1, 0)  # an error there says that nobody reads any more
-        now, settle = time.monotonic(), inf
-        end = now + (options.end or inf)
-        while now < end:
-            due = stream.due()
-            wait = min(inf if due is None else due, end - now, max(0, settle - now))
-            if any(fd == 1 and what & UNREAD for fd, what in poll.poll(None if wait == inf else 1000 * wait)):
-                return
+    end, settling, waited_for = time.monotonic() + (options.end or inf), output.settling, options.names
+    with Links(options.netns) as links, links.watch(every=options.every, lenient=True, dumps=True) as stream:
+        while time.monotonic() < end:
+            waits = [it for it in (stream.due(), settling.due(), end - time.monotonic()) if it is not None]
+            if not is_read(min(waits), stream):
+                return 0
             for event in stream.ready(AT_ONCE):
-                teller.tell(event, {"time": event.time})
-                if event.change == "done" and len(teller.whole) == 1:  # the first dump
-                    for name in teller.missing():
+                output.tell(event)
+                if event.change == "done" and waited_for:
+                    waited_for = []
+                    for name in output.view.missing():
                         says(f"no link {name} now: it is waited for")
-            now = time.monotonic()
-            settle = min(settle, now + options.settle if teller.settled.held else inf)
-            if now >= min(end, settle):
-                teller.settled.release()
-                settle = inf
+            if settling.due() == 0:
+                output.lines(settling.release())
             sys.stdout.flush()
+    output.lines(settling.release())
+    return 0
 
 
-def lines_of(path: str) -> Iterator[Tuple[int, str]]:
-    """The lines of a file, or of standard input, with their numbers."""
+def lines_of(path: str, watch: Watch, is_strict: bool) -> Iterator[Tuple[List[Event], Dict[str, str]]]:
+    """The events and words of each line of a file, or of standard input; of others it says so, or raises ValueError."""
     with open(path if path != "-" else 0, "rb", closefd=path != "-") as source:
         for row, raw in enumerate(source, 1):
-            yield row, raw.decode("utf-8", "surrogateescape")
+            line = raw.decode("utf-8", "surrogateescape")
+            try:
+                yield watch.line(line), read_line(line).words
+            except ValueError as error:
+                if is_strict:
+                    raise ValueError(f"{path}: line {row}: {error}") from None
+                says(f"line {row}: {error}")
 
 
-def recorded(options: Options, teller: Teller, path: str) -> None:
+def recorded(options: Options, output: Output) -> int:
     """Tells what lines of linkdump(1) say, as they come."""
-    watch = Watch(lenient=True, changes_only=teller.is_all, dumps=not teller.is_all)
-    for row, line in lines_of(path):
-        try:
-            events = watch.line(line)
-        except ValueError as error:
-            says(f"line {row}: {error}")
-            continue
-        words = read_line(line).words if events and options.json else {}
-        teller.ended = None
+    for events, words in lines_of(options.read or "", Watch(lenient=True, dumps=True), False):
         for event in events:
-            teller.tell(event, words)
-        if events:
-            sys.stdout.flush()
-    teller.settled.release()
+            output.tell(event, words)
+        sys.stdout.flush()
+    output.lines(output.settling.release())
+    return 0
 
 
 class Recording:
@@ -162,39 +64,53 @@ class Recording:
 
     def __init__(self, path: str) -> None:
         self.path, self.watch = path, Watch(lenient=True)
-        self.asked: Set[str] = set()
-        for row, line in lines_of(path):
-            try:
-                self.watch.line(line)
-            except ValueError as error:
-                raise ValueError(f"{path}: line {row}: {error}") from None
-            words = read_line(line).words
-            if words.get("type") in ("begin", "done"):
-                self.asked.add(words.get("host", ""))
+        words = [it for _, it in lines_of(path, self.watch, True)]
+        self.asked = {it.get("host", "") for it in words if it.get("type") in ("begin", "done")}
 
     def is_whole(self, host: str) -> bool:
         """Whether a link that it does not have is not there; so it is of lines without those of a dump."""
-        return AF_UNSPEC in self.watch.whole(host) or host not in self.asked and host in self.watch.hosts()
+        return 0 in self.watch.whole(host) or host not in self.asked and host in self.watch.hosts()
 
 
-def compared(options: Options, teller: Teller) -> int:
+def compared(options: Options, output: Output) -> int:
     """Tells how the ends of two recordings differ. Returns 1 if they do, and 2 if that cannot be told."""
-    old, new = map(Recording, options.diff)
-    status = 0
+    (old, new), status = map(Recording, options.diff), 0
+    output.time, output.settling = "none", Settling(0)
     for host in sorted({*old.watch.hosts(), *new.watch.hosts()}):
         for it, what in ((old, "came"), (new, "went")):
             if not it.is_whole(host):
-                of = f" of {host}" if host else ""
-                says(f"{it.path}: no whole dump{of}: what {what} is not told")
-                status = CANNOT_TELL
-        watch = Watch(lenient=True)
-        for message in old.watch.links(host).values():
-            for event in watch.message(message, host=host):
-                teller.folding.told(event, True)
-        teller.whole |= {(host, family) for family in FAMILIES if old.is_whole(host)}
-        watch.begin("new", host)
-        events = [it for message in new.watch.links(host).values() for it in watch.message(message, host=host)]
-        events += watch.done("new", AF_UNSPEC, host) if new.is_whole(host) else []
-        told = [teller.tell(it, {"host": host} if host else {}) for it in events]
+                says(f"{it.path}: no whole dump{f' of {host}' if host else ''}: what {what} is not told")
+                status = 2
+        output.view.learn(old.watch.links(host), host)
+        told = [output.tell(it) for it in old.watch.compared(new.watch, host, old.is_whole(host), new.is_whole(host))]
         status = status or int(any(told))
     return status
+
+
+def row(it: Dict[str, Any], output: Output) -> List[str]:
+    """A link as a row: what it is stacked on stands behind its name, unless that is in another namespace."""
+    index, link, master = it["ifi-index"], it.get("link", 0), it.get("master", 0)
+    below = f"if{link}" if "link-netnsid" in it else output.view.name(link)
+    name = it.get("ifname", "-") + (f"@{below}" if link not in (0, index) else "")
+    state = it.get("operstate", "-") if "up" in it["ifi-flags"] else "off"
+    cells = (name, str(index), it.get("linkinfo", {}).get("kind", "-"), output.view.name(master) if master else "-",
+             state, str(it.get("mtu", "-")), it.get("address", "-"))
+    return list(map(output.words.name, cells))
+
+
+def once(options: Options, output: Output) -> int:
+    """Writes the links that are there, and returns 1 if one of the names is none of them."""
+    with Links(options.netns) as links:
+        there = {(0, number(it[4:8])): it for it in links.dump()}
+    output.view.learn(there)
+    chosen = [show(it, "running", True) for (_, index), it in there.items() if output.view.selects(index)]
+    for it in chosen if options.json else ():
+        output.write(json.dumps(it, separators=(",", ":")))
+    rows = [] if options.json else [HEAD, *(row(it, output) for it in chosen)]
+    for at, cells in enumerate(aligned(rows)):
+        cells[0] = output.paint("name", cells[0]) if at else cells[0]
+        cells[4] = output.paint(rows[at][4], cells[4])
+        output.write("  ".join(cells).rstrip())
+    for name in output.view.missing():
+        says(f"no link {name}")
+    return 1 if output.view.missing() else 0

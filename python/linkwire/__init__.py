@@ -11,13 +11,15 @@ from .messages import (CANONICAL_FORM, HEADER_SIZE, LENIENT_FORM, STATE_FORM, At
 from ._sockets import KernelError, LostMessages
 from .netlink import Announcement, Links
 from .streams import Stream
+from .views import Settling, Told, View, flat, vlans
 from .watching import Event, Line, Watch, read_line
+from .wording import Words, escaped, width
 
 __version__ = "0.3.0"
 __all__ = [
     "CANONICAL_FORM", "HEADER_SIZE", "LENIENT_FORM", "STATE_FORM", "Announcement", "Attribute", "Bytes", "Change",
-    "Event", "Fault", "KernelError", "Line", "Links", "LostMessages", "Refusal", "Stream", "Value", "Watch",
-    "attributes", "be16", "be32", "build", "canonical", "check", "diff", "key", "mac", "number", "pick", "read_line",
-    "refusals", "same_message", "same_state", "show", "show_all", "show_json", "state", "text", "u8", "u16", "u32",
-    "u64",
+    "Event", "Fault", "KernelError", "Line", "Links", "LostMessages", "Refusal", "Settling", "Stream", "Told", "Value",
+    "View", "Watch", "Words", "attributes", "be16", "be32", "build", "canonical", "check", "diff", "escaped", "flat",
+    "key", "mac", "number", "pick", "read_line", "refusals", "same_message", "same_state", "show", "show_all",
+    "show_json", "state", "text", "u8", "u16", "u32", "u64", "vlans", "width",
 ]

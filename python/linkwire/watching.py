@@ -1,12 +1,14 @@
 """Which links came, went or changed: what linkdiff(1) says of lines, as values."""
 
+import json
 import struct
 import sys
 import time as clock
-from typing import Dict, FrozenSet, Iterable, List, NamedTuple, Optional, Sequence, Set, Tuple
+from datetime import datetime
+from typing import Any, Dict, FrozenSet, Iterable, List, Mapping, NamedTuple, Optional, Sequence, Set, Tuple
 
-from .messages import (HEADER_SIZE, Bytes, Change, Fault, attributes, canonical, diff, is_chosen, pick, state,
-                       text)
+from .messages import (HEADER_SIZE, Bytes, Change, Fault, attributes, canonical, diff, is_chosen, pick, show_json,
+                       state, text)
 from .numbers import IFLA_EVENT, IFLA_IFNAME, IFLA_INFO_KIND, IFLA_LINKINFO, IFLA_WIRELESS
 
 AF_UNSPEC, AF_BRIDGE, AF_INET6 = 0, 7, 10
@@ -28,6 +30,7 @@ class Event(NamedTuple):
     fault: the `Fault`.
     time: the word `time=` of the line, as it stands there; of what the kernel said when it was told, in UTC, as
         linkdump(1) writes it.
+    is_first: of `new`, whether `changes_only` leaves it out: the link may have been there before.
     """
 
     change: str
@@ -39,11 +42,47 @@ class Event(NamedTuple):
     message: bytes = b""
     fault: Optional[Fault] = None
     time: str = ""
+    is_first: bool = False
 
     def __repr__(self) -> str:
         """Without the message, which is long."""
         return "Event(" + ", ".join(f"{name}={value!r}" for name, value in zip(self._fields, self)
-                                    if name != "message" and value not in ("", None, ())) + ")"
+                                    if name != "message" and value not in ("", None, ()) and value is not False) + ")"
+
+    @property
+    def when(self) -> Optional[datetime]:
+        """Its time, in UTC; None where that is not as linkdump(1) writes it."""
+        try:
+            return datetime.strptime(self.time[:26].rstrip("Z") + "+0000", "%Y-%m-%dT%H:%M:%S.%f%z")
+        except ValueError:
+            return None
+
+    def json(self, words: Optional[Mapping[str, str]] = None) -> str:
+        """The line of linkdiff(1), in ASCII.
+
+        words: those of the line that was read, of which `type=`, `time=` and `host=` stand there; without them its own
+            time and host do.
+        """
+        if words is None:
+            words = {name: it for name, it in (("time", self.time), ("host", self.host)) if it}
+        found: Dict[str, Any] = {name: _utf8(words[name]) for name in ("type", "time", "host") if name in words}
+        if self.fault is not None:
+            found.update(json.loads(show_json(self.message, "running", True)))
+        else:
+            changes = [_there(it._asdict()) for it in self.changes] if self.change == "changed" else None
+            found.update(_there({"change": self.change, "ifi-family": self.family, "ifi-index": self.ifindex,
+                                 "ifname": self.ifname, "changes": changes}))
+        return json.dumps(found, separators=(",", ":"))
+
+
+def _there(members: Dict[str, Any]) -> Dict[str, Any]:
+    return {name: it for name, it in members.items() if it is not None}
+
+
+def _utf8(word: str) -> str:
+    """The word, in hexadecimal where it was no UTF-8."""
+    raw = word.encode("utf-8", "surrogateescape")
+    return word if raw == word.encode("utf-8", "replace") else raw.hex()
 
 
 class Line(NamedTuple):
@@ -348,8 +387,9 @@ class Watch:
         if seen.message is not None:
             changes = diff(seen.message, message, kernel, self._counters, self._lenient)
             told.append(self._event("changed", host, key, message, changes))
-        elif is_other or key[0] in it.whole or not self._changes_only:
-            told.append(self._event("new", host, key, message))
+        else:
+            new = self._event("new", host, key, message)._replace(is_first=not is_other and key[0] not in it.whole)
+            told += [] if new.is_first and self._changes_only else [new]
         seen.message, seen.encoding, seen.kind = message, encoding, seen.kind if kind is None else kind
         return told
 
@@ -389,3 +429,19 @@ class Watch:
     def whole(self, host: str = "") -> FrozenSet[int]:
         """The families of a host of which a dump was whole."""
         return frozenset(self._hosts[host].whole if host in self._hosts else ())
+
+    def compared(self, new: "Watch", host: str = "", came: bool = True, went: bool = True) -> List[Event]:
+        """What another watch knows of a host and this one does not, as one that first knew this would tell it.
+
+        came, went: tells links that only the other one has, and those that only this one has; without a whole dump of
+            all links they may have been there, or be there, all the time.
+        """
+        watch, there = Watch(self._counters, came is False, self._kernel, self._lenient), new.links(host)
+        watch.begin("old", host)
+        for message in self.links(host).values():
+            watch.message(message, host=host)
+        for family in {family for family, _ in there} if came else ():
+            watch.done("old", family, host)
+        watch.begin("new", host)
+        told = [it for message in there.values() for it in watch.message(message, host=host)]
+        return told + (watch.done("new", AF_UNSPEC, host) if went else [])

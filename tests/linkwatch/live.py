@@ -20,8 +20,7 @@ import sys
 import tempfile
 import time
 
-from linkwatch.folding import Folding, flat
-from linkwire import Links, Watch, show
+from linkwire import Links, View, Watch, flat, show
 
 LINKDUMP, LINKDIFF = map(os.path.realpath, sys.argv[1:3])
 COMMAND = [sys.executable, "-m", "linkwatch"]
@@ -177,13 +176,13 @@ def random_steps(chance, count):
 
 def chains(folder):
     """Holds each old value to the last that was told, and the end to the last dump; returns how many values."""
-    folding, watch, last, count = Folding([], True), Watch(lenient=True), {}, 0
+    view, watch, last, count = View(details=True), Watch(lenient=True), {}, 0
     with open(f"{folder}/record", encoding="utf-8") as record:
         for event in (event for line in record for event in watch.line(line)):
             if event.change == "gone":
                 ends = "" if event.family == 0 else "port."
                 last = {key: it for key, it in last.items() if key[0] != event.ifindex or not key[1].startswith(ends)}
-            for it in (it for told in folding.told(event) for it in told.items):
+            for it in (it for told in view.told(event._replace(is_first=False)) for it in told.changes):
                 key = event.ifindex, it.path
                 if it.old == it.new:
                     fails(f"{key}: {it} is no change")
@@ -191,10 +190,10 @@ def chains(folder):
                     fails(f"{key}: {it} after {last[key]}")
                 last[key], count = it.new, count + 1
     for (family, index), message in watch.links().items():
-        shown, it = show(message, lenient=True), folding.links["", index]
+        shown, it = show(message, lenient=True), view._links["", index]
         port = flat(shown.get("linkinfo", {}).get("slave-data", {}), "port.") if "master" in shown else {}
-        if family == 0 and ((it.name, it.master) != (shown["ifname"], shown.get("master", 0)) or any(
-                it.port.get(path) != value for path, value in port.items() if path != "port.")):
+        if family == 0 and ((view.name(index), it.get("master") or 0) != (shown["ifname"], shown.get("master", 0))
+                            or any(it.get(path) != value for path, value in port.items() if path != "port.")):
             fails(f"at the end {shown['ifname']} is another")
     return count
 

@@ -8,7 +8,6 @@ import unittest
 from linkwatch.options import Options
 from linkwatch.printing import Output
 from linkwatch.rates import Rate, counted, json_lines, rates, short, table
-from linkwatch.wording import Words
 from linkwire import build
 from linkwire import numbers as n
 from made import altname, name
@@ -53,7 +52,7 @@ class Rates(unittest.TestCase):
 
     def test_table(self):
         found = list(rates(counted(OLD), counted(NEW), 2.0))
-        output = Output(io.StringIO(), Words("utf-8"), "never")
+        output = Output(Options([]), io.StringIO())
         self.assertEqual(table(found, output, None), [
             "NAME           IN B/s    OUT B/s   IN pkt/s  OUT pkt/s   IN err/s  OUT err/s",
             "lo               1.5k          0          1          2        0.5          1",

@@ -1,18 +1,13 @@
 """Reading: arguments, times, encodings, what settles, and JSON beside linkdiff."""
 
-import io
 import json
 import os
 import subprocess
 import time
 import unittest
 
-from linkwatch.options import Misused, Options
-from linkwatch.printing import Output, Settled
-from linkwatch.folding import Told
-from linkwatch.wording import Words
-from linkwire import Change
-from made import LINKDIFF, PATIENCE, chance_lines, inside, line, mtu, name, stream
+from linkwatch.options import Options
+from made import LINKDIFF, PATIENCE, chance_lines, inside, line, mtu, name, state, stream
 
 FIRST = [line(2, name("veth0"), mtu(1500)), line(3, name("br0"), mtu(1500))]
 # arguments and what is said of them
@@ -48,7 +43,7 @@ class Reading(unittest.TestCase):
 
     def test_misused(self):
         for words, wanted in MISUSED:
-            with self.assertRaises(Misused, msg=words) as raised:
+            with self.assertRaises(ValueError, msg=words) as raised:
                 Options(words)
             self.assertEqual(str(raised.exception), wanted)
 
@@ -89,15 +84,15 @@ class Reading(unittest.TestCase):
         self.assertEqual([(it["change"], it["ifname"]) for it in found], [("changed", "br0")])
 
     def test_settled(self):
-        out = io.StringIO()
-        settled = Settled(Output(out, Words("utf-8"), "never"))
-        for path, old, new, of in (("mtu", 1, 2, ""), ("operstate", "down", "up", ""), ("mtu", 2, 3, ""),
-                                   ("operstate", "up", "down", ""), ("port.state", "a", "b", "br0")):
-            settled.tell("t", Told("changed", "", 2, "veth0", of, [Change(path, old, new)]))
-        self.assertEqual(out.getvalue(), "")
-        settled.tell("u", Told("gone", "", 3, "x"))
-        self.assertEqual(out.getvalue(), "t  veth0            mtu 1 → 3\nt  veth0            port of br0: state a → b\n"
-                         "u  x                gone\n")
+        """The changes of a link in one line, of the time of the first, and none where it is as it was."""
+        lines = stream(FIRST, *(line(2, name("veth0"), mtu(it), state(up), at=f"2026-11-28T10:00:0{at}.000000000Z")
+                                for at, (it, up) in enumerate(((1400, 2), (1300, 6), (1200, 6)), 1)),
+                       line(3, name("br0"), mtu(1400)), line(3, name("br0"), mtu(1500)), line(4, name("x"), what="del"))
+        self.assertEqual(inside(["--settle", "1"], lines)[0],
+                         "10:00:01.000  veth0            mtu 1500 → 1200, state none → up\n"
+                         "10:00:00.000  x                gone\n")
+        self.assertEqual(inside(["--settle", "1", "--time", "none"], lines[:-1])[0],
+                         "veth0            mtu 1500 → 1200, state none → up\n")
 
 
 if __name__ == "__main__":

@@ -1,11 +1,10 @@
-"""Wording: each form of a value, and that no character gets through which a terminal must not see."""
+"""`Words`: each form of a value, and that no character gets through which a terminal must not see."""
 
 import sys
 import unicodedata
 import unittest
 
-from linkwatch.wording import Part, Words, escaped, ranges, width
-from linkwire import Change
+from linkwire import Change, Event, Fault, Told, Words, escaped, width
 
 ROWS = [
     ("mtu", 1500, 9000, "mtu 1500 → 9000"),
@@ -30,8 +29,21 @@ ROWS = [
     ("ifi-flags", None, ["up"], "flags +up"),
     ("prop-list.alt-ifname", ["a", "b c"], ["a", "d"], 'altname -"b c" +d'),
     ("vlan", frozenset({(1, "pvid")}), frozenset({(1, "")}), "vlan -1(pvid) +1"),
+    ("vlan", frozenset({(1, "a"), (2, "a"), (3, ""), (5, "")}), frozenset(), "vlan -1-2(a) -3 -5"),
     ("vlan", frozenset(), frozenset((it, "untagged") for it in (10, 11, 12, 20)),
      "vlan +10-12(untagged) +20(untagged)"),
+]
+MTU, ALIAS = Change("mtu", 1500, 9000), Change("ifalias", None, "\x1b")
+# what is told, and how that is said
+TOLD = [
+    (("new", "e"), (), ""),
+    (("new", "e"), (MTU, ALIAS), 'mtu 9000|alias \\u001b'),
+    (("gone", "e"), (), ""),
+    (("changed", "e"), (MTU, ALIAS), "mtu 1500 → 9000|alias none → \\u001b"),
+    (("changed", "e", "b r"), (MTU,), "port of b\\u0020r: mtu 1500 → 9000"),
+    (("lost", ""), (), "messages of the kernel: all links are asked for again"),
+    (("again", ""), (), "all is known: what changed meanwhile is told above"),
+    (("fault", "e"), (), "too few bytes for the header of an attribute, at byte 36"),
 ]
 WIDTHS = [("abc", 3), ("日本", 4), ("e\u0301", 1), ("ü", 1), ("", 0)]
 BIDIRECTIONAL = [0x61c, *range(0x200e, 0x2010), *range(0x202a, 0x202f), *range(0x2066, 0x206a)]
@@ -39,7 +51,7 @@ BIDIRECTIONAL = [0x61c, *range(0x200e, 0x2010), *range(0x202a, 0x202f), *range(0
 
 class Wording(unittest.TestCase):
     def test_rows(self):
-        words = Words("utf-8")
+        words = Words()
         for path, old, new, wanted in ROWS:
             self.assertEqual("".join(words.change(Change(path, old, new))), wanted)
 
@@ -52,14 +64,14 @@ class Wording(unittest.TestCase):
             self.assertEqual("".join(Words(encoding).change(Change("ifalias", "ü", "日"))), wanted)
         self.assertEqual(Words("ascii").value("a->b"), '"a->b"')
 
-    def test_there(self):
-        self.assertEqual(Words("utf-8").there(Change("mtu", None, 1500)), Part("mtu 1500"))
+    def test_told(self):
+        event = Event("fault", "", fault=Fault("frame-short", 36, (), b""))
+        for (what, *of), changes, wanted in TOLD:
+            told = Told(event, what, *of)._replace(changes=changes)
+            self.assertEqual("|".join(map("".join, Words().told(told))), wanted)
 
     def test_names(self):
-        self.assertEqual(Words("utf-8").name("a b\n"), "a\\u0020b\\u000a")
-
-    def test_ranges(self):
-        self.assertEqual(ranges([(1, "a"), (2, "a"), (3, ""), (5, "")], "-"), ["-1-2(a)", "-3", "-5"])
+        self.assertEqual(Words().name("a b\n"), "a\\u0020b\\u000a")
 
     def test_widths(self):
         for text, columns in WIDTHS:
