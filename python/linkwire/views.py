@@ -66,7 +66,7 @@ def flat(value: Any, path: str = "") -> Dict[str, Any]:
     return {name: it for key, one in value.items() for name, it in flat(one, f"{path}{key}.").items()}
 
 
-def _placed(path: str, family: int) -> str:
+def _placed(path: str, family: Optional[int]) -> str:
     """What a path of an event is called here; empty where the message of family 0 tells it as well."""
     if family == AF_BRIDGE:
         if path.startswith("protinfo."):
@@ -185,21 +185,21 @@ class View:
         items = [self._named(one, host, it) for one in (items if self._details else _plain(items))]
         own = [one for one in items if not _is_of_port(one.path)]
         port = [one for one in items if _is_of_port(one.path)]
-        if not self._any(host, index, *moves):
+        if not self._selects_any(host, index, *moves):
             own = []
         begins_or_ends = before != master or all(one.path != "vlan" and one.new is None for one in port)
-        if begins_or_ends and not self._details or not self._any(host, index, before, master):
+        if begins_or_ends and not self._details or not self._selects_any(host, index, before, master):
             port = []
         name, of = self.name(index, host), self.name(master or before, host) if master or before else ""
         if is_new and (own or self.selects(index, host)):
             return [Told(event, "new", name, "", own)]
         return [Told(event, "changed", name, port_of, some) for port_of, some in (("", own), (of, port)) if some]
 
-    def _any(self, host: str, *indices: Optional[int]) -> bool:
+    def _selects_any(self, host: str, *indices: Optional[int]) -> bool:
         return any(self.selects(it, host) for it in indices)
 
     def _taken(self, it: Dict[str, Any], event: Event) -> List[Change]:
-        """What an event changes: of a setting that comes in two families the second time it comes is no change."""
+        """What an event changes: what comes in both families is no change when it comes again."""
         is_new, changes = event.change == "new", event.changes
         if event.family not in (AF_UNSPEC, AF_BRIDGE):
             return list(changes) if self._details else []

@@ -199,6 +199,53 @@ class Rules(unittest.TestCase):
         self.assertEqual([it.change for it in watch.done("1", 0)], ["done", "again"])
         self.assertEqual([it.change for it in linkwire.Watch().lost() + linkwire.Watch().done("1", 0)], ["lost"])
 
+    def test_first(self):
+        """`changes_only` leaves out those that are `is_first`: before a dump of the family is whole."""
+        watch = linkwire.Watch()
+        one, other = (linkwire.build([(18, [(1, kind)])], index=7) for kind in ("veth", "dummy"))
+        events = watch.message(one) + watch.message(other)
+        self.assertEqual([(it.change, it.is_first) for it in events], [("new", True), ("gone", False), ("new", False)])
+        watch.begin("1")
+        watch.done("1", 0)
+        events = watch.message(linkwire.build(index=9)) + watch.message(linkwire.build(index=9, family=7))
+        self.assertEqual([it.is_first for it in events], [False, True])
+
+    def test_json(self):
+        """The line of linkdiff, in ASCII, with words of the line, or its own time and host."""
+        watch, message = linkwire.Watch(), linkwire.build([(3, "é")], index=7)
+        (new,) = watch.message(message, host="h", time="t")
+        self.assertEqual(new.json(), '{"time":"t","host":"h","change":"new","ifi-family":0,"ifi-index":7,'
+                                     '"ifname":"\\u00e9"}')
+        self.assertEqual(json.loads(new.json({"type": "new", "x": "y", "host": "\udce9"})), {
+            "type": "new", "host": "e9", "change": "new", "ifi-family": 0, "ifi-index": 7, "ifname": "é"})
+        (changed,) = watch.message(message + linkwire.build([(4, linkwire.u32(9))])[16:], host="h")
+        self.assertEqual(json.loads(changed.json({}))["changes"], [{"path": "mtu", "new": 9}])
+        (fault,) = watch.message(message + b"\5\0", host="h")
+        self.assertEqual(json.loads(fault.json({}))["fault"], "frame-short")
+        (lost,) = watch.lost()
+        self.assertEqual(lost.json(), '{"change":"lost"}')
+
+    def test_when(self):
+        for time, wanted in (("2026-11-28T10:00:00.123456789Z", "2026-11-28 10:00:00.123456+00:00"), ("", "None"),
+                             ("2026-11-28T10:00:00Z", "None"), ("2026-13-28T10:00:00.123456789Z", "None")):
+            self.assertEqual(str(linkwire.Event("lost", "", time=time).when), wanted)
+
+    def test_compared(self):
+        """What one watch knows of a host beside what another does; without whole dumps not what came, or went."""
+        def link(index, mtu):
+            return linkwire.build([(4, linkwire.u32(mtu))], index=index)
+
+        old, new = linkwire.Watch(), linkwire.Watch()
+        for watch, links in ((old, [(1, 10), (2, 20), (3, 30)]), (new, [(2, 20), (3, 31), (4, 40)])):
+            for it in links:
+                watch.message(link(*it), host="h")
+        for came, went, wanted in ((True, True, [("changed", 3), ("new", 4), ("gone", 1)]),
+                                   (False, True, [("changed", 3), ("gone", 1)]),
+                                   (True, False, [("changed", 3), ("new", 4)])):
+            told = old.compared(new, "h", came, went)
+            self.assertEqual([(it.change, it.ifindex) for it in told], wanted)
+        self.assertEqual((old.compared(old, "h"), old.compared(new, "x")), ([], []))
+
     def test_names(self):
         """A link has its last name that is a text."""
         watch = linkwire.Watch(lenient=True)

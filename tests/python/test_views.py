@@ -1,0 +1,149 @@
+"""`View`, `Settling`, `vlans` and `flat`: rows of messages, and what is told of them. tests/linkwatch has more rows."""
+
+import unittest
+
+import linkwire
+from linkwire import Change, Settling, View, Watch, flat, u8, u32, vlans
+from linkwire import numbers as n
+
+
+def link(index, name, *attributes, family=0, flags=0):
+    return linkwire.build([(n.IFLA_IFNAME, name), *attributes], index=index, family=family, flags=flags)
+
+
+def mtu(it):
+    return n.IFLA_MTU, u32(it)
+
+
+def master(it):
+    return n.IFLA_MASTER, u32(it)
+
+
+def port(of, *settings):
+    """A port in a message of family 0."""
+    return master(of), (n.IFLA_LINKINFO, [(4, "bridge"), (5, list(settings))])
+
+
+def port_too(*settings):
+    """The same in one of family 7."""
+    return n.IFLA_PROTINFO | 0x8000, list(settings)
+
+
+def vlan(*entries):
+    return n.IFLA_AF_SPEC, [(2, flags.to_bytes(2, "little") + vid.to_bytes(2, "little")) for flags, vid in entries]
+
+
+BR = link(9, "br0")
+ALT = n.IFLA_PROP_LIST | 0x8000, [(n.IFLA_ALT_IFNAME, "other")]
+FORWARDING, COST = (1, u8(3)), (3, u32(7))
+# what it is about, the view, the messages that are there, others, and what is told: all but the event
+ROWS = [
+    ("what is there is not told", View(), [BR], [BR], []),
+    ("new", View(), [BR], [link(2, "e", mtu(1500), *port(9))],
+     [("new", "e", "", [("mtu", None, 1500), ("master", None, "br0")])]),
+    ("names for indices", View(), [BR, link(2, "e")], [link(2, "e", master(9)), link(2, "e", master(8))],
+     [("changed", "e", "", [("master", None, "br0")]), ("changed", "e", "", [("master", "br0", "if8")])]),
+    ("a port's setting in either family", View(), [BR, link(2, "e", *port(9, FORWARDING))],
+     [link(2, "e", port_too(FORWARDING), family=7), link(2, "e", port_too((1, u8(0))), family=7),
+      link(2, "e", *port(9, (1, u8(0)))), link(2, "e", *port(9, FORWARDING)),
+      link(2, "e", port_too(FORWARDING), family=7)],
+     [("changed", "e", "br0", [("port.state", "forwarding", "disabled")]),
+      ("changed", "e", "br0", [("port.state", "disabled", "forwarding")])]),
+    ("VLANs are sets", View(), [BR, link(2, "e", *port(9)), link(2, "e", vlan((6, 1)), family=7)],
+     [link(2, "e", vlan((6, 1), (8, 3), (16, 4)), family=7)],
+     [("changed", "e", "br0", [("vlan", {(1, "pvid,untagged")}, {(1, "pvid,untagged"), (3, ""), (4, "")})])]),
+    ("what seldom matters", View(), [link(2, "e")], [link(2, "e", (n.IFLA_CARRIER, u8(1)), flags=0x40)], []),
+    ("it too", View(details=True), [link(2, "e")], [link(2, "e", (n.IFLA_CARRIER, u8(1)), flags=0x40)],
+     [("changed", "e", "", [("ifi-flags", [], ["running"]), ("carrier", None, 1)])]),
+    ("by a name, and then another", View(["e"]), [BR, link(2, "e")],
+     [link(2, "f"), link(9, "br0", mtu(9)), link(2, "f", mtu(9))],
+     [("changed", "f", "", [("ifname", "e", "f")]), ("changed", "f", "", [("mtu", None, 9)])]),
+    ("by an alternative name", View(["oth*"]), [link(2, "e", ALT)], [link(2, "e", ALT, mtu(9))],
+     [("changed", "e", "", [("mtu", None, 9)])]),
+    ("by a bridge", View(["br0"]), [BR, link(2, "e"), link(3, "f")],
+     [link(2, "e", *port(9, COST)), link(2, "e", *port(9, (3, u32(8))), mtu(9)), link(3, "f", mtu(9))],
+     [("changed", "e", "", [("master", None, "br0")]), ("changed", "e", "br0", [("port.cost", 7, 8)])]),
+]
+
+
+def told(view, *events):
+    return [(it.what, it.name, it.port_of, list(map(tuple, it.changes))) for event in events
+            for it in view.told(event) or ()]
+
+
+class Views(unittest.TestCase):
+    maxDiff = None
+
+    def test_rows(self):
+        for what, view, there, messages, wanted in ROWS:
+            watch = Watch(lenient=True)
+            events = [event for it in there for event in watch.message(it)]
+            self.assertEqual(told(view, *events), [], what)
+            for family in 0, 7:
+                watch.begin("1")
+                for it in watch.links().values():
+                    watch.message(it)
+                watch.done("1", family)
+            found = [row for it in messages for row in told(view, *watch.message(it))]
+            self.assertEqual(found, wanted, what)
+
+    def test_gone(self):
+        view, watch = View(["e"]), Watch()
+        watch.begin("1")
+        self.assertEqual([told(view, it) for it in watch.message(link(2, "e")) + watch.message(BR)], [[], []])
+        self.assertEqual((view.name(2), view.selects(2), view.selects(9), view.missing()), ("e", True, False, []))
+        events = watch.message(BR, True) + watch.message(link(2, "e"), True)
+        self.assertEqual([view.told(events[0]), told(view, events[1])], [None, [("gone", "e", "", [])]])
+        self.assertEqual((view.name(2), view.selects(2), view.missing()), ("if2", False, ["e"]))
+
+    def test_words_alone(self):
+        """`lost` and `again` are of no link, `done` is nothing, and a fault is of those that are asked for."""
+        view, watch = View(["e"]), Watch(dumps=True)
+        watch.begin("1")
+        events = watch.done("1", 0) + watch.lost() + watch.begin("2") + watch.done("2", 0)
+        self.assertEqual(told(view, *events), [("lost", "", "", []), ("again", "", "", [])])
+        (fault,) = watch.message(link(2, "f") + b"\5\0")
+        self.assertIsNone(view.told(fault))
+        self.assertEqual(told(View(), fault), [("fault", "if2", "", [])])
+
+    def test_learn(self):
+        """A view that is made later, and hosts, which are apart."""
+        watch = Watch()
+        for it in BR, link(2, "e"):
+            watch.message(it, host="a")
+        view = View()
+        view.learn(watch.links("a"), "a")
+        self.assertEqual((view.name(9, "a"), view.name(9)), ("br0", "if9"))
+        self.assertEqual(told(view, *watch.message(link(2, "e", master(9)), host="a")),
+                         [("changed", "e", "", [("master", None, "br0")])])
+
+    def test_settling(self):
+        """Changes of a link become one, of the time of the first; what is as it was is not told."""
+        view, settling, watch = View(), Settling(1e6), Watch()
+        watch.begin("1")
+        found = []
+        for at, it in enumerate((BR, link(2, "e", mtu(1)), None, link(2, "e", mtu(2)), link(9, "br0", mtu(5)),
+                                 link(2, "e", mtu(3)), BR)):
+            events = watch.done("1", 0) if it is None else watch.message(it, time=f"t{at}")
+            found += [one for event in events for held in view.told(event) for one in settling.add(held)]
+        self.assertEqual((found, settling.due() > 9e5), ([], True))
+        (gone,) = view.told(watch.message(BR, True)[0])
+        first, last = settling.add(gone)
+        self.assertEqual((first.event.time, first.changes, last), ("t3", [Change("mtu", 1, 3)], gone))
+        self.assertEqual((settling.due(), settling.release()), (None, []))
+        self.assertEqual(Settling(0).add(first), [first])
+
+    def test_vlans(self):
+        for entries, wanted in (([], set()), ([(0, 5)], {(5, "")}), ([(2, 1), (4, 2)], {(1, "pvid"), (2, "untagged")}),
+                                ([(8, 3), (16, 5)], {(3, ""), (4, ""), (5, "")}), ([(16, 5)], {(5, "")}),
+                                ([(8, 6), (16, 5)], {(5, "")})):
+            self.assertEqual(vlans(link(2, "e", vlan(*entries), family=7)), wanted)
+        self.assertEqual(vlans(link(2, "e") + b"\5\0"), set())
+
+    def test_flat(self):
+        self.assertEqual(flat({"a": {"b": 1, "c": {"d": [1]}}, "e": {}, "f": None}),
+                         {"a.b": 1, "a.c.d": [1], "f": None})
+
+
+if __name__ == "__main__":
+    unittest.main()
