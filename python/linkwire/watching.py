@@ -431,12 +431,12 @@ class Watch:
         return frozenset(self._hosts[host].whole if host in self._hosts else ())
 
     def compared(self, new: "Watch", host: str = "", came: bool = True, went: bool = True) -> List[Event]:
-        """What another watch knows of a host and this one does not, as one that first knew this would tell it.
+        """What another watch knows of a host and this one does not, as one tells it that first knew this.
 
-        came, went: tells links that only the other one has, and those that only this one has; without a whole dump of
-            all links they may have been there, or be there, all the time.
+        came, went: whether this one knew all links of the host, and whether the other one does; without, each link that
+            only the other one has is `is_first`, and none that only this one has is told.
         """
-        watch, there = Watch(self._counters, came is False, self._kernel, self._lenient), new.links(host)
+        watch, there = Watch(self._counters, False, self._kernel, self._lenient), new.links(host)
         watch.begin("old", host)
         for message in self.links(host).values():
             watch.message(message, host=host)

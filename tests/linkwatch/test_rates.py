@@ -7,7 +7,7 @@ import unittest
 
 from linkwatch.options import Options
 from linkwatch.printing import Output
-from linkwatch.rates import Rate, counted, json_lines, rates, short, table
+from linkwatch.rates import Link, counted, json_lines, rates, short, table
 from linkwire import build
 from linkwire import numbers as n
 from made import altname, name
@@ -47,11 +47,11 @@ class Rates(unittest.TestCase):
         self.assertEqual(counted([latin])[7].names, ["caf\udce9"])
 
     def test_rates(self):
-        self.assertEqual(list(rates(counted(OLD), counted(NEW), 2.0)), [
-            Rate(1, "lo", [1, 2, 1500, 0, .5, 1]), Rate(2, "eth\x1b0", [0] * 6)])
+        self.assertEqual(rates(counted(OLD), counted(NEW), 2.0), {
+            1: Link(["lo", "also"], (1, 2, 1500, 0, .5, 1)), 2: Link(["eth\x1b0", "also"], (0,) * 6)})
 
     def test_table(self):
-        found = list(rates(counted(OLD), counted(NEW), 2.0))
+        found = rates(counted(OLD), counted(NEW), 2.0)
         output = Output(Options([]), io.StringIO())
         self.assertEqual(table(found, output, None), [
             "NAME           IN B/s    OUT B/s   IN pkt/s  OUT pkt/s   IN err/s  OUT err/s",
@@ -61,7 +61,7 @@ class Rates(unittest.TestCase):
             "lo         1.5k          0          1          2        0.5          1", "and 1 more"])
 
     def test_json(self):
-        one, two = json_lines(list(rates(counted(OLD), counted(NEW), 2.0)), "t", 2.0)
+        one, two = json_lines(rates(counted(OLD), counted(NEW), 2.0), "t", 2.0)
         self.assertEqual(json.loads(one), {"time": "t", "seconds": 2.0, "ifi-index": 1, "ifname": "lo", "rx-packets": 1,
                                            "tx-packets": 2, "rx-bytes": 1500, "tx-bytes": 0, "rx-errors": .5,
                                            "tx-errors": 1})

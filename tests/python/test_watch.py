@@ -239,11 +239,10 @@ class Rules(unittest.TestCase):
         for watch, links in ((old, [(1, 10), (2, 20), (3, 30)]), (new, [(2, 20), (3, 31), (4, 40)])):
             for it in links:
                 watch.message(link(*it), host="h")
-        for came, went, wanted in ((True, True, [("changed", 3), ("new", 4), ("gone", 1)]),
-                                   (False, True, [("changed", 3), ("gone", 1)]),
-                                   (True, False, [("changed", 3), ("new", 4)])):
-            told = old.compared(new, "h", came, went)
-            self.assertEqual([(it.change, it.ifindex) for it in told], wanted)
+        for came in True, False:
+            for went in True, False:
+                told = [(it.change, it.ifindex, it.is_first) for it in old.compared(new, "h", came, went)]
+                self.assertEqual(told, [("changed", 3, False), ("new", 4, not came), ("gone", 1, False)][:2 + went])
         self.assertEqual((old.compared(old, "h"), old.compared(new, "x")), ([], []))
 
     def test_names(self):
