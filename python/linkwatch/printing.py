@@ -5,9 +5,9 @@ import select
 import sys
 from datetime import datetime
 from math import inf
-from typing import Dict, Iterable, List, Optional, Sequence, TextIO, Tuple
+from typing import Iterable, List, Optional, Sequence, TextIO, Tuple
 
-from linkwire import Event, Settling, Stream, Told, View, Words, escaped, width
+from linkwire import Event, Settling, Stream, Told, View, Words, escaped, read_line, width
 
 from .options import Options
 
@@ -72,8 +72,8 @@ class Output:
             self.out.flush()
             sys.exit()
 
-    def tell(self, event: Event, words: Optional[Dict[str, str]] = None) -> bool:
-        """Writes what an event says, or holds it for --settle; false if that is nothing."""
+    def tell(self, event: Event, line: str = "") -> bool:
+        """Writes what an event of a line says, or holds it for --settle; false if that is nothing."""
         told = self.view.told(event)
         if not self.is_json:
             for it in told or ():
@@ -81,7 +81,7 @@ class Output:
             return bool(told)
         is_told = told is not None and not event.is_first and event.change not in ("done", "again")
         if is_told:
-            self.write(event.json(words))
+            self.write(event.json(read_line(line).words if line else None))
         return is_told
 
     def lines(self, lines: Iterable[Told]) -> None:
@@ -104,7 +104,7 @@ class Output:
         rows: List[List[str]] = []
         for at, (before, new) in enumerate(parts, 1):
             comma = "," if at < len(parts) else ""
-            size = width(before + new + comma)
+            size = width(before + new + comma) if self.is_terminal else 0
             if not rows or used + 1 + size > room:
                 rows.append([])
                 used = -1

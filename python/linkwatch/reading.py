@@ -36,13 +36,13 @@ def live(options: Options, output: Output) -> int:
     return 0
 
 
-def lines_of(path: str, watch: Watch, is_strict: bool) -> Iterator[Tuple[List[Event], Dict[str, str]]]:
-    """The events and words of each line of a file, or of standard input; of others it says so, or raises ValueError."""
+def lines_of(path: str, watch: Watch, is_strict: bool) -> Iterator[Tuple[List[Event], str]]:
+    """The events of each line of a file, or of standard input, and the line; of what is none a message, or ValueError."""
     with open(path if path != "-" else 0, "rb", closefd=path != "-") as source:
         for row, raw in enumerate(source, 1):
             line = raw.decode("utf-8", "surrogateescape")
             try:
-                yield watch.line(line), read_line(line).words
+                yield watch.line(line), line
             except ValueError as error:
                 if is_strict:
                     raise ValueError(f"{path}: line {row}: {error}") from None
@@ -51,9 +51,9 @@ def lines_of(path: str, watch: Watch, is_strict: bool) -> Iterator[Tuple[List[Ev
 
 def recorded(options: Options, output: Output) -> int:
     """Tells what lines of linkdump(1) say, as they come."""
-    for events, words in lines_of(options.read or "", Watch(lenient=True, dumps=True), False):
+    for events, line in lines_of(options.read or "", Watch(lenient=True, dumps=True), False):
         for event in events:
-            output.tell(event, words)
+            output.tell(event, line)
         sys.stdout.flush()
     output.lines(output.settling.release())
     return 0
@@ -64,7 +64,7 @@ class Recording:
 
     def __init__(self, path: str) -> None:
         self.path, self.watch = path, Watch(lenient=True)
-        words = [it for _, it in lines_of(path, self.watch, True)]
+        words = [read_line(it).words for _, it in lines_of(path, self.watch, True)]
         self.asked = {it.get("host", "") for it in words if it.get("type") in ("begin", "done")}
 
     def is_whole(self, host: str) -> bool:

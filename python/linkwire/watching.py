@@ -1,5 +1,6 @@
 """Which links came, went or changed: what linkdiff(1) says of lines, as values."""
 
+import functools
 import json
 import struct
 import sys
@@ -52,10 +53,7 @@ class Event(NamedTuple):
     @property
     def when(self) -> Optional[datetime]:
         """Its time, in UTC; None where that is not as linkdump(1) writes it."""
-        try:
-            return datetime.strptime(self.time[:26].rstrip("Z") + "+0000", "%Y-%m-%dT%H:%M:%S.%f%z")
-        except ValueError:
-            return None
+        return _when(self.time)
 
     def json(self, words: Optional[Mapping[str, str]] = None) -> str:
         """The line of linkdiff(1), in ASCII.
@@ -73,6 +71,14 @@ class Event(NamedTuple):
             found.update(_there({"change": self.change, "ifi-family": self.family, "ifi-index": self.ifindex,
                                  "ifname": self.ifname, "changes": changes}))
         return json.dumps(found, separators=(",", ":"))
+
+
+@functools.lru_cache(maxsize=1)  # what comes at once has one time
+def _when(time: str) -> Optional[datetime]:
+    try:
+        return datetime.strptime(time[:26].rstrip("Z") + "+0000", "%Y-%m-%dT%H:%M:%S.%f%z")
+    except ValueError:
+        return None
 
 
 def _there(members: Dict[str, Any]) -> Dict[str, Any]:
