@@ -37,7 +37,7 @@ def live(options: Options, output: Output) -> int:
 
 
 def lines_of(path: str, watch: Watch, is_strict: bool) -> Iterator[Tuple[List[Event], str]]:
-    """The events of each line of a file, or of standard input, and the line; of what is none a message, or ValueError."""
+    """The events of each line of a file, or of standard input, and the line; of others a message, or ValueError."""
     with open(path if path != "-" else 0, "rb", closefd=path != "-") as source:
         for row, raw in enumerate(source, 1):
             line = raw.decode("utf-8", "surrogateescape")
