@@ -124,9 +124,9 @@ class View:
         """Whether one of the names is asked for."""
         return not self._patterns or any(fnmatch.fnmatchcase(name, it) for name in names for it in self._patterns)
 
-    def selects(self, index: Optional[int], host: str = "") -> bool:
-        """Whether a link is there that has or had a name that is asked for."""
-        return (host, index or 0) in self._selected
+    def selects(self, *indices: Optional[int], host: str = "") -> bool:
+        """Whether one of these links is there, and has or had a name that is asked for."""
+        return any((host, it or 0) in self._selected for it in indices)
 
     def missing(self) -> List[str]:
         """The names that are asked for and that no link has."""
@@ -155,8 +155,8 @@ class View:
         it = self._links.get((event.host, event.ifindex or 0))
         if it is None:
             return event.ifindex is None or self.matches([event.ifname or ""])
-        return self.selects(event.ifindex, event.host) or (
-            event.family == AF_BRIDGE and self.selects(it.get("master"), event.host))
+        indices = [event.ifindex, it.get("master")] if event.family == AF_BRIDGE else [event.ifindex]
+        return self.selects(*indices, host=event.host)
 
     def _went(self, event: Event, is_selected: bool) -> List[Told]:
         key = event.host, event.ifindex or 0
@@ -185,18 +185,15 @@ class View:
         items = [self._named(one, host, it) for one in (items if self._details else _plain(items))]
         own = [one for one in items if not _is_of_port(one.path)]
         port = [one for one in items if _is_of_port(one.path)]
-        if not self._selects_any(host, index, *moves):
+        if not self.selects(index, *moves, host=host):
             own = []
         begins_or_ends = before != master or all(one.path != "vlan" and one.new is None for one in port)
-        if begins_or_ends and not self._details or not self._selects_any(host, index, before, master):
+        if begins_or_ends and not self._details or not self.selects(index, before, master, host=host):
             port = []
         name, of = self.name(index, host), self.name(master or before, host) if master or before else ""
-        if is_new and (own or self.selects(index, host)):
+        if is_new and (own or self.selects(index, host=host)):
             return [Told(event, "new", name, "", own)]
         return [Told(event, "changed", name, port_of, some) for port_of, some in (("", own), (of, port)) if some]
-
-    def _selects_any(self, host: str, *indices: Optional[int]) -> bool:
-        return any(self.selects(it, host) for it in indices)
 
     def _taken(self, it: Dict[str, Any], event: Event) -> List[Change]:
         """What an event changes: what comes in both families is no change when it comes again."""

@@ -91,7 +91,8 @@ class Views(unittest.TestCase):
         view, watch = View(["e"]), Watch()
         watch.begin("1")
         self.assertEqual([told(view, it) for it in watch.message(link(2, "e")) + watch.message(BR)], [[], []])
-        self.assertEqual((view.name(2), view.selects(2), view.selects(9), view.missing()), ("e", True, False, []))
+        self.assertEqual((view.name(2), view.selects(2), view.selects(9), view.selects(9, 2), view.missing()),
+                         ("e", True, False, True, []))
         events = watch.message(BR, True) + watch.message(link(2, "e"), True)
         self.assertEqual([view.told(events[0]), told(view, events[1])], [None, [("gone", "e", "", [])]])
         self.assertEqual((view.name(2), view.selects(2), view.missing()), ("if2", False, ["e"]))
