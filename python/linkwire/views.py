@@ -151,9 +151,9 @@ class View:
         return found if was_selected or found or self._is_of_selected(event) else None
 
     def _is_of_selected(self, event: Event) -> bool:
-        """Whether an event is of a link that is asked for, or of a port of one."""
+        """Whether an event is of a link that is asked for, of a port of one, or of no link."""
         it = self._links.get((event.host, event.ifindex or 0))
-        if it is None:
+        if event.ifindex is None or it is None:
             return event.ifindex is None or self.matches([event.ifname or ""])
         indices = [event.ifindex, it.get("master")] if event.family == AF_BRIDGE else [event.ifindex]
         return self.selects(*indices, host=event.host)

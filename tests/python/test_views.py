@@ -103,6 +103,8 @@ class Views(unittest.TestCase):
         watch.begin("1")
         events = watch.done("1", 0) + watch.lost() + watch.begin("2") + watch.done("2", 0)
         self.assertEqual(told(view, *events), [("lost", "", "", []), ("again", "", "", [])])
+        view.learn({(0, 0): link(0, "x")})  # of which none of these is
+        self.assertEqual(told(view, *watch.lost()), [("lost", "", "", [])])
         (fault,) = watch.message(link(2, "f") + b"\5\0")
         self.assertIsNone(view.told(fault))
         self.assertEqual(told(View(), fault), [("fault", "if2", "", [])])
