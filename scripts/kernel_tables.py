@@ -27,6 +27,7 @@ import kernel_rows
 import kernel_shown
 from kernel_names import (ALONE, LEFT_OUT, LEVELS, OWN_FIELDS, PLACES, REASONS, RECORDS, ROW_PLACES, ROW_VALUES, VALUES,
                           VALUES_LEFT_OUT)
+from shared import TOP
 
 PACKAGE = "/usr/src/linux-source-6.12.tar.xz"
 INCLUDE = "/usr/include"
@@ -854,8 +855,7 @@ def compare(ours, kernel):
 def main():
     parser = argparse.ArgumentParser(description=__doc__, formatter_class=argparse.RawDescriptionHelpFormatter)
     parser.add_argument("kernel", nargs="?", default=os.environ.get("KERNEL") or PACKAGE, help="the kernel's files")
-    parser.add_argument("--tree", default=os.path.join(os.path.dirname(os.path.abspath(__file__)), ".."),
-                        help="another tree of this repository")
+    parser.add_argument("--tree", default=TOP, help="another tree of this repository")
     parser.add_argument("--json", action="store_true", help="print the tables as JSON, and compare nothing")
     parser.add_argument("--unpack", metavar="FOLDER", help="only unpack the files that are read, for more than one run")
     given = parser.parse_args()

@@ -37,6 +37,7 @@ where rustfmt 'cargo fmt --version' cargo fmt --check
 where clippy 'cargo clippy --version' cargo clippy --all-targets -- -D clippy::incompatible_msrv \
     -D clippy::must_use_candidate -D clippy::return_self_not_must_use -D clippy::double_must_use
 where rustdoc 'rustdoc --version' cargo doc --no-deps
-where 'public items' 'rustdoc --version' python3 ../scripts/rust_items.py "$CARGO_TARGET_DIR/doc/linkwire" items.txt
+where 'public items' 'rustdoc --version' \
+    python3 ../scripts/rust_items.py "$CARGO_TARGET_DIR/doc/linkwire" items.txt
 where package 'cargo --version' cargo package --offline --allow-dirty --no-verify
 exit "$status"

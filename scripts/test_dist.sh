@@ -87,7 +87,8 @@ sed '/^#/d; /  dist\/heap.c$/d' dist/SUMS | sha256sum --quiet -c -
 echo 'test_dist: make sums: ok'
 
 named() {
-    [ "$(scripts/sums.sh unfit "$arch" linkwire link_c | xargs)" = "$1" ] || fails "sums.sh unfit does not name '$1'"
+    [ "$(scripts/sums.sh unfit "$arch" linkwire link_c | xargs)" = "$1" ] ||
+        fails "sums.sh unfit does not name '$1'"
 }
 named ''
 changes crates/nla_wire/src/nla_read.rt '$a// changed' named 'linkwire link_c'

@@ -3,8 +3,9 @@
 # failure, and when it is ended.
 self=progress
 . "$(dirname "$0")/common.sh"
-mkdir -p "$folder/bin" "$folder/scripts" "$folder/crates/"{low,mid,top}
-cp "$top/scripts/"{progress,common}.sh "$folder/scripts/"
+mkdir -p "$folder/bin" "$folder/crates/"{low,mid,top}
+cp -r "$top/scripts" "$folder"
+progress=$folder/scripts/progress.sh
 printf 'low: std\nmid: low\nmid_not: low\ntop staticlib: mid low\n' >"$folder/crates.txt"
 stand_in() {
     cat >"$folder/bin/rt" <<'END'
@@ -32,7 +33,7 @@ wants() {
     echo "progress: $1: ok"
 }
 
-"$folder/scripts/progress.sh" top "$folder/log" rt run >"$folder/out" 2>"$folder/err"
+"$progress" top "$folder/log" rt run >"$folder/out" 2>"$folder/err"
 wants 'three crates' 'top: 1 of 3 low ..
 top: 1 of 3 low .. N s
 top: 2 of 3 mid ..
@@ -46,7 +47,7 @@ fi
 sleep 1.1
 touch "$folder/crates/mid/source"
 status=0
-TOP_STATUS=1 "$folder/scripts/progress.sh" top "$folder/log" rt lib 2>"$folder/err" || status=$?
+TOP_STATUS=1 "$progress" top "$folder/log" rt lib 2>"$folder/err" || status=$?
 head -n 3 "$folder/err" >"$folder/cut" && mv "$folder/cut" "$folder/err"
 wants 'one that changed' $'top: 2 of 3 mid ..\ntop: 2 of 3 mid .. N s\ntop: 3 of 3 top ..'
 [ "$status" = 1 ] || fails 'a failure is not told'
@@ -57,7 +58,7 @@ cat >"$folder/bin/rt" <<'END'
 echo "$$" >pid
 exec sleep 60
 END
-"$folder/scripts/progress.sh" top "$folder/log" rt run 2>"$folder/err" &
+"$progress" top "$folder/log" rt run 2>"$folder/err" &
 waits 10 test -s "$folder/crates/low/pid"
 kill $!
 wait $! || true
@@ -73,7 +74,7 @@ stand_in
 
 command -v script >/dev/null || skips 'on a terminal: no command script'
 touch "$folder/crates/mid/source"
-MID_SECONDS=7 script -qec "'$folder/scripts/progress.sh' top '$folder/log' rt run" /dev/null </dev/null >"$folder/err"
+MID_SECONDS=7 script -qec "'$progress' top '$folder/log' rt run" /dev/null </dev/null >"$folder/err"
 if [ "$(tr '\r' '\n' <"$folder/err" | grep -c '^top: 2 of 3 mid \.\. [0-9]* s$')" -lt 3 ]; then
     fails 'the seconds stand still on a terminal'
 fi

@@ -1,5 +1,5 @@
-/* The header alone: in a program of its own it compiles as C99, C11, C++11 and C++17 (scripts/c_tests.sh), and says
- * what the library says. */
+/* The header alone: in a program of its own it compiles as C99, C11, C++11 and C++17 (scripts/c_tests.sh), and
+ * says what the library says. */
 #include "linkwire.h"
 
 #ifdef __cplusplus

@@ -43,7 +43,8 @@ static unsigned bit(unsigned flag) {
     return found;
 }
 
-/* The tables that scripts/c_names.py compares: the first and the last of each, some between, and what is past them. */
+/* The tables that scripts/c_names.py compares: the first and the last of each, some between, and what is past
+ * them. */
 static int others_differ(void) {
     const struct {
         const char *want, *found;
