@@ -71,6 +71,13 @@ python() {
     done
 }
 
+# reads ARRAY FILE: the lines of a file of tests/, without comments
+reads() {
+    local text
+    text=$(grep -v '^#' "$top/tests/$2")
+    mapfile -t "$1" <<<"$text"
+}
+
 # waits SECONDS COMMAND..: until it succeeds, so long at most
 waits() {
     local until=$((SECONDS + $1))

@@ -2,147 +2,12 @@
 # Holds linkwire_state, and linkdump --monitor | linkdiff, to the running kernel: state_live.sh LIBRARY [FOLDER..]. In a
 # network namespace, with a link of each kind that the kernel knows, IPv6 on and router solicitation over, each link has
 # one state encoding over ten seconds of polls with traffic, or a minute with LONG=1 in the environment; and a new one
-# after each of the changes below. Of each change linkdiff has a line, and none while nobody changes a link. The folders
-# have the programs; without them it is that of the library. Kinds and changes that cannot be had are named, and what
-# needs a right, a command or a program that is not there is 'skipped'.
+# after each change. Of each change linkdiff has a line, and none while nobody changes a link. The kinds and the changes
+# are those of state_kinds.txt and state_changes.txt in tests/live. The folders have the programs; without them it is
+# that of the library. Kinds and changes that cannot be had are named, and what needs a right, a command or a program
+# that is not there is 'skipped'.
 self=state
 . "$(dirname "$0")/common.sh"
-
-# what is made, in this order, after the pairs of veth that others stand on: the kind, and the words of ip
-kinds=(
-    'dummy link add dummy0 type dummy'
-    'veth link add veth0 type veth peer name port0'
-    'bridge link add bridge0 type bridge mcast_querier 1 mcast_query_interval 500 mcast_startup_query_interval 100'
-    'port link set port0 master bridge0'
-    'bridge-stp link add bridge1 type bridge stp_state 1 forward_delay 200 max_age 600'
-    'bridge-stp link add bridge2 type bridge stp_state 1 forward_delay 200 max_age 600'
-    'port link set port1 master bridge1'
-    'port link set port3 master bridge1'
-    'port link set port2 master bridge2'
-    'port link set port4 master bridge2'
-    'bond link add bond0 type bond mode 802.3ad miimon 100 lacp_rate fast'
-    'bond link add bond1 type bond mode 802.3ad miimon 100 lacp_rate fast'
-    'bond-port link add port5 master bond0 type veth peer name port6 master bond1'
-    'hsr link add hsr0 type hsr slave1 port7 slave2 port9'
-    'hsr link add hsr1 type hsr slave1 port8 slave2 port10'
-    'prp link add prp0 type hsr slave1 port11 slave2 port13 proto 1'
-    'prp link add prp1 type hsr slave1 port12 slave2 port14 proto 1'
-    'team link add team0 type team'
-    'team-port link add port15 master team0 type veth peer name port16'
-    'vrf link add vrf0 type vrf table 100'
-    'vrf-port link add port17 master vrf0 type veth peer name port18'
-    'ifb link add ifb2 type ifb'
-    'nlmon link add nlmon0 type nlmon'
-    'vcan link add vcan0 type vcan'
-    'vxcan link add vxcan0 type vxcan peer name vxcan1'
-    'netkit link add netkit0 type netkit peer name netkit1'
-    'vlan link add link veth0 name vlan0 type vlan id 5'
-    'macvlan link add link veth0 name macvlan0 type macvlan'
-    'macvtap link add link veth0 name macvtap0 type macvtap'
-    'ipvlan link add link veth1 name ipvlan0 type ipvlan'
-    'ipvtap link add link dummy0 name ipvtap0 type ipvtap'
-    'macsec link add link veth2 name macsec0 type macsec'
-    'vxlan link add vxlan0 type vxlan id 5 dstport 4789 dev veth0 group 239.1.1.1'
-    'geneve link add geneve0 type geneve id 5 remote 10.9.9.2'
-    'gre link add gre1 type gre local 10.9.9.1 remote 10.9.9.2 key 7'
-    'gretap link add gretap1 type gretap local 10.9.9.1 remote 10.9.9.2'
-    'erspan link add erspan1 type erspan local 10.9.9.1 remote 10.9.9.2 seq key 100 erspan 123'
-    'ip6gre link add ip6gre1 type ip6gre local fd00::1 remote fd00::2'
-    'ip6gretap link add ip6gretap1 type ip6gretap local fd00::1 remote fd00::2'
-    'ip6erspan link add ip6erspan1 type ip6erspan local fd00::1 remote fd00::2 seq key 102 erspan_ver 1 erspan 9'
-    'ipip link add ipip1 type ipip local 10.9.9.1 remote 10.9.9.2'
-    'sit link add sit1 type sit local 10.9.9.1 remote 10.9.9.2'
-    'ip6tnl link add ip6tnl1 type ip6tnl local fd00::1 remote fd00::2'
-    'vti link add vti1 type vti local 10.9.9.1 remote 10.9.9.2 key 9'
-    'vti6 link add vti61 type vti6 local fd00::1 remote fd00::2 key 10'
-    'wireguard link add wireguard0 type wireguard'
-    'xfrm link add xfrm0 type xfrm dev veth0 if_id 5'
-    'bareudp link add bareudp0 type bareudp dstport 6635 ethertype mpls_uc'
-    'amt link add amt0 type amt mode gateway local 10.9.9.1 discovery 10.9.9.2 dev veth0'
-    'gtp link add gtp0 type gtp role sgsn'
-    'pfcp link add pfcp0 type pfcp'
-    'ovpn link add ovpn0 type ovpn'
-    'rmnet link add rmnet0 link port19 type rmnet mux_id 4'
-    'virt-wifi link add link port20 name wlan0 type virt_wifi'
-    'vsockmon link add vsockmon0 type vsockmon'
-    'batadv link add batadv0 type batadv'
-    'tun tuntap add tun0 mode tun'
-    'tap tuntap add tap0 mode tap'
-)
-
-# fifty changes of links, and those of kinds that fewer kernels have: the link that has another state after it; what
-# linkdiff has to tell of that link, with commas between: 'new', 'gone', or a path, and after '=' the new value, or the
-# old one, '>' and the new one; and what is run, where 'set' is 'ip link set', and 'sysctl' writes to a file of
-# /proc/sys/net. A '~' marks what kernels do not announce by a link message
-changes=(
-    'veth0 mtu=1500>1400 set veth0 mtu 1400'
-    'veth0 txqlen=1000>77 set veth0 txqueuelen 77'
-    'veth0 address="02:11:22:33:44:55" set veth0 address 02:11:22:33:44:55'
-    'veth0 broadcast="ff:ff:ff:ff:ff:fe" set veth0 broadcast ff:ff:ff:ff:ff:fe'
-    'veth0 ifalias="another" set veth0 alias another'
-    'veth0 prop-list.alt-ifname ip link property add dev veth0 altname another-name'
-    'veth0 prop-list.alt-ifname ip link property del dev veth0 altname another-name'
-    'veth0 group=0>42 set veth0 group 42'
-    'veth0 ifi-flags,promiscuity set veth0 promisc on'
-    'veth0 ifi-flags,allmulti set veth0 allmulticast on'
-    'veth0 ifi-flags set veth0 multicast off'
-    'veth0 ifi-flags set veth0 arp off'
-    'veth0 ~gso-max-size=30000 set veth0 gso_max_size 30000'
-    'veth0 ~gso-max-segs=12 set veth0 gso_max_segs 12'
-    'veth0 ~gro-max-size=40000 set veth0 gro_max_size 40000'
-    'veth0 linkmode="default">"dormant" set veth0 mode dormant'
-    'veth0 af-spec.inet6.addr-gen-mode="none" set veth0 addrgenmode none'
-    'veth0 ~af-spec.inet.conf.forwarding=1 sysctl ipv4/conf/veth0/forwarding 1'
-    'veth0 ~af-spec.inet.conf.rp-filter=2 sysctl ipv4/conf/veth0/rp_filter 2'
-    'veth0 ~af-spec.inet.conf.arp-announce=2 sysctl ipv4/conf/veth0/arp_announce 2'
-    'veth0 ~af-spec.inet6.conf.hoplimit=63 sysctl ipv6/conf/veth0/hop_limit 63'
-    'veth0 ~af-spec.inet6.conf.accept-ra=2 sysctl ipv6/conf/veth0/accept_ra 2'
-    'veth0 ~af-spec.inet6.cacheinfo.retrans-time=2000 sysctl ipv6/neigh/veth0/retrans_time_ms 2000'
-    'port0 mtu=1500>1450 set port0 mtu 1450'
-    'port0 protinfo.mode=1,linkinfo.slave-data.mode=1 set port0 type bridge_slave hairpin on'
-    'port0 protinfo.guard=1,linkinfo.slave-data.guard=1 set port0 type bridge_slave guard on'
-    'port0 protinfo.fast-leave=1,linkinfo.slave-data.fast-leave=1 set port0 type bridge_slave fastleave on'
-    'port0 protinfo.learning=0,linkinfo.slave-data.learning=0 set port0 type bridge_slave learning off'
-    'port0 protinfo.unicast-flood=0,linkinfo.slave-data.unicast-flood=0 set port0 type bridge_slave flood off'
-    'port0 protinfo.mcast-flood=0,linkinfo.slave-data.mcast-flood=0 set port0 type bridge_slave mcast_flood off'
-    'port0 protinfo.cost=7,linkinfo.slave-data.cost=7 set port0 type bridge_slave cost 7'
-    'port0 protinfo.priority=3,linkinfo.slave-data.priority=3 set port0 type bridge_slave priority 3'
-    'port0 protinfo.isolated=1,linkinfo.slave-data.isolated=1 set port0 type bridge_slave isolated on'
-    'port0 protinfo.neigh-suppress=1 set port0 type bridge_slave neigh_suppress on'
-    'bridge0 linkinfo.data.forward-delay=400 set bridge0 type bridge forward_delay 400'
-    'bridge0 linkinfo.data.hello-time=300 set bridge0 type bridge hello_time 300'
-    'bridge0 linkinfo.data.max-age=1000 set bridge0 type bridge max_age 1000'
-    'bridge0 linkinfo.data.ageing-time=10000 set bridge0 type bridge ageing_time 10000'
-    'bridge0 linkinfo.data.priority=100,linkinfo.data.bridge-id.prio=100 set bridge0 type bridge priority 100'
-    'bridge0 linkinfo.data.vlan-filtering=1 set bridge0 type bridge vlan_filtering 1'
-    'bridge0 linkinfo.data.mcast-startup-query-cnt=4 set bridge0 type bridge mcast_startup_query_count 4'
-    'bridge0 linkinfo.data.group-fwd-mask=8 set bridge0 type bridge group_fwd_mask 8'
-    'bridge0 linkinfo.data.mcast-router=2 set bridge0 type bridge mcast_router 2'
-    'bridge0 linkinfo.data.mcast-last-member-cnt=3 set bridge0 type bridge mcast_last_member_count 3'
-    'bridge0 linkinfo.data.mcast-query-intvl=2000 set bridge0 type bridge mcast_query_interval 2000'
-    'bridge0 linkinfo.data.mcast-querier=0 set bridge0 type bridge mcast_querier 0'
-    'bridge0 linkinfo.data.stp-state=1 set bridge0 type bridge stp_state 1'
-    'bridge0 ifi-flags,operstate="down" set bridge0 down'
-    'veth0 ifi-flags,operstate="down" set veth0 down'
-    'veth0 mtu=1400>1450 set veth0 mtu 1450'
-    'veth0 ~ifalias="another">"while-down" set veth0 alias while-down'
-    'veth0 ~group=42>43 set veth0 group 43'
-    'veth0 ~linkmode="dormant">"default" set veth0 mode default'
-    'veth0 ifname="veth0">"renamed0" set veth0 name renamed0'
-    'renamed0 ifname="renamed0">"veth0" set renamed0 name veth0'
-    'port0 master,linkinfo.slave-kind,gone set port0 nomaster'
-    'dummy0 mtu=1500>1400 set dummy0 mtu 1400'
-    'dummy0 carrier=1>0 set dummy0 carrier off'
-    'vlan0 ~linkinfo.data.flag.flags set vlan0 type vlan loose_binding on'
-    'macvlan0 linkinfo.data.mode="vepa">"private" set macvlan0 type macvlan mode private'
-    'macvlan0 proto-down=0>1 set macvlan0 protodown on'
-    'vxlan0 linkinfo.data.ageing=300>77 set vxlan0 type vxlan ageing 77'
-    'bond0 linkinfo.data.xmit-hash-policy="layer3.4" set bond0 type bond xmit_hash_policy layer3+4'
-    'port5 linkinfo.slave-data.queue-id=3 set port5 type bond_slave queue_id 3'
-    'gre1 linkinfo.data.ttl=64 set gre1 type gre ttl 64'
-    'ipvlan0 linkinfo.data.flags set ipvlan0 type ipvlan vepa'
-    'ifb2 gone ip link del ifb2'
-)
 
 # changes COMMAND..
 makes_change() {
@@ -164,11 +29,8 @@ names() {
 }
 
 makes_kinds() {
-    local it known=() unknown=()
-    for it in 'port1 port2' 'port3 port4' 'port7 port8' 'port9 port10' 'port11 port12' 'port13 port14' 'port19 port20' \
-        'veth1 veth2'; do
-        ip link add "${it% *}" type veth peer name "${it#* }" 2>/dev/null || true
-    done
+    local it kinds known=() unknown=()
+    reads kinds live/state_kinds.txt
     for it in "${kinds[@]}"; do
         # shellcheck disable=SC2086 # words of ip
         if ip ${it#* } 2>/dev/null; then
@@ -318,7 +180,8 @@ moved() {
 
 # a new state after each change, and a line of linkdiff
 changes() {
-    local it link what command index before done=0 skipped=''
+    local it changes link what command index before done=0 skipped=''
+    reads changes live/state_changes.txt
     for it in "${changes[@]}"; do
         read -r link what command <<<"$it"
         index=$(cat "/sys/class/net/$link/ifindex" 2>/dev/null) || true
