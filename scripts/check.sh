@@ -52,9 +52,8 @@ programs() {
     for name in "${names[@]}"; do
         stage "program.sh $name" scripts/program.sh "$name"
     done
-    python3 scripts/state_tests.py crates/linkstate/out/linkstate crates/linkwire/out/linkwire
-    stage diff_tests.py python3 scripts/diff_tests.py crates/linkdiff/out/linkdiff crates/linkshow/out/linkshow \
-        crates/linkstate/out/linkstate crates/linkwire/out/linkwire
+    python3 scripts/state_tests.py crates/linkstate/out/linkstate
+    stage diff_tests.py python3 scripts/diff_tests.py crates/linkdiff/out/linkdiff crates/linkshow/out/linkshow
     stage sizes.py python3 scripts/sizes.py crates/linkwire/out crates/linkshow/out crates/linkstate/out \
         crates/linkdiff/out out
     python3 tests/linkdump/hosts.py --linkdiff crates/linkdiff/out/linkdiff

@@ -4,10 +4,10 @@
     python3 scripts/sizes.py FOLDER..
 
 The folders have the programs linkwire, linkshow, linkstate, linkdiff and linkdump; of two the first counts. A message
-is made with what each program has to answer of it: the canonical encoding is known from how the message was made, the
-state encoding by state_model.py, linkshow's members too, and the changes that linkdiff tells by the members of both.
-Words in front of a line, and lines that are no hexadecimal, are as long. linkdump reads captures of packets as long as
-libpcap takes, and is skipped where it has no libpcap. After each long line comes a short one.
+is made with what each program has to answer of it: the canonical encoding and linkshow's members are known from how the
+message was made, the state encoding by the second reader of tests/second, and the changes that linkdiff tells by the
+members of both. Words in front of a line, and lines that are no hexadecimal, are as long. linkdump reads captures of
+packets as long as libpcap takes, and is skipped where it has no libpcap. After each long line comes a short one.
 """
 import json
 import os
@@ -18,12 +18,11 @@ import sys
 import tempfile
 import time
 
-import state_model
-from diff_tests import changes_of, paths
 from shared import TOP, answers, attribute, compare, said
 
-sys.path.append(TOP + "/tests/linkdump")
+sys.path += [f"{TOP}/tests/linkdump", f"{TOP}/tests/second"]
 import captures
+import second
 
 SIZES = {"5 kB": 5_000, "70 kB": 70_000, "1.2 MB": 1_200_000, "20 MB": 20_000_000}
 PACKETS = {"5 kB": 5_000, "70 kB": 70_000, "250 kB": 250_000}  # libpcap reads no packet above 262,144 bytes
@@ -65,7 +64,7 @@ class Made:
         self.add(CARRIER_CHANGES, struct.pack("<I", changes))
         self.members["other"] = self.others
         self.message, self.canonical = b"".join(self.message), b"".join(self.canonical)
-        self.state = state_model.state(self.canonical)
+        self.state = second.state(self.canonical)
 
     def add(self, kind, payload, written=None, flags=0):
         self.message.append(attribute(kind | flags, payload, b"\xaa"))
@@ -101,7 +100,7 @@ def look_at_linkstate(program, made, size):
     words = b"host=" + b"h" * size + b" \t"
     many = b"a=b " * (size // 4)
     digits, ok = made.message.hex().encode(), b"ok " + made.state.hex().encode()
-    short = b"ok " + state_model.state(header(0)).hex().encode()
+    short = b"ok " + second.state(header(0)).hex().encode()
     lines = [digits, SHORT, words + digits, many + SHORT, words, made.faulty().hex().encode(), SHORT]
     compare("sizes: linkstate", lines, answers(program, lines),
             [ok, short, words + ok, many + short, words, b"refused", short])
@@ -138,6 +137,24 @@ def sorted_changes(answer):
     found = json.loads(answer)
     found.get("changes", []).sort(key=lambda row: row["path"])
     return found
+
+
+def paths(value, path=()):
+    """Returns the value of each path: of an object and of a list of objects those of its parts."""
+    if isinstance(value, dict) and value:
+        parts = value.items()
+    elif isinstance(value, list) and value and isinstance(value[0], dict):
+        parts = enumerate(value)
+    else:
+        return {".".join(path): value}
+    return {at: one for name, part in parts for at, one in paths(part, (*path, str(name))).items()}
+
+
+def changes_of(was, now):
+    """Returns the changes between the values of two messages, in the order of the paths."""
+    rows = [{"path": path, **{name: rows[path] for name, rows in (("old", was), ("new", now)) if path in rows}}
+            for path in sorted({*was, *now})]
+    return [row for row in rows if "old" not in row or "new" not in row or row["old"] != row["new"]]
 
 
 def look_at_linkdiff(program, made, size):

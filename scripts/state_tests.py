@@ -1,17 +1,15 @@
 #!/usr/bin/env python3
-"""Holds linkstate to a model of its own, state_model.py, and to what kernels sent.
+"""Holds linkstate to the second reader of tests/second over damaged lines, and to what kernels sent.
 
-    [KERNELS=FOLDER] python3 scripts/state_tests.py LINKSTATE LINKWIRE
+    [KERNELS=FOLDER] python3 scripts/state_tests.py LINKSTATE
 
-Of each line the answer has to be the model's state of what linkwire answers, or the same refusal: the lines are those
-of show_damaged.py and the messages of tests/state/pairs.txt, as they are and damaged. With words in front, which may be
-damaged too, each line has to have them in front of its answer. With --lenient a message of which the frames fit has to
-have a state, but where an attribute does not fit or is an empty list of ports: that of its header, and of each
-attribute as linkwire writes it in a message of its own, or as it stands where linkwire refuses it there. The two
-messages of each pair have one state, which is the state encoding of itself. FOLDER has a folder RELEASE/out, or an
-archive RELEASE.tar.xz of out/, for each kernel: NAME.hex has a dump's messages, a line of hexadecimal each, and
-NAME.hex2 those of a dump that came after. Each pair of messages of an interface has one state too, or is refused twice,
-but for those that are named in ASKED. Without FOLDER that is 'skipped'.
+The lines are those of show_damaged.py and the messages of tests/state/pairs.txt, as they are and damaged; of each the
+answer has to be the second reader's, with --lenient too. With words in front, which may be damaged too, each line has
+to have them in front of its answer. The two messages of each pair have one state, which is the state encoding of
+itself. FOLDER has a folder RELEASE/out, or an archive RELEASE.tar.xz of out/, for each kernel: NAME.hex has a dump's
+messages, a line of hexadecimal each, and NAME.hex2 those of a dump that came after. Each pair of messages of an
+interface has one state too, or is refused twice, but for those that are named in ASKED. Without FOLDER that is
+'skipped'.
 """
 
 import glob
@@ -20,9 +18,11 @@ import random
 import re
 import sys
 
-import state_model
-from shared import HEADER_SIZE, answers, compare, kernels, read
-from show_damaged import LONG, damaged, parts, sources
+from shared import TOP, answers, compare, kernels, read
+from show_damaged import LONG, damaged, sources
+
+sys.path.append(f"{TOP}/tests/second")
+from check import Said
 
 # words in front of a line: a key with neither = nor blank, a value without a blank, and blanks after each
 FRONT = re.compile(rb"(?:[^ \t=]+=[^ \t]*[ \t]+)*")
@@ -59,51 +59,13 @@ def of_answer(answer):
     return bytes.fromhex(answer[3:].decode()) if answer.startswith(b"ok ") else None
 
 
-def state_of(text):
-    return b"ok " + state_model.state(text).hex().encode()
-
-
-def compare_states(linkstate, linkwire, lines):
-    """Compares the answers with the model; returns how many lines have a state."""
-    canonical = answers(linkwire, lines)
-    wanted = [text if of_answer(text) is None else state_of(of_answer(text)) for text in canonical]
-    compare("state_tests", lines, answers(linkstate, lines), wanted)
-    return sum(it.startswith(b"ok ") for it in wanted)
-
-
-# ** leniently
-
-
-def spelled(line):
-    """Returns the bytes of a line of hexadecimal, or none."""
-    try:
-        return bytes.fromhex(line) if line.isascii() and line == "".join(line.split()) else b""
-    except ValueError:
-        return b""
-
-
-def lenient_state(lines, answer_of):
-    """Returns the answer to a message, by those to a message of its header alone and of each of its attributes."""
-    told = [answer_of[line] for line in lines]
-    for word in (b"unfit", b"empty-ports"):
-        if word in told:
-            return word
-    each = (of_answer(answer) or bytes.fromhex(line) for line, answer in zip(lines, told))
-    return state_of(of_answer(told[0]) + b"".join(it[HEADER_SIZE:] for it in each))
-
-
-def compare_leniently(linkstate, linkwire, lines):
-    """Compares the answers with the model; returns how many messages have a state, and how many of these no other."""
-    strict, found = answers(linkwire, lines), answers(linkstate, lines, "--lenient")
-    split = [parts(spelled(line)) for line in lines]
-    split = [it if it is None else [line[:2 * HEADER_SIZE]] + [alone for _, alone in it]
-             for line, it in zip(lines, split)]
-    asked = list(dict.fromkeys(alone for it in split if it for alone in it))
-    answer_of = dict(zip(asked, answers(linkwire, asked)))
-    wanted = [other if it is None else lenient_state(it, answer_of) for other, it in zip(strict, split)]
-    compare("state_tests: --lenient", lines, found, wanted)
-    states = [other for other, answer in zip(strict, found) if answer.startswith(b"ok ")]
-    return len(states), states.count(b"refused")
+def compare_states(linkstate, lines):
+    """Compares the answers with the second reader's, strictly and leniently; returns how many lines have a state."""
+    saids = [Said(line.encode()) for line in lines]
+    strict, lenient = [it.stated.encode() for it in saids], [it.stated_leniently.encode() for it in saids]
+    compare("state_tests", lines, answers(linkstate, lines), strict)
+    compare("state_tests: --lenient", lines, answers(linkstate, lines, "--lenient"), lenient)
+    return [sum(it.startswith(b"ok ") for it in found) for found in (strict, lenient)]
 
 
 # ** words in front
@@ -164,11 +126,11 @@ def has_asked(name, answers_of):
     return [(at, a ^ b) for at, (a, b) in enumerate(zip(first, second)) if a != b] == [ASKED.get(name)]
 
 
-def compare_kernels(linkstate, linkwire, folder):
+def compare_kernels(linkstate, folder):
     """Looks at the pairs of each kernel of a folder."""
     for release, out in kernels(folder):
         found = pairs_of(release, out)
-        compare_states(linkstate, linkwire, [it.hex() for _, first, second in found for it in (first, second)])
+        compare_states(linkstate, [it.hex() for _, first, second in found for it in (first, second)])
         moved, refused = two_states(linkstate, found)
         wrong = [name for name, states in moved.items() if not has_asked(name, states)]
         if wrong or not found:
@@ -177,27 +139,22 @@ def compare_kernels(linkstate, linkwire, folder):
               f"state; two where an interface asked for routers: {', '.join(moved) or 'none'}")
 
 
-def main():
-    linkstate, linkwire = sys.argv[1:]
+def main(linkstate):
     chance, found = random.Random(2), pairs()
     messages = [it.hex() for _, first, second in found for it in (first, second)]
-    lines = sources() + LONG + messages + [damaged(chance, line) for line in sources() for _ in range(20)]
+    lines = sources() + LONG + messages + [damaged(chance, line) for line in sources() for _ in range(60)]
     lines += [damaged(chance, line) for line in messages for _ in range(200)]
-    count = compare_states(linkstate, linkwire, lines)
+    strict, lenient = compare_states(linkstate, lines)
     with_words = compare_worded(linkstate, [worded(chance, line) for line in sources() + messages for _ in range(20)])
     moved, refused = two_states(linkstate, found)
     if moved or refused:
         fails("two states, or a refusal:", ", ".join([*moved, *refused]))
-    print(f"state_tests: {len(lines)} lines, {count} with a state, as the model's; {with_words} with words; "
-          f"{len(found)} pairs of one state")
-    chance, all_ = random.Random(3), list(dict.fromkeys(sources() + messages))
-    lines = all_ + LONG + [damaged(chance, line) for line in all_ for _ in range(100)]
-    states, raw = compare_leniently(linkstate, linkwire, lines)
-    print(f"state_tests: {len(lines)} lines, {states} with a state leniently, as the model's, {raw} of them so alone")
+    print(f"state_tests: {len(lines)} lines, {strict} with a state and {lenient} leniently, as the second reader's; "
+          f"{with_words} with words; {len(found)} pairs of one state")
     if os.environ.get("KERNELS"):
-        return compare_kernels(linkstate, linkwire, os.environ["KERNELS"])
+        return compare_kernels(linkstate, os.environ["KERNELS"])
     return print("state_tests: skipped: KERNELS names no folder of kernels")
 
 
 if __name__ == "__main__":
-    main()
+    main(*sys.argv[1:])
