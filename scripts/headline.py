@@ -78,34 +78,42 @@ class Module:
                 yield self.names[first]
 
 
-def walk():
-    """What one reads from the headline on: module, name and the lines of each definition."""
-    modules, found, todo = {}, {}, [START]
+def walk(starts, is_left_out):
+    """What one reads from these definitions on: module, name and the lines of each definition."""
+    modules, found, todo = {}, {}, list(starts)
     while todo:
         module, name = todo.pop(0)
-        crate = module.split(".")[0]
-        if (module, name) in found or crate in ("std", "bitflags") or ".declared." in module or module == PINNED:
+        if (module, name) in found or ".declared." in module or is_left_out(module, name):
             continue
         modules.setdefault(module, Module(module))
         if name not in modules[module].items:
-            fails(f"{module} has no {name}")
+            sys.exit(f"headline: {module} has no {name}")
         body = without_reader(modules[module].items[name])
         if re.search(r"\.reads\b", body):
-            fails(f"{name} of {module} cites a reader")
+            sys.exit(f"headline: {name} of {module} cites a reader")
         found[module, name] = sum(bool(line.strip()) for line in body.splitlines())
         todo += modules[module].cited(name)
     return found
 
 
+def of_headline():
+    return walk([START], lambda module, _: module.split(".")[0] in ("std", "bitflags") or module == PINNED)
+
+
+def size(found):
+    """So many definitions, as the pages have it."""
+    return f"{len(found)} definitions of {sum(found.values())} lines"
+
+
 def counts():
     """The sentences of the page that count something."""
-    found = walk()
+    found = of_headline()
     listed = {it: lines for it, lines in found.items() if it[0].split(".")[0] in LISTS}
     rest = {it: lines for it, lines in found.items() if it not in listed}
     files = {module for module, _ in rest}
     numbers = [len(re.findall(r"^pub const \w+: u16 = ", read(f"crates/{it}/src/numbers.rt"), re.M)) for it in NUMBERS]
-    yield f"{len(rest)} definitions of {sum(rest.values())} lines in {len(files)} files"
-    yield f"{len(listed)} definitions of {sum(listed.values())} lines"
+    yield f"{size(rest)} in {len(files)} files"
+    yield size(listed)
     yield f"{sum(numbers)} constants ({', '.join(f'{n} of `{it}`' for n, it in zip(numbers, NUMBERS))})"
 
 
@@ -133,10 +141,10 @@ def hold(line, linkwire, linkshow):
         fails(f"'{line}': the answer is {found}")
 
 
-def show():
+def show(found):
     """Prints the definitions, a file a line."""
     files = {}
-    for (module, name), lines in walk().items():
+    for (module, name), lines in found.items():
         files.setdefault(module, []).append(f"{name} {lines}")
     for module, names in files.items():
         print(f"crates/{module.replace('.', '/')}.antt: {', '.join(names)}")
@@ -157,4 +165,4 @@ def main(linkwire="out/linkwire", linkshow="out/linkshow"):
 
 
 if __name__ == "__main__":
-    show() if sys.argv[1:] == ["--list"] else main(*sys.argv[1:])
+    show(of_headline()) if sys.argv[1:] == ["--list"] else main(*sys.argv[1:])

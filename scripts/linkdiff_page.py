@@ -17,7 +17,7 @@ import subprocess
 import sys
 import tempfile
 
-from headline import Module, without_reader
+from headline import Module, show, size, walk
 from shared import attribute, read
 
 PAGE = "docs/LINKDIFF.md"
@@ -46,43 +46,29 @@ def fails(what):
 
 # ** definitions
 
-def walk():
-    """What one reads of message_diff from the contracts on: file, name and the lines of each definition."""
-    modules, found, todo = {}, {}, [(SPECS + file, name) for file, name in STARTS]
-    while todo:
-        module, name = todo.pop(0)
-        file = module.removeprefix(SPECS)
-        if (file, name) in found or file == module or "declared" in file or (file, name) in SAID:
-            continue
-        modules.setdefault(module, Module(module))
-        if name not in modules[module].items:
-            fails(f"{file} has no {name}")
-        body = without_reader(modules[module].items[name])
-        found[file, name] = sum(bool(line.strip()) for line in body.splitlines())
-        todo += modules[module].cited(name)
-    return found
+def of_message_diff():
+    """What one reads of message_diff from the contracts on."""
+    def is_left_out(module, name):
+        return not module.startswith(SPECS) or (module.removeprefix(SPECS), name) in SAID
+    return walk([(SPECS + file, name) for file, name in STARTS], is_left_out)
 
 
 def count(found, page):
     """Holds the sentences of the page that count something to what is found, and returns them."""
-    quoted = quotes(page, found)
-    said = (f"{len(found)} definitions of {sum(found.values())} lines in {len({file for file, _ in found})} files",
-            f"quotes {quoted} of them as they stand")
+    files = {module.removeprefix(SPECS) for module, _ in found}
+    said = f"{size(found)} in {len(files)} files", f"quotes {quotes(page, found)} of them as they stand"
     plain = " ".join(page.split())
-    for it in said:
+    for it in [*said, *(f"`{file}.antt`" for file in sorted(files))]:
         if it not in plain:
             fails(f"it does not say '{it}'")
-    for file in sorted({file for file, _ in found}):
-        if f"`{file}.antt`" not in plain:
-            fails(f"it does not name {file}.antt")
     return "; ".join(said)
 
 
 def quotes(page, found):
     """How many definitions the page quotes, each as it stands in its file, comments aside."""
     texts = {}
-    for file, name in found:
-        lines = Module(SPECS + file).items[name].splitlines()
+    for module, name in found:
+        lines = Module(module).items[name].splitlines()
         texts["\n".join(it for it in lines if it.strip() and not it.lstrip().startswith("--"))] = name
     quoted = [it.strip("\n") for block in QUOTED.findall(page) for it in block.split("\n\n")]
     for it in quoted:
@@ -179,22 +165,13 @@ def streams(linkdiff, page):
     return held
 
 
-def show():
-    """Prints the definitions, a file a line."""
-    files = {}
-    for (file, name), lines in walk().items():
-        files.setdefault(file, []).append(f"{name} {lines}")
-    for file, names in files.items():
-        print(f"{file}.antt: {', '.join(names)}")
-
-
 def main(linkdiff="out/linkdiff"):
     page = read(PAGE)
-    print(f"linkdiff page: {count(walk(), page)}")
+    print(f"linkdiff page: {count(of_message_diff(), page)}")
     held = streams(os.path.abspath(linkdiff), page)
     print(f"linkdiff page: {held} lines of {len(STREAM.findall(page))} streams")
     print("linkdiff page: ok")
 
 
 if __name__ == "__main__":
-    show() if sys.argv[1:] == ["--list"] else main(*sys.argv[1:])
+    show(of_message_diff()) if sys.argv[1:] == ["--list"] else main(*sys.argv[1:])
