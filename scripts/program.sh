@@ -1,6 +1,7 @@
 #!/usr/bin/env bash
-# Runs a built program where a read, a write or an allocation fails, and looks at its status and its line:
-# program.sh [linkwire|linkshow|linkstate|linkdiff]
+# Runs a built program where a write or an allocation fails, and looks at its status and its line:
+# program.sh [linkwire|linkshow|linkstate|linkdiff]. What it says of words alone, and of a read that fails, is in
+# tests/program/said.txt, which make self-test compares.
 self=${1:-linkwire}
 . "$(dirname "$0")/common.sh"
 name=$self
@@ -49,16 +50,6 @@ refuses() {
     wants "$1" 2 '' "$(cat "$folder/err")"
 }
 
-# refuses_words WORDS..: each by itself, split at its blanks
-refuses_words() {
-    local words list
-    for words in "$@"; do
-        read -r -a list <<<"$words"
-        refuses "the arguments '$words'" "${list[@]}"
-    done
-}
-
-gives 'a read that fails' 1 '' "$name: read failed" <"$folder"
 if [ "$name" = linkwire ]; then
     gives 'arguments, which are ignored' 0 "$nothex" '' --help - '' <<<0
     grep -v '^#' "$top/tests/captures.txt" >"$folder/captures"
@@ -95,17 +86,10 @@ status=0
     status=$?
 wants 'an allocation that fails' 1 "$nothex" "$name: out of memory"
 gives 'a whole run' 0 "$(printf '%s\n' "$nothex" "$refused" "$nothex")" '' < <(printf '0\n\n0')
-for word in --help --version; do
-    gives "$word" 0 '*' '' "$word" </dev/null
-    [ -s "$folder/out" ] || fails "$word says nothing"
-done
 gives -h 0 "$("$program" --help)" '' -h </dev/null
 
 if [ "$name" != linkwire ]; then
-    for word in --helpful -x ''; do
-        refuses "the argument '$word'" "$word"
-    done
-    refuses_words '--help x' '--version --help'
+    refuses 'an argument of no letters' ''
     gives 'an argument that is no UTF-8' 2 '' "$name: an argument is no UTF-8; see $name --help" $'\xff' </dev/null
 fi
 
@@ -114,7 +98,6 @@ if [ -n "$answers" ]; then
     sed -n '1~3p' "$folder/lenient" >"$folder/lenient_lines"
     sed -n "$answers" "$folder/lenient" >"$folder/wanted"
     gives --lenient 0 "$(cat "$folder/wanted")" '' --lenient <"$folder/lenient_lines"
-    refuses_words '--lenient x' '--lenient --help' '--help --lenient'
 fi
 
 # link FAMILY INDEX ATTRIBUTES: a message of e0, the first two a byte in hexadecimal each
@@ -150,17 +133,14 @@ if [ "$name" = linkdiff ]; then
 fi
 
 if [ "$name" = linkshow ]; then
-    for release in x '' 6 $'6\n' $'\xff'; do
+    for release in '' $'6\n' $'\xff'; do
         refuses "the release ${release@Q}" --kernel "$release"
     done
-    gives 'no release' 2 '' "$name: not understood: --kernel; see $name --help" --kernel </dev/null
     gives 'the kernel at hand' 0 '' '' --kernel running </dev/null
     for words in '--lenient --kernel 6.1' '--kernel 6.1 --lenient'; do
         read -r -a list <<<"$words"
         gives "$words" 0 '*' '' "${list[@]}" <"$folder/lines"
     done
-    gives 'no release behind --lenient' 2 '' "$name: not understood: --kernel; see $name --help" \
-        --lenient --kernel </dev/null
 fi
 
 if [ "$name" = linkdiff ]; then
@@ -239,7 +219,6 @@ $name: $folder/new: no whole dump of family 0, host=b: what went is not told" "$
     gives --changes-only 0 '' '' --changes-only <"$folder/old"
     gives '--changes-only, after a whole dump' 0 '{"change":"new","ifi-family":0,"ifi-index":4,"ifname":"e0"}' '' \
         --changes-only < <(cat "$folder/old"; link 00 04; link 07 04)
-    refuses_words '--changes-only x y' '- -' -
 
     # the fifth counter of IPv6: its name is that of a word kernel=
     for kernel in 6.1.0:outforwdatagrams 6.16.0:noectpkts; do
