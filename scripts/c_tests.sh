@@ -22,11 +22,6 @@ for found in "$(names "$library")" "$(names -D "$shared")"; do
 done
 packed=$(sed -n 's/^ \(linkwire_.*\)@Base .*/\1/p' "$top/debian/liblinkwire0.symbols" | sort)
 [ "$packed" = "$declared" ] || fails 'debian/liblinkwire0.symbols has other names than the header declares'
-readelf -d "$shared" >"$folder/dynamic"
-grep -q 'SONAME.*\[liblinkwire\.so\.0\]' "$folder/dynamic"
-if ! grep -q BIND_NOW "$folder/dynamic" || ! readelf -l "$shared" | grep GNU_RELRO >/dev/null; then
-    fails 'the shared library is not bound at its start, and read-only after it'
-fi
 
 # Compiles the header's own program as a language, by each compiler of it that is there, and runs it.
 header() {

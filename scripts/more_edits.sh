@@ -6,25 +6,17 @@
 # Libraries that stand in the out/ of the crates are not proved again.
 . "$(dirname "$0")/common.sh"
 cd "$top"
-crates=()
-words=
+crates=() words=''
 while [ $# != 0 ]; do
-    case $1 in
-        --headline)
-            words=${2:?--headline wants words}
-            shift 2
-            ;;
-        *)
-            crates+=("$1")
-            shift
-            ;;
-    esac
+    if [ "$1" = --headline ]; then
+        words=${2:?--headline wants words}
+        shift
+    else
+        crates+=("$1")
+    fi
+    shift
 done
-if [ ${#crates[@]} = 0 ]; then
-    for list in edits/*.txt; do
-        crates+=("$(basename "$list" .txt)")
-    done
-fi
+[ ${#crates[@]} != 0 ] || mapfile -t crates < <(basename -s .txt edits/*.txt)
 
 shopt -s nullglob
 cp -r --parents HANDLES crates.txt crates/*/{src,specs,proofs,must-fail} "$folder"
