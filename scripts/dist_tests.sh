@@ -26,16 +26,12 @@ fi
 cd "$folder/tree"
 read -ra programs <<<"$(sed -n 's/^PROGRAMS = //p' dist/Makefile)"
 
-# lacks COMMAND..: what of these is not installed
-lacks() {
+# has WHAT COMMAND..: whether these are installed, else it says that WHAT is skipped
+has() {
     local it
-    for it in "$@"; do
-        if ! command -v "$it" >/dev/null; then
-            echo "$it"
-            return
-        fi
+    for it in "${@:2}"; do
+        command -v "$it" >/dev/null || { echo "dist: $1: skipped: no $it"; return 1; }
     done
-    return 1
 }
 
 # tests WHAT: the tests of what was built, of which one line is left
@@ -76,9 +72,7 @@ hardens() {
     echo "dist: $1: hardened: ok"
 }
 hardens here out
-if it=$(lacks python3); then
-    echo "dist: files that do not block, page faults: skipped: no $it"
-else
+if has 'files that do not block, page faults' python3; then
     python3 tests/program/waits.py out "${programs[@]}" | sed 's/^/dist: /'
     python3 tests/program/faults.py out "${programs[@]}" | sed 's/^/dist: /'
 fi
@@ -86,14 +80,12 @@ scripts/laws.sh out/liblinkwire.a 50000 | sed 's/^/dist: sanitizers: /'
 python3 scripts/readme.py out/liblinkwire.a out
 scripts/test_install.sh
 
-if it=$(lacks qemu-x86_64) || [ "$(uname -m)" != x86_64 ]; then
-    echo "dist: on an old processor: skipped: no ${it:-x86_64}"
-else
+if [ "$(uname -m)" != x86_64 ]; then
+    echo 'dist: on an old processor: skipped: no x86_64'
+elif has 'on an old processor' qemu-x86_64; then
     RUN='qemu-x86_64 -cpu Conroe' TESTS=$few tests 'on an old processor'
 fi
-if it=$(lacks musl-gcc); then
-    echo "dist: with musl, statically: skipped: no $it"
-else
+if has 'with musl, statically' musl-gcc; then
     another musl
     # the kernel's headers, after musl's own
     kernel="-O1 -idirafter /usr/include -idirafter /usr/include/$(cc -dumpmachine)"
@@ -102,9 +94,7 @@ else
     dumps 'with musl, statically' out/linkdump
 fi
 gnu=aarch64-linux-gnu
-if it=$(lacks qemu-aarch64 $gnu-gcc $gnu-ld $gnu-objcopy $gnu-ar); then
-    echo "dist: aarch64: skipped: no $it"
-else
+if has aarch64 qemu-aarch64 $gnu-gcc $gnu-ld $gnu-objcopy $gnu-ar; then
     another aarch64
     make -s CC=$gnu-gcc LD=$gnu-ld OBJCOPY=$gnu-objcopy AR=$gnu-ar PCAP= all
     CC=$gnu-gcc RUN="qemu-aarch64 -L /usr/$gnu" TESTS=$few tests aarch64
@@ -122,7 +112,7 @@ cd "$folder/$(basename "$file" .tar.gz)"
 make -s install DESTDIR="$folder/stage"
 make -s uninstall DESTDIR="$folder/stage"
 [ -z "$(find "$folder/stage" ! -type d)" ]
-if ! lacks python3 >/dev/null; then
+if has 'the archive: the package for Python' python3; then
     python3 -B python/backend.py "$folder" >/dev/null
 fi
 make -s check >"$folder/log"
@@ -139,9 +129,7 @@ if make -s PROVE=1 >"$folder/log" 2>&1 || ! grep -q 'the crates, which are not i
 fi
 echo 'dist: the archive: the same bytes twice, built, tested, installed: ok'
 
-if it=$(lacks dpkg-buildpackage dh dh_python3 pkg-config); then
-    echo "dist: packages: skipped: no $it"
-else
+if has packages dpkg-buildpackage dh dh_python3 pkg-config; then
     cd "$folder/tree"
     make -s deb >"$folder/packages"
     mkdir "$folder/deb"
@@ -162,18 +150,13 @@ else
     TESTS=header tests 'the programs of the packages'
     hardens 'the programs of the packages' "$folder/root/usr/bin" "$lib/liblinkwire.so.0"
     "$folder/root/usr/bin/linkdump" --version >/dev/null
-    if it=$(lacks python3); then
-        echo "dist: packages: python3-linkwire: skipped: no $it"
-    else
-        PYTHONPATH=$folder/root/usr/lib/python3/dist-packages LD_LIBRARY_PATH=$lib python3 -B -c \
-            'import linkwire; linkwire.check(linkwire.build([(3, "lo")]))'
-        PYTHONPATH=$folder/root/usr/lib/python3/dist-packages LD_LIBRARY_PATH=$lib PYTHONDONTWRITEBYTECODE=1 \
-            "$folder/root/usr/bin/linkwatch" --version >/dev/null
+    export PYTHONPATH=$folder/root/usr/lib/python3/dist-packages LD_LIBRARY_PATH=$lib PYTHONDONTWRITEBYTECODE=1
+    if has 'packages: python3-linkwire' python3; then
+        python3 -c 'import linkwire; linkwire.check(linkwire.build([(3, "lo")]))'
+        "$folder/root/usr/bin/linkwatch" --version >/dev/null
     fi
     echo 'dist: packages: the same bytes twice, unpacked and used by pkg-config: ok'
-    if it=$(lacks lintian); then
-        echo "dist: packages: lintian: skipped: no $it"
-    else
+    if has 'packages: lintian' lintian; then
         lintian --no-cfg --display-info "$folder"/deb/*.deb >"$folder/log" 2>&1 || true
         if grep -v 'initial-upload-closes-no-bugs' "$folder/log" | grep '^[EW]:\|hardening-' >&2; then
             exit 1

@@ -10,27 +10,24 @@ export PKG_CONFIG_PATH=$prefix/lib/pkgconfig
 cd "$folder"
 cp "$top/tests/install.c" .
 read -ra flags <<< "$(pkg-config --cflags --libs linkwire)"
-wanted="lo 1500 $(pkg-config --modversion linkwire)"
-# Runs what was compiled, and compares what it prints.
+version=$(pkg-config --modversion linkwire)
+# expect WANTED COMMAND..: runs a program, and compares what it prints
 expect() {
-    found=$("$@")
-    [ "$found" = "$wanted" ] || fails "a program prints $found and not $wanted"
+    found=$("${@:2}")
+    [ "$found" = "$1" ] || fails "a program prints $found and not $1"
 }
 ${CC:-cc} -o shared install.c "${flags[@]}"
 readelf -d shared | grep -q 'NEEDED.*\[liblinkwire\.so\.0\]'
-LD_LIBRARY_PATH=$prefix/lib expect ./shared
+LD_LIBRARY_PATH=$prefix/lib expect "lo 1500 $version" ./shared
 ${CC:-cc} -static -o static install.c "${flags[@]}"
-expect ./static
-wanted='ok 00000000000000000000000000000000070003006c6f0000'
-expect "$prefix/bin/linkwire" <<< 00000000000000000000000000000000060003006c6f
-wanted='{"fault":"not-hex"}'
-expect "$prefix/bin/linkshow" <<< 0
-expect "$prefix/bin/linkdiff" <<< 0
-wanted=nothex
-expect "$prefix/bin/linkstate" <<< 0
+expect "lo 1500 $version" ./static
+expect 'ok 00000000000000000000000000000000070003006c6f0000' \
+    "$prefix/bin/linkwire" <<< 00000000000000000000000000000000060003006c6f
+expect nothex "$prefix/bin/linkstate" <<< 0
+expect '{"fault":"not-hex"}' "$prefix/bin/linkshow" <<< 0
+expect '{"fault":"not-hex"}' "$prefix/bin/linkdiff" <<< 0
 for name in linkdump linkstate linkshow linkdiff; do
-    wanted="$name $(pkg-config --modversion linkwire)"
-    expect "$prefix/bin/$name" --version
+    expect "$name $version" "$prefix/bin/$name" --version
 done
 
 for page in "$prefix"/share/man/man[13]/link*.[13]; do
