@@ -4,8 +4,9 @@ and each that names the toolchain with dist/SUMS.
 
     python3 scripts/version.py
 
-A place that has another one, or none, is printed as 'FILE: CONSTANT is FOUND, not WANTED', and the exit status is then
-1. What is made of the header, as linkwire.pc, has no number of its own, and is not looked at.
+The places are those of versions.txt. One that has another version, or none, is printed as 'FILE: CONSTANT is FOUND, not
+WANTED', and the exit status is then 1. What is made of the header, as linkwire.pc, has no number of its own, and is not
+looked at.
 """
 
 import fnmatch
@@ -14,34 +15,10 @@ import re
 import subprocess
 import sys
 
-from shared import TOP
+from shared import TOP, table
 
 HEADER, SUMS = "include/linkwire.h", "dist/SUMS"
-# each of these files has one: which constant of the header it is, or TOOLCHAIN, and its form, whose group is the value
-PLACES = [(files, constant, re.compile(form, re.M)) for files, constant, form in [
-    ("man/*.[1-9]", "VERSION", r'^\.TH .* "linkwire ([^"]*)"'),
-    ("CHANGELOG.md", "VERSION", r"\A[\s\S]*?^## \[([\d.]+)\] - "),
-    ("debian/changelog", "VERSION", r"\A\w+ \(([\d.]+)-"),
-    ("rust/Cargo.toml", "VERSION", r'^version = "(.*)"'),
-    ("rust/netlink/Cargo.toml", "VERSION", r'^version = "(.*)"'),
-    ("rust/serde/Cargo.toml", "VERSION", r'^version = "(.*)"'),
-    ("python/pyproject.toml", "VERSION", r'^version = "(.*)"'),
-    ("python/linkwire/__init__.py", "VERSION", r'^__version__ = "(.*)"'),
-    ("rust/Cargo.lock", "VERSION", r'^name = "linkwire"\nversion = "(.*)"'),
-    ("crates/link_msg/src/encoding.rt", "CANONICAL_FORM", r"^pub const CANONICAL_FORM: u32 = (\d+);"),
-    ("crates/link_state/src/state_encoding.rt", "STATE_FORM", r"^pub const STATE_FORM: u32 = (\d+);"),
-    ("crates/link_msg/src/lenient_encoding.rt", "LENIENT_FORM", r"^pub const LENIENT_FORM: u32 = (\d+);"),
-    ("crates/link_c/src/export.rt", "CANONICAL_FORM", r"_canonical_form\(\) -> u32\n *ensures \{ result ≡ (\d+) \}"),
-    ("crates/link_c/src/export.rt", "STATE_FORM", r"_state_form\(\) -> u32\n *ensures \{ result ≡ (\d+) \}"),
-    ("crates/link_c/src/export.rt", "LENIENT_FORM", r"_lenient_form\(\) -> u32\n *ensures \{ result ≡ (\d+) \}"),
-    ("man/linkwire.1", "CANONICAL_FORM", r"canonical encoding is of form (\d+)"),
-    ("man/linkstate.1", "CANONICAL_FORM", r"canonical encoding of form (\d+)"),
-    ("man/linkstate.1", "STATE_FORM", r"state encoding is of form (\d+)"),
-    ("docs/STORE.md", "CANONICAL_FORM", r"\bforms=(\d+)-"),
-    ("docs/STORE.md", "STATE_FORM", r"\bforms=\d+-(\d+)"),
-    ("README.md", "TOOLCHAIN", r"toolchain\s+\(`([^`]*)`\)"),
-    ("docs/PROOFS.md", "TOOLCHAIN", r"toolchain\s+\(`([^`]*)`\)"),
-]]
+PLACES = [(files, constant, re.compile(form, re.M)) for _, (files, constant, form) in table("scripts/versions.txt")]
 # a program that says its version, anywhere but in what tells of older ones
 ANYWHERE = re.compile(r"\blink(?:wire|show|state|dump|diff|watch)[ -]v?(\d+\.\d+\.\d+)")
 OLDER = {"CHANGELOG.md", "docs/DECISIONS.md"}
