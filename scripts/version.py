@@ -18,7 +18,8 @@ import sys
 from shared import TOP, table
 
 HEADER, SUMS = "include/linkwire.h", "dist/SUMS"
-PLACES = [(files, constant, re.compile(form, re.M)) for _, (files, constant, form) in table("scripts/versions.txt")]
+PLACES = [(files, constant, re.compile(form, re.M))
+          for _, (files, constant, form) in table("scripts/versions.txt")]
 # a program that says its version, anywhere but in what tells of older ones
 ANYWHERE = re.compile(r"\blink(?:wire|show|state|dump|diff|watch)[ -]v?(\d+\.\d+\.\d+)")
 OLDER = {"CHANGELOG.md", "docs/DECISIONS.md"}
