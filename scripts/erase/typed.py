@@ -26,25 +26,16 @@ THERE = {"VlanProtocol": "crate::VlanProtocol"}
 
 # ** what the tables have not: they name what linkshow names, and no more
 
-# Numbers and flags that the tables show without names: what they are named by is the kernel's constants.
-MULTICAST_ROUTERS = ("BridgeMulticastRouterType", False,
-                     ((0, "disabled"), (1, "temp-query"), (2, "perm"), (3, "temp")))   # MDB_RTR_TYPE_*, if_bridge.h
-ERSPAN = ("ErSpanDir", False, ((0, "ingress"), (1, "egress")))                         # `erspan_dir` of ip-link(8)
-LACP = ("LacpState", True, tuple((1 << k, name) for k, name in enumerate(              # LACP_STATE_*, net/bond_3ad.h
-    "activity timeout aggregation synchronization collecting distributing defaulted expired".split())))
-TUNNEL6 = tuple((1 << k, name) for k, name in enumerate(                               # IP6_TNL_F_*, ip6_tunnel.h
-    "ign-encap-limit use-orig-tclass use-orig-flowlabel mip6-dev rcv-dscp-copy use-orig-fwmark "
-    "allow-local-remote".split()))
-CIPHERS = ((0x0080020001000001, "default-gcm-aes-128"), (0x0080C20001000001, "gcm-aes-128"),
-           (0x0080C20001000002, "gcm-aes-256"), (0x0080C20001000003, "gcm-aes-xpn-128"),
-           (0x0080C20001000004, "gcm-aes-xpn-256"))                                    # MACSEC_*CIPHER_ID*, if_macsec.h
-NAMED = {("Bond", "all-slaves-active"): ("BondAllPortActive", False, ((0, "dropped"), (1, "delivered"))),
-         ("Bridge", "stp-state"): ("BridgeStpState", False, ((0, "disabled"), (1, "kernel"), (2, "user"))),
-         ("Bridge", "mcast-router"): MULTICAST_ROUTERS, ("BridgePort", "multicast-router"): MULTICAST_ROUTERS,
-         ("Gre", "erspan-dir"): ERSPAN, ("Gre6", "erspan-dir"): ERSPAN,
-         ("BondSlave", "ad-actor-oper-port-state"): LACP, ("BondSlave", "ad-partner-oper-port-state"): LACP,
-         ("Ip6Tunnel", "flags"): ("Ip6TunnelFlags", True, TUNNEL6),
-         ("Macsec", "cipher-suite"): ("MacSecCipherId", False, CIPHERS)}
+NAMED, NUMBERS, FLAGS = map(names, ("named", "numbers", "flags"))
+
+
+def named(name):
+    """The names of a number that the tables show without: the type, whether these are flags, and each with its name."""
+    is_flags = any(one == name for one, _ in FLAGS)
+    rows = FLAGS if is_flags else NUMBERS
+    return name, is_flags, tuple((int(number, 0), text) for (one, number), text in rows.items() if one == name)
+
+
 # The width of such a type, where its rows have several.
 BITS = {"LacpState": 1}
 # Places that no table has, with their rows.
@@ -163,7 +154,7 @@ class Maker:
         """The type of a value of this spelling, which is made if it has names."""
         kind = plain[0]
         if (place, row) in NAMED and kind == "Unsigned":
-            name, is_flags, names = NAMED[place, row]
+            name, is_flags, names = named(NAMED[place, row])
             return self.number(name, plain[1], names, is_flags)
         if kind in ("Unsigned", "BigEndian"):
             return f"u{8 * plain[1]}"
