@@ -15,9 +15,9 @@ awk '/^test result: ok/ { sum += $4 } END { print "test: " sum " tests passed, w
 scripts/second.sh "$CARGO_TARGET_DIR/debug"
 # what no second reader says: builds by LLVM answer so too
 "${CC:-cc}" -std=gnu11 -O2 -DLINES_ALONE -Iinclude -o "$folder/lines" tests/second/lines.c
-for run in linkshow-whole:all linkdiff:news; do
+for run in linkshow-whole:all linkshow-whole:more linkdiff:news linkdiff-more:changes; do
     what=${run%:*} set=${run#*:}
-    "$folder/lines" "$set" | "$CARGO_TARGET_DIR/debug/${what%-whole}" |
+    "$folder/lines" "$set" | "$CARGO_TARGET_DIR/debug/${what%%-*}" |
         "$folder/lines" "$set" compare "$what" tests/second/held.txt || fails "$what: rustc makes another one of it"
 done
 grep -v '^#' tests/program/lenient.txt >"$folder/lenient"

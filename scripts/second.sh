@@ -24,9 +24,11 @@ else
 fi
 python3 tests/second/check.py --jobs "$jobs" --set "$set" "${words[@]}" "$programs" "$folder/lines"
 if [ "$set" = all ]; then
-    python3 tests/second/check.py --jobs "$jobs" --set digits --only "linkwire,linkstate,linkstate-lenient,linkshow" \
-        "$programs" "$folder/lines" >"$folder/digits" || { cat "$folder/digits"; exit 1; }
-    head -n 1 "$folder/digits"
+    for it in digits more; do
+        python3 tests/second/check.py --jobs "$jobs" --set "$it" --only "linkwire,linkstate,linkstate-lenient,linkshow" \
+            "$programs" "$folder/lines" >"$folder/told" || { cat "$folder/told"; exit 1; }
+        head -n 1 "$folder/told"
+    done
 fi
 if [ -n "$library" ]; then
     count=4000

@@ -98,7 +98,7 @@ if [ -e tests/second ] && [ -z "${TESTS:-}" ]; then
     # shellcheck disable=SC2086
     $CC -std=gnu11 $CFLAGS -Iinclude -o "$folder/lines" tests/second/lines.c out/liblinkwire.a $LDFLAGS
     answers=$top/tests/second/stored.txt
-    for set in all digits; do
+    for set in all digits more; do
         $RUN "$folder/lines" "$set" >"$folder/$set"
         for it in linkwire linkstate linkstate-lenient linkshow; do
             option=--lenient program=${it%-lenient}
@@ -108,8 +108,10 @@ if [ -e tests/second ] && [ -z "${TESTS:-}" ]; then
                 fails "$it answers otherwise than the second reader"
         done
     done
-    $RUN "$folder/lines" all calls | $RUN "$folder/lines" all compare calls "$answers" ||
-        fails 'the library answers otherwise than the second reader'
+    for set in all more; do
+        $RUN "$folder/lines" "$set" calls | $RUN "$folder/lines" "$set" compare calls "$answers" ||
+            fails 'the library answers otherwise than the second reader'
+    done
 
     # what no second reader says: whole objects of JSON, and changes
     # holds NAME SET PROGRAM WORD..: a program's answers, whole
@@ -122,12 +124,17 @@ if [ -e tests/second ] && [ -z "${TESTS:-}" ]; then
             fails "$what: it answers otherwise than stored"
     }
     $RUN "$folder/lines" news >"$folder/news"
-    holds linkshow-whole all out/linkshow
-    holds linkshow-whole-lenient all out/linkshow --lenient --kernel 6.12.0
+    $RUN "$folder/lines" changes >"$folder/changes"
+    for set in all more; do
+        holds linkshow-whole "$set" out/linkshow
+        holds linkshow-whole-lenient "$set" out/linkshow --lenient --kernel 6.12.0
+        holds held "$set" "$folder/lines" "$set" held
+    done
     holds linkdiff news out/linkdiff
     holds linkdiff-counters news out/linkdiff --counters --lenient
     holds linkdiff-changes news out/linkdiff --changes-only
-    holds held all "$folder/lines" all held
+    holds linkdiff-more changes out/linkdiff
+    holds linkdiff-more-counters changes out/linkdiff --counters --lenient
     # streams of hosts that come and go, in dumps that are whole or cut
     if [ -e out/linkdiff ]; then
         RUN=$RUN sh tests/second/streams.sh out/linkdiff | cmp - tests/second/told.txt ||

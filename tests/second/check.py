@@ -25,6 +25,7 @@ KEYS = {"wrong-length": ("got", "want"), "too-short": ("got", "need"), "frame-sh
         "frame-over": ("length", "left"), "frame-under": ("length",), "not-utf8": (), "empty-list": ()}
 CODES = {"too-short": -1, "frame-short": -2, "frame-over": -3, "frame-under": -4, "empty-list": -5, "wrong-length": -6,
          "not-utf8": -7, "unfit": -16, "empty-ports": -17}
+SETS = "all", "digits", "more"
 ORDER = "got", "want", "need", "left", "length", "offset"
 
 
@@ -296,11 +297,11 @@ def report(total, kinds, reached):
 def store(given):
     """The sums of what has to be answered, as lines.c makes them of what is answered."""
     program = given.where[1]
-    for name in ("all", "digits"):
+    for name in SETS:
         sums = collections.defaultdict(lambda: [0, 0])
         lines = subprocess.Popen([program, name], stdout=subprocess.PIPE).stdout
         places = subprocess.Popen([program, name, "places"], stdout=subprocess.PIPE).stdout
-        which = [it for it in given.only.split(",") if it != "linkshow-lenient" and (name == "all" or it != "calls")]
+        which = [it for it in given.only.split(",") if it != "linkshow-lenient" and (name != "digits" or it != "calls")]
         with multiprocessing.get_context("fork").Pool(given.jobs) as pool:
             work = ((which, batch) for batch, _ in batches(lines, None))
             for found in pool.imap(said_by, work):

@@ -8,8 +8,9 @@ programs=$1 library=${2:-}
 folder=$(mktemp -d)
 trap 'rm -rf "$folder"' EXIT
 "${CC:-cc}" -std=gnu11 -O2 -Iinclude -o "$folder/lines" tests/second/lines.c "${library:--DLINES_ALONE}"
-"$folder/lines" all >"$folder/all"
-"$folder/lines" news >"$folder/news"
+for set in all news more changes; do
+    "$folder/lines" "$set" >"$folder/$set"
+done
 
 # sums NAME SET PROGRAM WORD..
 sums() {
@@ -22,4 +23,10 @@ sums linkshow-whole-lenient all "$programs/linkshow" --lenient --kernel 6.12.0
 sums linkdiff news "$programs/linkdiff"
 sums linkdiff-counters news "$programs/linkdiff" --counters --lenient
 sums linkdiff-changes news "$programs/linkdiff" --changes-only
-[ -z "$library" ] || sums held all "$folder/lines" all held
+sums linkshow-whole more "$programs/linkshow"
+sums linkshow-whole-lenient more "$programs/linkshow" --lenient --kernel 6.12.0
+sums linkdiff-more changes "$programs/linkdiff"
+sums linkdiff-more-counters changes "$programs/linkdiff" --counters --lenient
+for set in all more; do
+    [ -z "$library" ] || sums held "$set" "$folder/lines" "$set" held
+done

@@ -11,10 +11,11 @@
  * The sets: `all` has, for each place, every row at the edges of its sizes and values, with each flag, in front of and
  * behind another attribute, cut and followed by what is no attribute; every pair of two rows; every number below 80;
  * and every beginning that is no attribute. `wide` has every pair of two rows with more payloads of each, ten times as
- * many. `digits` has lines that are not all hexadecimal digits. `news` has one of five of `all` as lines for linkdiff,
- * of two interfaces and a host for each place, with ends of interfaces, dumps and losses among them. The places and
- * their rows are read of the file that PLACES names, tests/second/places.txt, which check.py makes of the tables in
- * crates/.
+ * many. `digits` has lines that are not all hexadecimal digits. `more` has each row and each other number behind two
+ * of the first row, each row with each length and padding that is not zero, and texts and events that are long. `news`
+ * has one of five of `all` as lines for linkdiff, of two interfaces and a host for each place, with ends of interfaces,
+ * dumps and losses among them, and `changes` has all of `more` as such lines. The places and their rows are read of the
+ * file that PLACES names, tests/second/places.txt, which check.py makes of the tables in crates/.
  *
  * With -DLINES_ALONE it is built without the library, and has no calls. A file of answers has for WHAT, each place and
  * each kind of answer their count and the CRC-32 of all of them.
@@ -266,10 +267,11 @@ static const struct edges *edges(struct row row) {
 /* What becomes of a line: its place, and its bytes, or its text where it is none of bytes. */
 static void (*take)(size_t at, const uint8_t *line, size_t len, bool is_text);
 static size_t here;
+static size_t alone;  /* the place that all lines of a set are told of, if they have one */
 static uint8_t message[2 * ROOM];
 
 static void tell(const uint8_t *bytes, size_t len) {
-    take(here, bytes, len, false);
+    take(alone ? alone : here, bytes, len, false);
 }
 
 /* A message of the place's family and, behind its header, these bytes within the attributes that lead there, and the
@@ -522,13 +524,18 @@ static void tell_large(void) {
     }
 }
 
+/* Whether no place before this one has its table. */
+static bool is_first(void) {
+    size_t earlier = 0;
+    while (place[earlier].table != place[here].table)
+        earlier++;
+    return earlier == here;
+}
+
 /* Each row of each list in another, so often that as many bytes are written as just fit, or four more. */
 static void tell_full(void) {
     static uint8_t list[2 * ROOM];
-    for (size_t earlier = 0; earlier < here; earlier++)
-        if (place[earlier].table == place[here].table)
-            return;
-    for (size_t i = 0; i < table[place[here].table].rows && place[here].deep; i++) {
+    for (size_t i = 0; i < table[place[here].table].rows && place[here].deep && is_first(); i++) {
         struct row row = table[place[here].table].row[i];
         if (row.form == 'l' || row.form == 'k')
             continue;
@@ -546,6 +553,93 @@ static void tell_full(void) {
                     tell_in(list, len, "", 0);
             }
     }
+}
+
+/* What stands behind two of the first row: each number, also in front of one of that row that is refused, what is too
+ * short, and each row with its first payloads; and what no table has in front of them, or empty in front of each. */
+static void tell_behind_two(void) {
+    const struct row *row = table[place[here].table].row, *end = row + table[place[here].table].rows;
+    struct bytes other = pattern(4);
+    size_t len = 0;
+    if (row == end)
+        return;
+    for (int i = 0; i < 2; i++)
+        len += put(built + len, row->number, good(*row).at, good(*row).len, 0);
+    for (unsigned number = 0; number < 260; number += number == 80 ? 160 : 1) {
+        size_t two = len + put(built + len, number, other.at, other.len, 0);
+        tell_in(built, two, "", 0);
+        tell_in(built, two + put(built + two, row->number, edges(*row)->it[1].at, edges(*row)->it[1].len, 0), "", 0);
+    }
+    for (uint8_t n = 0; n < 4; n++)
+        tell_in(built, len, (const char[]){(char)n, 0, 99, 0}, 4);
+    memmove(built + 8, built, len);
+    put(built, 79, other.at, other.len, 0);
+    tell_in(built, 8 + len, "", 0);
+    memmove(built, built + 8, len);
+    for (const struct row *it = row; it < end; it++)
+        for (size_t k = 0; k < 8 && k < edges(*it)->count; k++) {
+            struct bytes payload = edges(*it)->it[k];
+            tell_in(built, len + put(built + len, it->number, payload.at, payload.len, 0), "", 0);
+        }
+    other.len = 0;
+    for (; row < end; row++)
+        tell_two((struct row){79, 'b', 0}, other, *row, good(*row));
+    free(other.at);
+}
+
+/* Each row with each length up to eight more than it has, and padding that is not zero, in front of another. */
+static void tell_lengths(void) {
+    const struct row *row = table[place[here].table].row, *end = row + table[place[here].table].rows;
+    for (const struct row *it = row; it < end; it++)
+        for (size_t n = 0; n < it->of + 9 && it->form != 'l'; n++) {
+            struct bytes payload = pattern(n);
+            size_t len = put(built, it->number, payload.at, n, 0xff);
+            tell_in(built, len + put(built + len, row->number, good(*row).at, good(*row).len, 0), "", 0);
+            free(payload.at);
+        }
+}
+
+/* Texts of bytes and characters that JSON spells otherwise, and of others, in no order. */
+static void tell_mixed(void) {
+    static const char *const parts[] = {
+        "a", "b", "c", "0123456789abcdef", "\"", "\\", "\x1a", "\x1f", "\x7f", "\n", "\t", "\xc2\x85", "\xc2\x8a",
+        "\xc2\x9a", "\xc2\xa0", "\xc2\xad", "\xc3\xa9", "\xd8\x9c", "\xe2\x80\x8e", "\xe2\x80\xa8", "\xe2\x80\xaa",
+        "\xe2\x80\xae", "\xe2\x81\xa6", "\xe2\x82\xac", "\xef\xbb\xbf", "\xed\x9f\xbf", "\xf0\x9f\x98\x80",
+        "\xf3\xa0\x81\xa1"};
+    static char text[2048];
+    uint32_t state = 7;
+    for (size_t i = 0; i < 4000; i++) {
+        text[0] = 0;
+        for (size_t n = 1 + i % 61; n-- > 0;) {
+            state = state * 1103515245 + 12345;
+            size_t at = state >> 16;
+            strcat(text, parts[i % 3 && at % 4 ? at / 4 % 4 : at / 4 % (sizeof parts / sizeof *parts)]);
+        }
+        tell_of(0, built, put(built, i % 2 ? 20 : 3, (const uint8_t *)text, strlen(text), 0));
+    }
+}
+
+/* Texts with a byte that JSON spells otherwise at each place, and events that are longer than a byte says. */
+static void tell_long(void) {
+    static const uint8_t bytes[] = {'"', '\\', 0x1a, 0x1f, 0x7f, '\n'};
+    static const size_t sizes[] = {3, 7, 8, 12, 16, 17, 31, 33, 47, 64, 67, 131};
+    static uint8_t body[1024];
+    for (size_t k = 0; k < sizeof sizes / sizeof *sizes; k++)
+        for (size_t at = 0; at < sizes[k]; at++)
+            for (size_t i = 0; i < sizeof bytes; i++) {
+                memset(body, 'a', sizes[k]);
+                body[at] = bytes[i];
+                tell_of(0, built, put(built, 3, body, sizes[k], 0));
+            }
+    for (size_t n = 240; n < 530; n += n == 270 ? 230 : 1)
+        for (int over = -1; over < 2; over++) {
+            struct bytes event = pattern(16 + n);
+            size_t said = n + (size_t)over;
+            memcpy(event.at, "\xff\xfe\7\x8c", 4);
+            event.at[8] = (uint8_t)said, event.at[9] = (uint8_t)(said >> 8);
+            tell_of(0, built, put(built, 11, event.at, event.len, 0));
+            free(event.at);
+        }
 }
 
 static void tell_text(const uint8_t *text, size_t len) {
@@ -587,6 +681,19 @@ static void tell_all(const char *set) {
     if (strcmp(set, "digits") == 0) {
         here = places + 3;
         tell_digits();
+        return;
+    }
+    if (strcmp(set, "more") == 0) {
+        alone = places + 5;
+        for (here = 0; here < places; here++) {
+            tell_behind_two();
+            if (is_first())
+                tell_lengths();
+        }
+        tell_long();
+        tell_mixed();
+        for (size_t n = 0; n < 20; n++)
+            tell(counted, n);
         return;
     }
     if (!is_wide && strcmp(set, "all") != 0)
@@ -633,12 +740,12 @@ static void print_line(size_t at, const uint8_t *line, size_t len, bool is_text)
     putchar('\n');
 }
 
-/* Of `all` one line in so many, and none that is long: for what tells of two messages, and takes longer. */
-enum { ONE_OF = 5, LONG = 1000 };
+/* Of `all` one line in five, and none that is long: for what tells of two messages, and takes longer. */
+enum { LONG = 1000 };
 
 static bool is_left_out(size_t len) {
     static size_t count;
-    return len < 16 || len > LONG || count++ % ONE_OF;
+    return len > LONG || (!alone && (len < 16 || count++ % 5));
 }
 
 static void print_news(size_t at, const uint8_t *line, size_t len, bool is_text) {
@@ -657,6 +764,23 @@ static void print_news(size_t at, const uint8_t *line, size_t len, bool is_text)
     printf("host=%zu%s%s %s\n", at, count % 31 == 30 ? " type=del" : "", count % 101 == 0 ? " kernel=6.1.0" : "",
            hex(made, len));
     count++;
+}
+
+/* Lines of a host with many interfaces, which come, change and go in no order, in dumps now and then. */
+static void print_many(void) {
+    static const char *const families[] = {"00", "07", "0a"};
+    uint32_t state = 7;
+    for (unsigned i = 0; i < 6000; i++) {
+        state = state * 1103515245 + 12345;
+        unsigned at = state >> 16, index = at % (i < 3000 ? 300 : 40);
+        if (i % 1000 == 900)
+            printf("host=many type=begin seq=%u port=7\n", i / 1000);
+        printf("host=many type=%s %s000100%02x%02x00000100000000000000%s\n",
+               i % 1000 < 900 && at / 512 % 3 == 0 ? "del" : "new", families[at / 4096 % 3], index % 256, index / 256,
+               at / 2048 % 2 ? "" : "0600030061000000");
+        if (i % 1000 == 999)
+            printf("host=many type=done seq=%u port=7 family=%u\n", i / 1000, i < 2000 ? 7 : i < 4000 ? 10 : 0);
+    }
 }
 
 static void print_place(size_t at, const uint8_t *line, size_t len, bool is_text) {
@@ -827,18 +951,19 @@ static void add_answer(size_t at, const uint8_t *line, size_t len, bool is_text)
 }
 
 /* Says where the sums are not those that a file has of WHAT, for the places of this set. */
-static int compare(const char *what, const char *name, bool is_digits) {
+static int compare(const char *what, const char *name, const char *set) {
     static bool seen[sizeof sum / sizeof *sum];
     char line[160], of[32], kind[24];
     unsigned long count, slips = 0, same = 0;
     size_t at;
     unsigned number;
     FILE *file = fopen(name, "r");
+    size_t own = strcmp(set, "digits") == 0 ? places + 3 : strcmp(set, "more") == 0 ? places + 5 : 0;
     if (!file)
         fail("no file of answers");
     while (fgets(line, sizeof line, file)) {
         if (sscanf(line, "%31s %zu %23s %lu %x", of, &at, kind, &count, &number) != 5 || strcmp(of, what) != 0 ||
-            (at == places + 3) != is_digits)
+            (own ? at != own : at == places + 3 || at == places + 5))
             continue;
         struct sum *found = NULL;
         for (size_t i = 0; i < sums; i++)
@@ -867,6 +992,7 @@ static int compare(const char *what, const char *name, bool is_digits) {
 
 int main(int count, char **words) {
     const char *set = count > 1 ? words[1] : "", *mode = count > 2 ? words[2] : "";
+    bool is_more = strcmp(set, "changes") == 0, is_news = is_more || strcmp(set, "news") == 0;
     read_places();
     if (strcmp(mode, "places") == 0)
         take = print_place;
@@ -877,7 +1003,7 @@ int main(int count, char **words) {
         take = print_held;
 #endif
     else
-        take = count > 3 ? add_answer : strcmp(set, "news") == 0 ? print_news : print_line;
+        take = count > 3 ? add_answer : is_news ? print_news : print_line;
     const char *what = count > 3 ? words[3] : "";
     is_json = strncmp(what, "linkdiff", 8) == 0 || strncmp(what, "linkshow-whole", 14) == 0;
     is_show = !is_json && strncmp(what, "linkshow", 8) == 0;
@@ -885,9 +1011,11 @@ int main(int count, char **words) {
     for (here = places + 4; strncmp(what, "linkdiff", 8) == 0 && !is_over;)
         add_answer(here, NULL, 0, false);
     if (!is_over)
-        tell_all(strcmp(set, "news") == 0 ? "all" : set);
+        tell_all(is_more ? "more" : is_news ? "all" : set);
+    if (is_more && count == 2)
+        print_many();
     if (count > 4 && strcmp(mode, "compare") == 0)
-        return compare(words[3], words[4], strcmp(set, "digits") == 0);
+        return compare(words[3], words[4], set);
     for (size_t i = 0; i < sums; i++)
         printf("%s %zu %s %lu %08x\n", words[3], sum[i].place, sum[i].kind, sum[i].count, (unsigned)sum[i].crc);
     return 0;
