@@ -570,8 +570,10 @@ static void tell_behind_two(void) {
         tell_in(built, two, "", 0);
         tell_in(built, two + put(built + two, row->number, edges(*row)->it[1].at, edges(*row)->it[1].len, 0), "", 0);
     }
-    for (uint8_t n = 0; n < 4; n++)
-        tell_in(built, len, (const char[]){(char)n, 0, 99, 0}, 4);
+    for (uint8_t n = 0; n < 4; n++) {
+        memcpy(built + len, (const uint8_t[]){n, 0, 99, 0}, 4);
+        tell_in(built, len + 4, "", 0);
+    }
     memmove(built + 8, built, len);
     put(built, 79, other.at, other.len, 0);
     tell_in(built, 8 + len, "", 0);
