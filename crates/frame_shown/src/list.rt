@@ -405,7 +405,7 @@ fn show_object<D: Depth>(
 }
 
 /// Adds the attributes of a list that have a name as one list, and returns whether one of the others is kept as it is.
-fn show_one_list<D: Depth>(
+pub fn show_one_list<D: Depth>(
     cx: &Around<'_>,
     page: &mut Page,
     name: &str,

@@ -31,7 +31,7 @@ const HEADER_LEN: usize = 16;
 type Whole = Above<Above<Above<Above<Above<Bottom>>>>>;
 
 /// Adds the flags of a link.
-fn show_link_flags(page: &mut Page, bits: u64) -> Result<(), AllocError>
+pub fn show_link_flags(page: &mut Page, bits: u64) -> Result<(), AllocError>
     ensures { OnOk result (page.new
         ≡ with_value (codes "ifi-flags") (flags_of link_flag_names bits) page.old) }
 {
@@ -65,7 +65,7 @@ pub(crate) fn show_header(page: &mut Page, bytes: &[u8]) -> Result<(), AllocErro
 }
 
 /// How many bytes the first address has; 0 where there is none.
-fn address_len(bytes: &[u8]) -> usize
+pub fn address_len(bytes: &[u8]) -> usize
     ensures { result ≡ address_len (frames_in (items bytes.now)) }
 {
     for item in NlasIterator::new(bytes) {
@@ -106,7 +106,7 @@ pub(crate) fn show_attributes(
 }
 
 /// The bytes behind the header.
-pub(crate) fn rest_of(bytes: &[u8]) -> &[u8]
+pub fn rest_of(bytes: &[u8]) -> &[u8]
     ensures { result.now ≡ drop 16 bytes.now }
 {
     &bytes[HEADER_LEN.min(bytes.len())..]

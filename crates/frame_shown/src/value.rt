@@ -73,7 +73,12 @@ fn show_plain(page: &mut Page, name: &str, plain: Plain, value: Value<'_>) -> Re
 }
 
 /// Adds the value that bytes spell.
-fn show_spelled(page: &mut Page, name: &str, plain: Plain, bytes: &[u8]) -> Result<(), AllocError>
+pub fn show_spelled(
+    page: &mut Page,
+    name: &str,
+    plain: Plain,
+    bytes: &[u8],
+) -> Result<(), AllocError>
     ensures { OnOk result (page.new ≡ with_value name.now (spelled plain bytes.now) page.old) }
 {
     show_plain(page, name, plain, read(Style::Plain(plain), bytes))
@@ -94,7 +99,7 @@ fn show_parts(page: &mut Page, parts: &[Member], bytes: &[u8]) -> Result<(), All
 }
 
 /// How many values of a size there are among so many bytes; none where it is 0.
-fn count(size: usize, len: usize) -> usize
+pub fn count(size: usize, len: usize) -> usize
     ensures { result ≡ count_of size len }
 {
     match size {
@@ -199,7 +204,7 @@ fn plain_in(style: Style) -> Plain
 
 /// The number of this size at a place, with zeros past the end.
 #[inline(always)]
-fn number_at(size: Size, bytes: &[u8], place: usize) -> u64
+pub fn number_at(size: Size, bytes: &[u8], place: usize) -> u64
     requires { place < 2 ^ 32 }
     ensures { result ≡ number_at (width size) bytes.now place }
 {
@@ -260,7 +265,7 @@ fn show_address(
 }
 
 /// Adds a field of a record.
-fn show_field(
+pub fn show_field(
     cx: &Around<'_>,
     page: &mut Page,
     name: &str,
@@ -300,7 +305,7 @@ fn show_fields(
 }
 
 /// The fields of a record.
-fn parts_of(kind: Record) -> &'static [Part]
+pub fn parts_of(kind: Record) -> &'static [Part]
     ensures fields { map (λ part. (part.0.now, (part.1, part.2))) result.now ≡ fields_in kind }
     ensures keys { AreKeys (map (λ part. part.0.now) result.now) }
 {
@@ -384,7 +389,7 @@ fn show_bare_list(page: &mut Page, name: &str, bytes: &[u8]) -> Result<(), Alloc
 }
 
 /// The place of a counter in this order.
-fn counter_place(is_since: bool, before: u8, since: u8) -> usize
+pub fn counter_place(is_since: bool, before: u8, since: u8) -> usize
     ensures place { result ≡ counter_place is_since before since }
     ensures small { result < 256 }
 {
@@ -634,7 +639,7 @@ fn first_text(bytes: &[u8], number: u16) -> Option<&str>
 }
 
 /// How a link's kinds are shown.
-fn info_of(bytes: &[u8]) -> List
+pub fn info_of(bytes: &[u8]) -> List
     ensures { result ≡ info_of bytes.now }
 {
     List::Info(
@@ -686,7 +691,7 @@ fn event_part<'a>(command: u16, elements: &'a [u8], payload: &'a [u8]) -> (&'sta
 }
 
 /// What an event holds: the information elements of an association, or any other payload.
-fn event_in(payload: &[u8]) -> (&'static str, &[u8])
+pub fn event_in(payload: &[u8]) -> (&'static str, &[u8])
     ensures { (result.0.now, result.1.now) ≡ event_in payload.now }
 {
     let elements = elements_in(behind_header(payload));
