@@ -86,7 +86,7 @@ int main(int count, char **words) {
 
 
 class Run(NamedTuple):
-    """Words of the program, the file it reads, the file it writes to if it is not looked at, and how much that takes."""
+    """Words of the program, the file it reads, the one it writes to if it is not looked at, and how much that takes."""
 
     words: tuple = ()
     reads: str = "/dev/null"

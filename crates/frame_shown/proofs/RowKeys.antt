@@ -1,5 +1,6 @@
 -- The names of this crate's rows are keys.
-use Rattle.std.proofs.Common.{◌≡◌, ℕ, zero, suc, Bool, true, false, List, [], ◌∷◌, refl, map, ◌==◌, ◌&&◌, get_or, subst, sym}
+use Rattle.std.proofs.Common.{◌≡◌, ℕ, zero, suc, Bool, true, false, List, [], ◌∷◌, refl, map, ◌==◌, ◌&&◌, get_or}
+use Rattle.std.proofs.Common.{subst, sym}
 use Rattle.std.specs.Prelude.{Option, None, Some, cond, nat_lt, codes}
 use Rattle.std.specs.List.{find}
 use Rattle.shown.specs.Keys.{IsKey, AreKeys, is_key, are_keys}

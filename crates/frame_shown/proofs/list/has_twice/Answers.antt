@@ -22,7 +22,8 @@ loop-item-preserved-in-Some-small_number c =
     let here : c.loop-item.item-iterator ≡ Ok c.in-Ok.frame ∷ c.next.new.self = rw c.in-Ok.is at
     c.in-Some.ensures.steps in
     let m = c.in-Some-small_number.number in
-    let is : number_in (by_number c.in-Ok.frame) ≡ Some m = sym c.small_number.ensures.value ∙ c.in-Some-small_number.is in
+    let is : number_in (by_number c.in-Ok.frame) ≡ Some m =
+    sym c.small_number.ensures.value ∙ c.in-Some-small_number.is in
     record {
       size = length-set c.loop-item.seen m _ ∙ c.loop-item.invariant.size;
       left = first_of_its c.in-Ok.frame c.loop-item.item-iterator c.next.new.self here c.loop-item.seen _ m
