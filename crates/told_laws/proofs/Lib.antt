@@ -1,2 +1,5 @@
 pub mod Alike
 pub mod Apart
+pub mod Entries
+pub mod Turns
+pub mod Orderly

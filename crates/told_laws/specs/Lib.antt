@@ -1,1 +1,3 @@
 pub mod Hosts
+pub mod Entries
+pub mod Turns

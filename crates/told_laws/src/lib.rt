@@ -4,8 +4,15 @@
 #![tactic(auto)]
 
 ghost use Rattle.told_laws.specs.Hosts.{Apart};
+ghost use Rattle.told_laws.specs.Turns.{Orderly};
 
 /// What the lines of one host tell is what they tell alone, whatever lines of other hosts stand between them.
 pub fn law_apart()
     ensures { Apart }
+{}
+
+/// Of one interface lines `new` and `gone` take turns, and lines `changed` stand between them. A message with the
+/// encoding that is there tells nothing, one with another encoding one line `changed`, or lines `gone` and one `new`.
+pub fn law_orderly()
+    ensures { Orderly }
 {}
