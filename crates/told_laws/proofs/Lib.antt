@@ -3,3 +3,4 @@ pub mod Apart
 pub mod Entries
 pub mod Turns
 pub mod Orderly
+pub mod Fewer

@@ -1,3 +1,4 @@
 pub mod Hosts
 pub mod Entries
 pub mod Turns
+pub mod Fewer

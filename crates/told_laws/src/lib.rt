@@ -3,6 +3,7 @@
 //! `specs/` states them over the definitions that the contract of a run names, in `message_diff`.
 #![tactic(auto)]
 
+ghost use Rattle.told_laws.specs.Fewer.{FewerLines};
 ghost use Rattle.told_laws.specs.Hosts.{Apart};
 ghost use Rattle.told_laws.specs.Turns.{Orderly};
 
@@ -15,4 +16,9 @@ pub fn law_apart()
 /// encoding that is there tells nothing, one with another encoding one line `changed`, or lines `gone` and one `new`.
 pub fn law_orderly()
     ensures { Orderly }
+{}
+
+/// Where only changes are told, the same lines are told in the same order, without some lines `new`.
+pub fn law_fewer_lines()
+    ensures { FewerLines }
 {}
