@@ -4,3 +4,4 @@ pub mod Entries
 pub mod Turns
 pub mod Orderly
 pub mod Fewer
+pub mod Leading

@@ -2,3 +2,4 @@ pub mod Hosts
 pub mod Entries
 pub mod Turns
 pub mod Fewer
+pub mod Leading

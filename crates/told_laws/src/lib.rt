@@ -5,6 +5,7 @@
 
 ghost use Rattle.told_laws.specs.Fewer.{FewerLines};
 ghost use Rattle.told_laws.specs.Hosts.{Apart};
+ghost use Rattle.told_laws.specs.Leading.{LeadThere};
 ghost use Rattle.told_laws.specs.Turns.{Orderly};
 
 /// What the lines of one host tell is what they tell alone, whatever lines of other hosts stand between them.
@@ -21,4 +22,10 @@ pub fn law_orderly()
 /// Where only changes are told, the same lines are told in the same order, without some lines `new`.
 pub fn law_fewer_lines()
     ensures { FewerLines }
+{}
+
+/// Where what is told of two messages is all that differs between their leaves, changes lead from the leaves of the
+/// first message to those of the last one, counters aside, and each old value is there.
+pub fn law_lead_there()
+    ensures { LeadThere }
 {}
