@@ -5,3 +5,6 @@ pub mod Turns
 pub mod Orderly
 pub mod Fewer
 pub mod Leading
+pub mod Views
+pub mod Dumps
+pub mod TwoWays

@@ -3,3 +3,4 @@ pub mod Entries
 pub mod Turns
 pub mod Fewer
 pub mod Leading
+pub mod TwoWays

@@ -7,6 +7,7 @@ ghost use Rattle.told_laws.specs.Fewer.{FewerLines};
 ghost use Rattle.told_laws.specs.Hosts.{Apart};
 ghost use Rattle.told_laws.specs.Leading.{LeadThere};
 ghost use Rattle.told_laws.specs.Turns.{Orderly};
+ghost use Rattle.told_laws.specs.TwoWays.{TwoWays};
 
 /// What the lines of one host tell is what they tell alone, whatever lines of other hosts stand between them.
 pub fn law_apart()
@@ -28,4 +29,10 @@ pub fn law_fewer_lines()
 /// first message to those of the last one, counters aside, and each old value is there.
 pub fn law_lead_there()
     ensures { LeadThere }
+{}
+
+/// Two dumps of a host tell as files what they tell one after the other where only changes are told, of each interface
+/// that is not of family 7 or 10, and that the first of them does not refuse.
+pub fn law_two_ways()
+    ensures { TwoWays }
 {}
