@@ -89,14 +89,15 @@ answers() {
 
 # tests_c TARGET TRIPLET COMMAND..: the tests of tests/c on the library of rust/capi
 tests_c() {
-    local test library=$CARGO_TARGET_DIR/$1/debug/liblinkwire.a
+    local test words laws=$((count / 10)) library=$CARGO_TARGET_DIR/$1/debug/liblinkwire.a
     (cd "$top/rust/capi" && runs cargo build --locked --target "$1" </dev/null)
     for test in "$top"/tests/c/*.c; do
-        case ${test##*/} in laws.c) continue ;; esac
-        runs "$2-gcc" -std=c11 -O1 -Wall -Wextra -I"$top/include" -o "$folder/c" "$test" "$library" -lpthread -ldl -lm
-        runs "${@:3}" "$folder/c" </dev/null
+        words=()
+        [ "${test##*/}" != laws.c ] || words=("$laws")
+        runs "$2-gcc" -std=gnu11 -O1 -Wall -Wextra -I"$top/include" -o "$folder/c" "$test" "$library" -lpthread -ldl -lm
+        runs "${@:3}" "$folder/c" "${words[@]}" </dev/null
     done
-    echo "$self: $name: tests/c on the library of rust/capi: ok"
+    echo "$self: $name: tests/c on the library of rust/capi, its laws on $laws messages: ok"
 }
 
 # tests NAME TARGET TRIPLET QEMU: one processor

@@ -2,8 +2,9 @@
 # Tests the crate in rust/: its tests and those in its docs, with overflow checks, and the program in docs/USING.md,
 # taken out of it, whose output is compared. The example 'lines' has to answer the stored input of the program linkwire
 # as that does, and, where that is built, so many lines that are made and damaged, byte for byte, and these as linkstate
-# does by the state encoding; what the crate's calls say of each of these lines has to agree: rust_tests.sh [LINES].
-# Where cargo is not there it says 'skipped'. It needs no registry.
+# does by the state encoding; what the crate's calls say of each of these lines has to agree. The library of rust/capi
+# has to have the names of the library for C, and to pass tests/c: rust_tests.sh [LINES]. Where cargo is not there it
+# says 'skipped'. It needs no registry.
 self=rust
 . "$(dirname "$0")/common.sh"
 count=${1:-100000}
@@ -34,6 +35,20 @@ else
 fi
 
 "$top/scripts/rust_netlink.sh"
+
+# the library for C by cargo, as processors.sh builds it for others
+(cd capi && runs cargo build --locked)
+capi=$CARGO_TARGET_DIR/debug/liblinkwire
+[ "$(nm -D --defined-only --format=posix "$capi.so" | sed -n 's/^\(linkwire_[a-z_]*\) .*/\1/p' | sort)" = \
+    "$(sed -n 's/^ \(linkwire_.*\)@Base .*/\1/p' "$top/debian/liblinkwire0.symbols" | sort)" ] ||
+    fails 'the library of rust/capi has other names than debian/liblinkwire0.symbols'
+for test in "$top"/tests/c/*.c; do
+    words=()
+    [ "${test##*/}" != laws.c ] || words=(2000)
+    runs "${CC:-cc}" -std=gnu11 -O1 -I"$top/include" -o "$folder/c" "$test" "$capi.a" -lpthread -ldl -lm
+    runs "$folder/c" "${words[@]}" </dev/null
+done
+echo 'rust: tests/c on the library of rust/capi, and 2000 messages of its laws: ok'
 
 # block LANGUAGE: the first of that language after the page's line '<!-- runs: rust -->'
 block() {

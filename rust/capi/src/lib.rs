@@ -185,6 +185,16 @@ pub unsafe extern "C" fn linkwire_next(list: *const u8, len: usize, at: *mut usi
     answer
 }
 
+/// `linkwire_pick` of linkwire.h.
+///
+/// # Safety
+///
+/// As linkwire.h has it.
+#[no_mangle]
+pub unsafe extern "C" fn linkwire_pick(list: *const u8, len: usize, found: *mut Attribute, count: usize) -> i32 {
+    export::linkwire_pick(from_raw_parts(list, len), from_raw_parts_mut(found, count))
+}
+
 /// `linkwire_put` of linkwire.h.
 ///
 /// # Safety
