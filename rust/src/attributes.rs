@@ -57,6 +57,7 @@ impl<'a> Attributes<'a> {
 impl<'a> Iterator for Attributes<'a> {
     type Item = Result<Attribute<'a>, DecodeError>;
 
+    #[inline]
     fn next(&mut self) -> Option<Self::Item> {
         if let Some(fault) = self.fault.take() {
             return Some(Err(fault));
@@ -110,6 +111,7 @@ impl<'a> Attribute<'a> {
     ///
     /// [`Attribute`] has an example.
     #[must_use]
+    #[inline]
     pub fn kind(&self) -> u16 {
         self.frame.kind_with_flags()
     }
@@ -118,6 +120,7 @@ impl<'a> Attribute<'a> {
     ///
     /// [`Attribute`] has an example.
     #[must_use]
+    #[inline]
     pub fn number(&self) -> u16 {
         self.frame.kind()
     }
@@ -126,6 +129,7 @@ impl<'a> Attribute<'a> {
     ///
     /// [`Attribute`] has an example.
     #[must_use]
+    #[inline]
     pub fn payload(&self) -> &'a [u8] {
         self.frame.value()
     }
