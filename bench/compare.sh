@@ -85,6 +85,9 @@ if [ -n "$debian" ] && command -v cargo >/dev/null; then
     # a program of both, for typed data: ratios by turns
     package typed_data $'[[bin]]\nname = "typed_data"' main.rs '[dependencies]' "$own" "$crate" \
         'netlink-packet-utils = "0.5"' 'netlink-packet-core = "0.4"' "${lto[@]}"
+    # and one for views
+    package views $'[[bin]]\nname = "views"' main.rs '[dependencies]' "$own" "$crate" \
+        'netlink-packet-core = "0.4"' "${lto[@]}"
 else
     echo 'bench: librust-netlink-packet-route-dev or cargo is not installed: skipped' >&2
 fi
@@ -119,5 +122,9 @@ if [ -n "$debian" ] && [ -x "$folder/typed_data/target/release/typed_data" ]; th
     echo
     echo "typed data: the crate in rust/, netlink-packet-route $version, and the ratio"
     "${pin[@]}" "$folder/typed_data/target/release/typed_data"
+    echo
+    echo "views, and what is beside them"
+    grep '^dump ' "$here/messages.txt" >"$folder/dumps"
+    "${pin[@]}" "$folder/views/target/release/views" "$folder/dumps"
 fi
 "$folder/peak" "$folder/growing"
