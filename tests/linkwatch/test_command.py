@@ -73,10 +73,11 @@ class Command(unittest.TestCase):
                 for file, content in ("OLD", old), ("NEW", new):
                     with open(f"{folder}/{file}", "w", encoding="utf-8") as it:
                         it.write("\n".join(content) + "\n")
-                ran = subprocess.run([*COMMAND, "--diff", "OLD", "NEW"], cwd=folder, capture_output=True, text=True,
-                                     check=False, timeout=PATIENCE, env=ENVIRONMENT)
-            self.assertEqual((ran.stdout.splitlines(), ran.stderr, ran.returncode),
-                             (lines, said and f"linkwatch: {said}\n", wanted))
+                for more in [], ["--settle", "9", "--time", "utc"]:  # which change nothing
+                    ran = subprocess.run([*COMMAND, "--diff", "OLD", "NEW", *more], cwd=folder, capture_output=True,
+                                         text=True, check=False, timeout=PATIENCE, env=ENVIRONMENT)
+                    self.assertEqual((ran.stdout.splitlines(), ran.stderr, ran.returncode),
+                                     (lines, said and f"linkwatch: {said}\n", wanted))
 
     def test_once(self):
         rows = linkwatch(["--once"], [])[0].decode().splitlines()
