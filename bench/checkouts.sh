@@ -34,7 +34,7 @@ lays_over() {
 builds() {
     mkdir -p "$1/out"
     make -s -C "$1" build
-    (cd "$1" && scripts/progress.sh link_bench out/log rt run -- wire 1 1)
+    (cd "$1" && "$(find scripts -name progress.sh)" link_bench out/log rt run -- wire 1 1)
 }
 
 checks_out "$old" "$2-old"
