@@ -7,7 +7,7 @@ cd "$(dirname "$0")/../.."
 for program in "$@"; do
     while IFS= read -r line; do
         case $line in "\$ $program "*) ;; *) continue ;; esac
-        echo "$line"
+        printf '%s\n' "$line"
         status=0
         # shellcheck disable=SC2086
         ${RUN:-} "out/$program" ${line#*"$program "} <tests 2>&1 || status=$?
