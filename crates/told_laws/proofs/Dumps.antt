@@ -191,7 +191,8 @@ module _ (q : Key) (at : ℕ) (v : View) (x : Item) (ms : List Item) (is : is_me
             ∙ ap (λ o. record { of = put (suc at) o v.of; run = blind; whole = v.whole }) m;
         tell =
             told_next
-            ∙ ap (λ o. told_of q (mine_one q x) v.of v.whole ++ told_of q o (put (suc at) (mine_one q x) v.of) v.whole) n
+            ∙ ap (λ o. told_of q (mine_one q x) v.of v.whole
+            ++ told_of q o (put (suc at) (mine_one q x) v.of) v.whole) n
             ∙ append-nil (told_of q (mine_one q x) v.of v.whole)
             ∙ ap (λ o. told_of q o v.of v.whole) m;
       }
@@ -499,8 +500,11 @@ module _ (q : Key) (at : ℕ) (v : View) (items : List Item) (d : IsDump items) 
         ∙ walk_both q (suc at) begun d.messages d.ends
         ∙ ap (λ w. walk q (end_at (suc at) d.messages) w d.ends) messages.to
         ∙ ends.to
-        ∙ ap (λ t. record { of = cond t None between.of; run = between.run; whole = v.whole || whole_at q (suc at) items d })
-        missed;
+        ∙ ap (λ t. record {
+          of = cond t None between.of;
+          run = between.run;
+          whole = v.whole || whole_at q (suc at) items d;
+        }) missed;
     tell =
         ap (λ xs. walk_entries q at v xs) d.are
         ∙ entries_both q (suc at) begun d.messages d.ends

@@ -9,8 +9,8 @@ use Rattle.message_diff.specs.declared.snapshot.Compared.TheVariants.{State, Mes
 use Rattle.message_diff.specs.Changed.{state_diff, told_diffs}
 use Rattle.message_diff.specs.Counted.{IsLeftBy, IsWithoutCounters}
 use Rattle.message_diff.specs.Differences.{Diff, Has, HasOneEach, Leaf, any_new, any_old, diffs, has_path, left_by}
-use Rattle.message_diff.specs.Differences.{left_of, less, may_be, new_diff, new_diffs, new_of, old_diff, old_diffs, old_of}
-use Rattle.message_diff.specs.Differences.{path_of, value_at}
+use Rattle.message_diff.specs.Differences.{left_of, less, may_be, new_diff, new_diffs, new_of, old_diff, old_diffs}
+use Rattle.message_diff.specs.Differences.{old_of, path_of, value_at}
 use Rattle.message_diff.specs.Known.{is_text}
 use Rattle.told_laws.specs.Leading.{Change, Counts, Follow, HaveOld, IsNoCounter, IsToldBetween, LeadThere, LeadsAt}
 use Rattle.told_laws.specs.Leading.{behind, behind_all}

@@ -8,3 +8,4 @@ pub mod Leading
 pub mod Views
 pub mod Dumps
 pub mod TwoWays
+pub mod Whole

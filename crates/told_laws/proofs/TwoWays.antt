@@ -145,10 +145,10 @@ module _ (by : Compared) (q : Key) (part : is_part q.family ≡ false) (olds new
         ++ news_entries q (gone_of ((known_of new).whole q.family) (miss true) (found old q) (found new q)))
         (or_part (are_two (found old q) (found new q))
         (are_two (found old (in_family 0 q)) (found new (in_family 0 q))))
-        ∙ ap (λ f. files_by by q ((known_of old).whole q.family) ((known_of new).whole q.family) (miss false) (miss true)
-        f (found new q)) old_found.1
-        ∙ ap (λ f. files_by by q ((known_of old).whole q.family) ((known_of new).whole q.family) (miss false) (miss true)
-        (as_found old_found.0 (mine q d.messages)) f) new_found.1
+        ∙ ap (λ f. files_by by q ((known_of old).whole q.family) ((known_of new).whole q.family) (miss false)
+        (miss true) f (found new q)) old_found.1
+        ∙ ap (λ f. files_by by q ((known_of old).whole q.family) ((known_of new).whole q.family) (miss false)
+        (miss true) (as_found old_found.0 (mine q d.messages)) f) new_found.1
         ∙ ap (λ w. files_by by q w ((known_of new).whole q.family) (miss false) (miss true)
         (as_found old_found.0 (mine q d.messages)) (as_found new_found.0 (mine q e.messages))) old_whole
         ∙ ap (λ w. files_by by q (whole_at q 1 olds d) w (miss false) (miss true)

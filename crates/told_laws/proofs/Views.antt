@@ -9,7 +9,8 @@ use Rattle.message_diff.specs.declared.snapshot.Compared.{Compared}
 use Rattle.message_diff.specs.Announced.{is_another, kind_in, kind_or}
 use Rattle.message_diff.specs.Shots.{Shot}
 use Rattle.message_diff.specs.Known.{Item, Picture, Seen, after, in_family, is_among, is_key, is_missed_by, is_part}
-use Rattle.message_diff.specs.Known.{is_run, is_since, is_text, kind_of, of_after, parts, reaches, run_after, shot_of, whole_after}
+use Rattle.message_diff.specs.Known.{is_run, is_since, is_text, kind_of, of_after, parts, reaches, run_after}
+use Rattle.message_diff.specs.Known.{shot_of, whole_after}
 use Rattle.message_diff.specs.Told.{is_told_gone, kept_of, own_shot}
 use Rattle.message_diff.proofs.Missed.{laws, same_key}
 use Rattle.told_laws.specs.Entries.{Entry, of_key}
@@ -71,8 +72,8 @@ own_last q (Some shot) o = cond (is_gone q o) (Some shot) None
 
 abbrev pub of_step : Key → ℕ → Item → View → Option Last
 of_step q at (Item.is key shot words) v =
-    cond (is_key key q) (Some (record { at = at; shot = Some shot; kind = kind_or (kind_in shot.text) (last_kind v.of) }))
-    v.of
+    cond (is_key key q)
+    (Some (record { at = at; shot = Some shot; kind = kind_or (kind_in shot.text) (last_kind v.of) })) v.of
 of_step q at (Item.refused key) v =
     cond (is_key key q) (Some (record { at = at; shot = last_shot v.of; kind = last_kind v.of })) v.of
 of_step q at (Item.went key shot) v = cond (is_key key q) None v.of
@@ -95,8 +96,8 @@ step q at x v = record { of = of_step q at x v; run = run_step at x v; whole = w
 abbrev pub message_entries : Key → Shot → Option Last → Bool → List Entry
 message_entries q shot o whole =
     cond (is_another (last_kind o) shot.text) (gone_entry q (last_shot o)) []
-    ++ new_entry (is_another (last_kind o) shot.text || whole) (kept_of (is_another (last_kind o) shot.text) (last_shot o))
-    q shot
+    ++ new_entry (is_another (last_kind o) shot.text || whole)
+    (kept_of (is_another (last_kind o) shot.text) (last_shot o)) q shot
 
 abbrev pub step_entries : Key → Item → View → List Entry
 step_entries q (Item.is key shot words) v = cond (is_key key q) (message_entries q shot v.of v.whole) []
@@ -205,7 +206,12 @@ module _ (by : Compared) (q : Key) (part : is_part q.family ≡ false) (p : Pict
 
   is_of : (at : ℕ) (key : Key) (shot : Shot) (words : Option (List ℕ)) (a t : Bool) → is_key key q ≡ t
       → last_in (cond t
-      (Some (record { at = at; shot = Some shot; kind = kind_or (kind_in shot.text) (kind_of (p.of key)); words = words }))
+      (Some (record {
+        at = at;
+        shot = Some shot;
+        kind = kind_or (kind_in shot.text) (kind_of (p.of key));
+        words = words;
+      }))
       (cond (a && (t || is_among (parts key) q)) None (p.of q)))
       ≡ cond t
       (Some (record { at = at; shot = Some shot; kind = kind_or (kind_in shot.text) (last_kind (last_in (p.of q))) }))
@@ -228,7 +234,8 @@ module _ (by : Compared) (q : Key) (part : is_part q.family ≡ false) (p : Pict
       (same_key key q h)
   refused_of at key words false h = refl
 
-  went_of : (key : Key) (t : Bool) → last_in (cond (t || is_among (parts key) q) None (p.of q)) ≡ cond t None (last_in (p.of q))
+  went_of : (key : Key) (t : Bool)
+      → last_in (cond (t || is_among (parts key) q) None (p.of q)) ≡ cond t None (last_in (p.of q))
   went_of key true = refl
   went_of key false = ap (λ u. last_in (cond u None (p.of q))) (none_part key)
 

@@ -4,3 +4,4 @@ pub mod Turns
 pub mod Fewer
 pub mod Leading
 pub mod TwoWays
+pub mod Whole

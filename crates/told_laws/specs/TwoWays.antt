@@ -6,7 +6,8 @@ use Rattle.message_diff.specs.declared.key.Key.{Key}
 use Rattle.message_diff.specs.declared.store.Host.{Host}
 use Rattle.message_diff.specs.declared.snapshot.Compared.{Compared}
 use Rattle.message_diff.specs.Files.{Found, News, found, gone_at, news_at}
-use Rattle.message_diff.specs.Known.{Item, Picture, Seen, after, is_key, is_part, is_text, nothing_known, value_or_nothing}
+use Rattle.message_diff.specs.Known.{Item, Picture, Seen, after, is_key, is_part, is_text, nothing_known}
+use Rattle.message_diff.specs.Known.{value_or_nothing}
 use Rattle.message_diff.specs.Shots.{Shot}
 use Rattle.message_diff.specs.Watched.{known_of}
 use Rattle.told_laws.specs.Entries.{AreSteps, Entry, Step, of_key}

@@ -8,6 +8,7 @@ ghost use Rattle.told_laws.specs.Hosts.{Apart};
 ghost use Rattle.told_laws.specs.Leading.{LeadThere};
 ghost use Rattle.told_laws.specs.Turns.{Orderly};
 ghost use Rattle.told_laws.specs.TwoWays.{TwoWays};
+ghost use Rattle.told_laws.specs.Whole.{WholeRuns};
 
 /// What the lines of one host tell is what they tell alone, whatever lines of other hosts stand between them.
 pub fn law_apart()
@@ -35,4 +36,10 @@ pub fn law_lead_there()
 /// that is not of family 7 or 10, and that the first of them does not refuse.
 pub fn law_two_ways()
     ensures { TwoWays }
+{}
+
+/// A run that tells all, by its contract, tells of each host what its lines tell alone, and the entries of each
+/// interface take turns.
+pub fn law_whole_runs()
+    ensures { WholeRuns }
 {}
