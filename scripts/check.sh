@@ -45,7 +45,7 @@ texts() {
     stage costs.py python3 scripts/costs.py
     stage test_costs.sh scripts/test_costs.sh
     stage test_second.sh scripts/test_second.sh out
-    stage 'forty mutants of linkwire' python3 scripts/mutants.py linkwire --count 40 --least 40
+    stage 'forty mutants of linkwire' python3 scripts/mutants.py linkwire --count 40 --least 60
 }
 
 programs() {

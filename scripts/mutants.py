@@ -18,7 +18,6 @@ import os
 import random
 import re
 import resource
-import signal
 import subprocess
 import sys
 import tempfile
@@ -86,12 +85,11 @@ int main(int count, char **words) {
 
 
 class Run(NamedTuple):
-    """Words of the program, the file it reads, the one it writes to if it is not looked at, and how much that takes."""
+    """Words of the program, the file it reads, and the file it writes to if it is not looked at."""
 
     words: tuple = ()
     reads: str = "/dev/null"
     writes: str = ""
-    size: int = resource.RLIM_INFINITY
 
 
 def words():
@@ -164,10 +162,10 @@ def around(name, text, at, new, function):
 
 
 def alike():
-    """The patterns of edits/alike.txt, in which * is anything."""
+    """The patterns of edits/alike.txt, in which * is anything, and {a,b} one of the two."""
     rows = (TOP / "edits/alike.txt").read_text().splitlines()
-    found = [row.strip() for row in rows if row.startswith("  ")]
-    return re.compile("|".join(re.escape(it).replace("\\*", ".*") for it in found) or "(?!)")
+    found = [re.escape(row.strip()).replace("\\*", ".*") for row in rows if row.startswith("  ")]
+    return re.compile("|".join(re.sub(r"\\{(.*?)\\}", lambda it: f"(?:{it[1].replace(',', '|')})", it) for it in found))
 
 
 # ** what is built, and run
@@ -219,8 +217,7 @@ def runs(name, folder):
         return [Run(tuple(it.split())) for it in (*TESTS, "more calls", "more held", "all calls", "all held")]
     said = [line.split(" ")[2:] for line in (TOP / "tests/program/said.txt").read_text().split("\n")
             if line.startswith(f"$ {name} ")]
-    short = [Run((), str(TOP / f"crates/{name}/stdin")), Run(("--version",)), Run((), f"{folder}/digits", "/dev/full"),
-             Run(("--help",), writes=f"{folder}/part", size=512)]
+    short = [Run((), str(TOP / f"crates/{name}/stdin")), Run(("--version",)), Run((), f"{folder}/digits", "/dev/full")]
     parts = ["more", "digits", *(f"all.{it:02}" for it in range(PARTS))]
     long = {"linkwire": [("", it) for it in parts],
             "linkstate": [(given, it) for given in ("", "--lenient") for it in parts],
@@ -241,9 +238,8 @@ def run(it, to, held, most=60):
     """Runs the program for so many seconds of the processor's time at most: its status, and how much it wrote, where
     HELD has all that it may write."""
     def limits():
-        signal.signal(signal.SIGXFSZ, signal.SIG_IGN)
-        for what, limit in (("CPU", most), ("AS", 3 << 30), ("CORE", 0), ("FSIZE", it.size)):
-            resource.setrlimit(getattr(resource, f"RLIMIT_{what}"), (limit, limit))
+        for what, limit in (resource.RLIMIT_CPU, most), (resource.RLIMIT_AS, 3 << 30), (resource.RLIMIT_CORE, 0):
+            resource.setrlimit(what, (limit, limit))
     with open(f"{to}.seen", "wb") as seen:
         seen.truncate(1 << 20)
     source = os.open(it.reads, os.O_RDONLY)

@@ -56,15 +56,6 @@ for program in "$@"; do
         fails "$program says something else than tests/program/said.txt has"
 done
 
-# of a file that takes no more than a block
-for program in "$@"; do
-    found=0
-    # shellcheck disable=SC2086
-    (trap '' XFSZ && ulimit -f 1 && exec $RUN "out/$program" --help >"$folder/part" 2>/dev/null) || found=$?
-    [ "$(wc -c <"$folder/part")" = "$($RUN "out/$program" --help | wc -c)" ] || [ "$found" = 1 ] ||
-        fails "$program: a file that takes a part: it ends with status $found"
-done
-
 version=$(sed -n 's/^#define LINKWIRE_VERSION "\(.*\)"$/\1/p' include/linkwire.h)
 for program in "$@"; do
     # shellcheck disable=SC2086
