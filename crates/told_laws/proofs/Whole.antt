@@ -1,10 +1,8 @@
 -- A whole run tells of each host what its lines tell alone, and that takes turns.
-use Rattle.std.proofs.Common.{◌≡◌, ◌<◌, ◌^◌, ℕ, List, length}
-use Rattle.std.specs.Prelude.{Option}
+use Rattle.std.proofs.Common.{ℕ, List}
 use Rattle.line_filter.specs.Lines.{lines_of}
 use Rattle.message_diff.specs.declared.snapshot.Compared.{Compared}
 use Rattle.message_diff.specs.declared.watch.Told.TheVariants as Tellings
-use Rattle.message_diff.specs.Watched.{Watches}
 use Rattle.told_laws.specs.Hosts.{TellsApart, of_host}
 use Rattle.told_laws.specs.Turns.{all_by}
 use Rattle.told_laws.specs.Whole.{AreOrderly, WholeRuns}
