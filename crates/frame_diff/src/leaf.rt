@@ -2,6 +2,7 @@
 
 ghost use Rattle.std.specs.Prelude.{◌≡◌, ◌++◌, [], ◌∷◌, IfOk, OnOk, bit_and, option_map};
 ghost use Rattle.shown.specs.Drafts.{object_of, with_members, with_value};
+ghost use Rattle.shown.specs.Keys.{IsKey};
 ghost use Rattle.shown.specs.Values.{flags_of};
 ghost use Rattle.frame_shown.specs.Items.{objects};
 ghost use Rattle.frame_shown.specs.Kept.{frame_flags};
@@ -64,6 +65,7 @@ fn show_value<D: Depth>(
     name: &str,
     value: Value<'_>,
 ) -> Result<(), AllocError>
+    requires key { IsKey name.now }
     ensures { OnOk result
         (page.new ≡ with_value name.now (value_shown (D.nest cx.now) cx.now value.entry) page.old) }
 {

@@ -1,6 +1,7 @@
 //! Two messages of which one is gone through, beside the other.
 
 ghost use Rattle.std.specs.Prelude.{◌≡◌};
+ghost use Rattle.shown.specs.Keys.{IsKey};
 ghost use Rattle.frame_diff.specs.Sides.{side_name};
 
 /// Which of two messages is gone through.
@@ -15,7 +16,8 @@ pub enum Side {
 impl Side {
     /// The name of its value in a change.
     pub fn name(self) -> &'static str
-        ensures { result.now ≡ side_name self }
+        ensures name { result.now ≡ side_name self }
+        ensures key { IsKey result.now }
     {
         match self {
             Side::Old => "old",

@@ -24,19 +24,20 @@ pub fn show_way<D: Depth>(
     }
 }
 
-/// Adds what an attribute says under its name. One that is kept says nothing here.
+/// Adds what an attribute says under its name, and returns whether it is kept as it is: then it says nothing here.
 #[inline(always)]
 fn show_frame<D: Depth>(
     cx: &Around<'_>,
     page: &mut Page,
     list: List,
     frame: &NlaBuffer<'_>,
-) -> Result<(), AllocError> {
+) -> Result<bool, AllocError> {
     let (name, way) = row_in(cx, list, frame.kind());
     if is_kept(way, frame.value()) {
-        return Ok(());
+        return Ok(true);
     }
-    show_way::<D>(cx, page, name, way, frame.value())
+    show_way::<D>(cx, page, name, way, frame.value())?;
+    Ok(false)
 }
 
 /// The number of an attribute that is shown under a name.
@@ -48,6 +49,31 @@ fn number_in<D: Depth>(cx: &Around<'_>, list: List, frame: &NlaBuffer<'_>) -> Op
         return None;
     }
     Some(number as usize)
+}
+
+/// The number of an attribute, where that can have a row.
+#[inline(always)]
+fn small_number(frame: &NlaBuffer<'_>) -> Option<usize> {
+    let number = frame.kind() as usize;
+    if number < NUMBERS { Some(number) } else { None }
+}
+
+/// Whether a number that can have a row stands twice in a list. Where none does, no attribute comes again.
+fn has_twice(bytes: &[u8]) -> bool {
+    let mut seen = [0u8; NUMBERS];
+    for item in NlasIterator::new(bytes) {
+        let frame = match item {
+            Ok(frame) => frame,
+            _ => break,
+        };
+        if let Some(number) = small_number(&frame) {
+            if seen[number] != 0 {
+                return true;
+            }
+            seen[number] = 1;
+        }
+    }
+    false
 }
 
 /// What the attributes of a list are together.
@@ -81,21 +107,23 @@ fn look_over<D: Depth>(cx: &Around<'_>, list: List, bytes: &[u8]) -> Survey {
     }
 }
 
-/// Adds the attributes that have a name.
+/// Adds the attributes that have a name, and returns whether one of the others is kept as it is.
 fn show_named<D: Depth>(
     cx: &Around<'_>,
     page: &mut Page,
     list: List,
     bytes: &[u8],
-) -> Result<(), AllocError> {
+) -> Result<bool, AllocError> {
+    let mut is_any_kept = false;
     for item in NlasIterator::new(bytes) {
         let frame = match item {
             Ok(frame) => frame,
             _ => break,
         };
-        show_frame::<D>(cx, page, list, &frame)?;
+        let is_kept = show_frame::<D>(cx, page, list, &frame)?;
+        is_any_kept |= is_kept;
     }
-    Ok(())
+    Ok(is_any_kept)
 }
 
 /// Adds an attribute that is kept.
@@ -249,11 +277,13 @@ fn show_all<D: Depth>(
     if is_any_repeated {
         return show_repeated::<D>(cx, page, list, bytes);
     }
-    show_named::<D>(cx, page, list, bytes)
+    show_named::<D>(cx, page, list, bytes)?;
+    Ok(())
 }
 
-/// Adds the attributes of a list as members.
-pub fn show_members<D: Depth>(
+/// Adds the attributes of a list as members, where some may come again.
+#[inline(never)]
+fn show_surveyed<D: Depth>(
     cx: &Around<'_>,
     page: &mut Page,
     list: List,
@@ -262,6 +292,20 @@ pub fn show_members<D: Depth>(
     let survey = look_over::<D>(cx, list, bytes);
     show_all::<D>(cx, page, list, bytes, survey.is_any_repeated)?;
     show_others::<D>(cx, page, list, bytes, survey.is_any_kept)
+}
+
+/// Adds the attributes of a list as members. Where no number stands twice, they are shown in one pass.
+pub fn show_members<D: Depth>(
+    cx: &Around<'_>,
+    page: &mut Page,
+    list: List,
+    bytes: &[u8],
+) -> Result<(), AllocError> {
+    if has_twice(bytes) {
+        return show_surveyed::<D>(cx, page, list, bytes);
+    }
+    let is_any_kept = show_named::<D>(cx, page, list, bytes)?;
+    show_others::<D>(cx, page, list, bytes, is_any_kept)
 }
 
 /// Adds the attributes of a list as an object.
@@ -277,17 +321,18 @@ fn show_object<D: Depth>(
     page.end()
 }
 
-/// Adds the attributes of a list that have a name as one list.
-fn show_one_list<D: Depth>(
+/// Adds the attributes of a list that have a name as one list, and returns whether one of the others is kept as it is.
+pub fn show_one_list<D: Depth>(
     cx: &Around<'_>,
     page: &mut Page,
     name: &str,
     list: List,
     bytes: &[u8],
-) -> Result<(), AllocError> {
+) -> Result<bool, AllocError> {
     page.begin(name, Nest::List)?;
-    show_named::<D>(cx, page, list, bytes)?;
-    page.end()
+    let is_any_kept = show_named::<D>(cx, page, list, bytes)?;
+    page.end()?;
+    Ok(is_any_kept)
 }
 
 /// Adds the attributes of a list as an object in which all that have a name stand in one list.
@@ -299,10 +344,9 @@ fn show_listed<D: Depth>(
     list: List,
     bytes: &[u8],
 ) -> Result<(), AllocError> {
-    let survey = look_over::<D>(cx, list, bytes);
     page.begin(name, Nest::Object)?;
-    show_one_list::<D>(cx, page, group.name(), list, bytes)?;
-    show_others::<D>(cx, page, list, bytes, survey.is_any_kept)?;
+    let is_any_kept = show_one_list::<D>(cx, page, group.name(), list, bytes)?;
+    show_others::<D>(cx, page, list, bytes, is_any_kept)?;
     page.end()
 }
 

@@ -20,7 +20,7 @@ const HEADER_LEN: usize = 16;
 type Whole = Above<Above<Above<Above<Above<Bottom>>>>>;
 
 /// Adds the flags of a link.
-fn show_link_flags(page: &mut Page, bits: u64) -> Result<(), AllocError> {
+pub fn show_link_flags(page: &mut Page, bits: u64) -> Result<(), AllocError> {
     page.flags("ifi-flags", bits, &LINK_FLAGS)
 }
 
@@ -44,7 +44,7 @@ pub(crate) fn show_header(page: &mut Page, bytes: &[u8]) -> Result<(), AllocErro
 }
 
 /// How many bytes the first address has; 0 where there is none.
-fn address_len(bytes: &[u8]) -> usize {
+pub fn address_len(bytes: &[u8]) -> usize {
     for item in NlasIterator::new(bytes) {
         let frame = match item {
             Ok(frame) => frame,
@@ -77,7 +77,7 @@ pub(crate) fn show_attributes(
 }
 
 /// The bytes behind the header.
-pub(crate) fn rest_of(bytes: &[u8]) -> &[u8] {
+pub fn rest_of(bytes: &[u8]) -> &[u8] {
     &bytes[HEADER_LEN.min(bytes.len())..]
 }
 

@@ -8,5 +8,5 @@ mod kept;
 pub mod laws;
 pub mod list;
 pub mod message;
-mod tables;
-mod value;
+pub mod tables;
+pub mod value;

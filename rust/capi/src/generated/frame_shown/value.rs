@@ -15,6 +15,7 @@ use crate::nla_wire::NlasIterator;
 use crate::nla_wire::fields::{be16_at, bytes_32_at, i32_at, u8_at, u16_at, u32_at, u64_at};
 use crate::shown::{Nest, Page};
 use crate::rattle::alloc::AllocError;
+use crate::rattle::str;
 
 /// Adds a number, by how it is spelled.
 fn show_number(page: &mut Page, name: &str, plain: Plain, number: u64) -> Result<(), AllocError> {
@@ -44,7 +45,12 @@ fn show_plain(page: &mut Page, name: &str, plain: Plain, value: Value<'_>) -> Re
 }
 
 /// Adds the value that bytes spell.
-fn show_spelled(page: &mut Page, name: &str, plain: Plain, bytes: &[u8]) -> Result<(), AllocError> {
+pub fn show_spelled(
+    page: &mut Page,
+    name: &str,
+    plain: Plain,
+    bytes: &[u8],
+) -> Result<(), AllocError> {
     show_plain(page, name, plain, read(Style::Plain(plain), bytes))
 }
 
@@ -60,7 +66,7 @@ fn show_parts(page: &mut Page, parts: &[Member], bytes: &[u8]) -> Result<(), All
 }
 
 /// How many values of a size there are among so many bytes; none where it is 0.
-fn count(size: usize, len: usize) -> usize {
+pub fn count(size: usize, len: usize) -> usize {
     match size {
         0 => 0,
         size => len / size,
@@ -144,7 +150,7 @@ fn plain_in(style: Style) -> Plain {
 
 /// The number of this size at a place, with zeros past the end.
 #[inline(always)]
-fn number_at(size: Size, bytes: &[u8], place: usize) -> u64 {
+pub fn number_at(size: Size, bytes: &[u8], place: usize) -> u64 {
     match size {
         Size::One => u8_at(bytes, place).into(),
         Size::Two => u16_at(bytes, place).into(),
@@ -193,7 +199,7 @@ fn show_address(
 }
 
 /// Adds a field of a record.
-fn show_field(
+pub fn show_field(
     cx: &Around<'_>,
     page: &mut Page,
     name: &str,
@@ -203,10 +209,10 @@ fn show_field(
 ) -> Result<(), AllocError> {
     let place = usize::from(place);
     match field {
-        Field::Number(size) => page.number(name, number_at(size, bytes, place)),
-        Field::Setting => page.number(name, setting_of(u32_at(bytes, place))),
+        Field::Number(size) => page.keyed_number(name, number_at(size, bytes, place)),
+        Field::Setting => page.keyed_number(name, setting_of(u32_at(bytes, place))),
         Field::LinkState => page.choice(name, u32_at(bytes, place).into(), &VF_LINK_STATES),
-        Field::Protocol => page.string(name, protocol_name(be16_at(bytes, place))),
+        Field::Protocol => page.keyed_string(name, protocol_name(be16_at(bytes, place))),
         Field::Address => show_address(cx, page, name, &bytes_32_at(bytes, place)),
     }
 }
@@ -225,7 +231,7 @@ fn show_fields(
 }
 
 /// The fields of a record.
-fn parts_of(kind: Record) -> &'static [Part] {
+pub fn parts_of(kind: Record) -> &'static [Part] {
     match kind {
         Record::Map => &MAP,
         Record::VfMac => &VF_MAC,
@@ -247,7 +253,7 @@ fn show_parts_of(
     kind: Record,
     bytes: &[u8],
 ) -> Result<(), AllocError> {
-    page.begin(name, Nest::Object)?;
+    page.keyed_begin(name, Nest::Object)?;
     show_fields(cx, page, parts_of(kind), bytes)?;
     page.end()
 }
@@ -288,7 +294,7 @@ fn show_bare_list(page: &mut Page, name: &str, bytes: &[u8]) -> Result<(), Alloc
 }
 
 /// The place of a counter in this order.
-fn counter_place(is_since: bool, before: u8, since: u8) -> usize {
+pub fn counter_place(is_since: bool, before: u8, since: u8) -> usize {
     if is_since {
         usize::from(since)
     } else {
@@ -305,7 +311,7 @@ fn show_placed(
 ) -> Result<(), AllocError> {
     for row in rows {
         let place = 8 * counter_place(is_since, row.1, row.2);
-        page.number(row.0, u64_at(bytes, place))?;
+        page.keyed_number(row.0, u64_at(bytes, place))?;
     }
     Ok(())
 }
@@ -382,7 +388,7 @@ fn show_reserved(page: &mut Page, name: &str, value: i32) -> Result<(), AllocErr
 
 /// Adds settings as an object.
 fn show_settings(page: &mut Page, name: &str, set: Settings, bytes: &[u8]) -> Result<(), AllocError> {
-    page.begin(name, Nest::Object)?;
+    page.keyed_begin(name, Nest::Object)?;
     show_named_settings(page, set, bytes)?;
     show_behind(page, set, bytes)?;
     page.end()
@@ -396,7 +402,7 @@ fn show_numbers_under(
     size: Size,
     bytes: &[u8],
 ) -> Result<(), AllocError> {
-    page.begin(name, Nest::Object)?;
+    page.keyed_begin(name, Nest::Object)?;
     show_numbers(page, names, size, bytes)?;
     page.end()
 }
@@ -437,6 +443,24 @@ fn show_bits(page: &mut Page, name: &str, bits: Bits, number: u32) -> Result<(),
     }
 }
 
+/// The bytes without one NUL at their end, if they have one.
+#[inline(always)]
+fn without_last_nul(bytes: &[u8]) -> &[u8] {
+    match bytes {
+        [front @ .., 0] => front,
+        _ => bytes,
+    }
+}
+
+/// Adds a text, or the digits of bytes that are none.
+#[inline(always)]
+fn show_text(page: &mut Page, name: &str, payload: &[u8]) -> Result<(), AllocError> {
+    match str::from_utf8(without_last_nul(payload)) {
+        Ok(text) => page.keyed_string(name, text),
+        Err(_) => page.hex(name, payload),
+    }
+}
+
 /// The text that a payload is.
 fn text_of(payload: &[u8]) -> Option<&str> {
     match read(Style::Text, payload) {
@@ -460,7 +484,7 @@ fn first_text(bytes: &[u8], number: u16) -> Option<&str> {
 }
 
 /// How a link's kinds are shown.
-fn info_of(bytes: &[u8]) -> List {
+pub fn info_of(bytes: &[u8]) -> List {
     List::Info(
         first_text(bytes, 1).and_then(Place::of_kind),
         first_text(bytes, 4).and_then(Place::of_slave_kind),
@@ -501,7 +525,7 @@ fn event_part<'a>(command: u16, elements: &'a [u8], payload: &'a [u8]) -> (&'sta
 }
 
 /// What an event holds: the information elements of an association, or any other payload.
-fn event_in(payload: &[u8]) -> (&'static str, &[u8]) {
+pub fn event_in(payload: &[u8]) -> (&'static str, &[u8]) {
     let elements = elements_in(behind_header(payload));
     event_part(u16_at(payload, 2), elements, payload)
 }
@@ -523,13 +547,13 @@ pub fn show_form<D: Depth>(
     payload: &[u8],
 ) -> Result<(), AllocError> {
     match form {
-        Form::Number(size) => page.number(name, number_at(size, payload, 0)),
-        Form::Text => show_plain(page, name, Plain::Octets(0), read(Style::Text, payload)),
-        Form::Signed => page.signed(name, i32_at(payload, 0).into()),
+        Form::Number(size) => page.keyed_number(name, number_at(size, payload, 0)),
+        Form::Text => show_text(page, name, payload),
+        Form::Signed => page.keyed_signed(name, i32_at(payload, 0).into()),
         Form::Address => page.address(name, payload),
         Form::Choice(choice) => show_choice(page, name, choice, choice_number(choice, payload)),
-        Form::Exact(size) => page.number(name, number_at(size, payload, 0)),
-        Form::Truth => page.number(name, truth_of(u8_at(payload, 0).into())),
+        Form::Exact(size) => page.keyed_number(name, number_at(size, payload, 0)),
+        Form::Truth => page.keyed_number(name, truth_of(u8_at(payload, 0).into())),
         Form::Id => show_id(page, name, payload),
         Form::Flags(bits) => show_bits(page, name, bits, u32_at(payload, 0)),
         Form::Counters(words) => show_counters(page, name, words, payload),

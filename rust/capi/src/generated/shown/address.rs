@@ -2,7 +2,7 @@
 //! Hardware addresses, and bytes as digits.
 
 use crate::rattle::prelude::String;
-use crate::shown::piece::put_byte;
+use crate::shown::piece::{put_byte, put_number};
 use crate::rattle::alloc::{AllocError, Global};
 
 const DIGITS: [char; 16] = [
@@ -52,4 +52,18 @@ pub(crate) fn put_hex(buf: &mut [u8], bytes: &[u8]) -> usize {
         end = put_octet(buf, end, *byte);
     }
     end
+}
+
+/// The room that four numbers are stored in, with dots between them.
+pub(crate) const DOTTED: usize = 96;
+
+/// Stores four numbers with dots between them; where they end.
+pub(crate) fn put_ipv4(buf: &mut [u8], octets: &[u8; 4]) -> usize {
+    let mut end = put_number(buf, 0, octets[0].into());
+    end = put_byte(buf, end, b'.');
+    end = put_number(buf, end, octets[1].into());
+    end = put_byte(buf, end, b'.');
+    end = put_number(buf, end, octets[2].into());
+    end = put_byte(buf, end, b'.');
+    put_number(buf, end, octets[3].into())
 }

@@ -2,7 +2,7 @@
 //! An object that is written, member by member.
 
 use crate::rattle::prelude::{Box, Vec, format};
-use crate::shown::address::{address_text, put_address, put_hex};
+use crate::shown::address::{DOTTED, address_text, put_address, put_hex, put_ipv4};
 use crate::shown::marks::Marks;
 use crate::shown::sheet::Sheet;
 use crate::rattle::alloc::{AllocError, Global};
@@ -467,10 +467,22 @@ impl Page {
         self.address_late(name, bytes)
     }
 
-    /// Adds an IPv4 address, as four decimal numbers with dots between them.
-    pub fn ipv4_address(&mut self, name: &str, address: &Ipv4Addr) -> Result<(), AllocError> {
+    /// Adds an IPv4 address where it is not written at once.
+    #[cold]
+    #[inline(never)]
+    fn ipv4_late(&mut self, name: &str, address: &Ipv4Addr) -> Result<(), AllocError> {
         let dotted = format!(in self.alloc; "{address}")?;
         self.string(name, dotted.as_str())
+    }
+
+    /// Adds an IPv4 address, as four decimal numbers with dots between them. It takes no memory.
+    pub fn ipv4_address(&mut self, name: &str, address: &Ipv4Addr) -> Result<(), AllocError> {
+        let mut dotted = [0u8; DOTTED];
+        let end = put_ipv4(&mut dotted, &address.octets());
+        if self.try_text::<false>(name, &dotted[..end]) {
+            return Ok(());
+        }
+        self.ipv4_late(name, address)
     }
 
     /// Adds an IPv6 address, as RFC 5952 writes it.
@@ -548,10 +560,10 @@ impl Page {
         Ok(())
     }
 
-    /// Does what `finish` does, and returns the bytes that the page was written over.
-    pub(crate) fn finish_over(self, out: &mut Vec<u8>) -> Result<Vec<u8>, AllocError> {
-        let (bytes, len, ..) = self.text()?;
+    /// Does what `finish` does, and returns the bytes that the page was written over, and the room for what is open.
+    pub(crate) fn finish_over(self, out: &mut Vec<u8>) -> Result<(Vec<u8>, Vec<Nest>), AllocError> {
+        let (bytes, len, outer, _) = self.text()?;
         out.extend_from_slice(&bytes[..len])?;
-        Ok(bytes)
+        Ok((bytes, outer))
     }
 }

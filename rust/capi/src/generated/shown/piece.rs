@@ -85,7 +85,7 @@ fn put_digits(buf: &mut [u8], at: usize, value: u64) -> usize {
 
 /// Stores a number. Most of a link's have one digit.
 #[inline(always)]
-fn put_number(buf: &mut [u8], at: usize, value: u64) -> usize {
+pub(crate) fn put_number(buf: &mut [u8], at: usize, value: u64) -> usize {
     if value < 10 {
         return put_byte(buf, at, b'0' + value as u8);
     }

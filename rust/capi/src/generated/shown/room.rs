@@ -2,18 +2,19 @@
 //! The room that pages are written in, one after another.
 
 use crate::rattle::prelude::Vec;
-use crate::shown::page::{Page, ROOM};
+use crate::shown::page::{Nest, Page, ROOM};
 use crate::rattle::alloc::{AllocError, Global};
 use std::mem;
 
 /// The most bytes that are kept from one page to the next.
 const MOST_KEPT: usize = 64 * 1024;
 
-/// The room that pages are written in, one after another, which spares most of them a request for memory. At most
+/// The room that pages are written in, one after another, which spares most of them all requests for memory. At most
 /// 64 KiB are kept between two pages.
 pub struct Room {
     alloc: Global,
     bytes: Vec<u8>,
+    outer: Vec<Nest>,
 }
 
 impl Room {
@@ -22,21 +23,25 @@ impl Room {
         Room {
             alloc,
             bytes: Vec::new(alloc),
+            outer: Vec::new(alloc),
         }
     }
 
     /// An object with no member.
     pub fn begin(&mut self) -> Result<Page, AllocError> {
         let mut bytes = mem::replace(&mut self.bytes, Vec::new(self.alloc));
+        let mut outer = mem::replace(&mut self.outer, Vec::new(self.alloc));
         if bytes.is_empty() {
             bytes = Vec::with_capacity(self.alloc, ROOM)?;
         }
-        Page::over(self.alloc, bytes, Vec::new(self.alloc), None)
+        outer.clear();
+        Page::over(self.alloc, bytes, outer, None)
     }
 
     /// Adds the text of the object to `out` as `Page::finish` does, and keeps the page's room for the next one.
     pub fn finish(&mut self, page: Page, out: &mut Vec<u8>) -> Result<(), AllocError> {
-        let bytes = page.finish_over(out)?;
+        let (bytes, outer) = page.finish_over(out)?;
+        self.outer = outer;
         if bytes.capacity() <= MOST_KEPT {
             self.bytes = bytes;
         }
