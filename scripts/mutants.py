@@ -6,8 +6,8 @@
 NAME is a program, or link_c for the library's calls. A conditional jump or move is turned round or moved by one, or a
 number is changed by one, in the file that is built of the text. A copy of the text in which each such place leaves a
 mark says first which runs come to it: a mutant runs those alone. It is told where an answer differs, or the program
-fails, or takes eight times as much of the processor's time. One that no run can tell is alike: edits/alike.txt has
-patterns of those, with reasons. With --least it fails where fewer than so many of a hundred are told, of those that are
+fails, or takes eight times as much of the processor's time. One that no run can tell is alike: tests/second/alike.txt
+has patterns of those, with reasons. With --least it fails where fewer than so many of a hundred are told, of those that are
 executed and not alike; --list prints what becomes of each. edits/mutants.md has scores, and what else is kept. It uses
 what `make build` leaves in out/."""
 import argparse
@@ -144,8 +144,8 @@ def said(text, at, new, function):
 
 
 def around(name, text, at, new, function):
-    """A place as patterns of edits/alike.txt have it: its text, its function without the sum behind the name, four
-    instructions or labels in front, what becomes of which, and four behind; without names of labels and registers."""
+    """A place as patterns of tests/second/alike.txt have it: its text, its function without the sum behind the name,
+    four instructions or labels in front, what becomes of which, and four behind; without names of labels and registers."""
     def plain(line):
         line = re.sub(r"\.LBB\d+_\d+|\.LJTI\d+_\d+", ".L", " ".join(line.split()))
         return re.sub(r"%[a-z]\w*", "%", line)
@@ -162,8 +162,8 @@ def around(name, text, at, new, function):
 
 
 def alike():
-    """The patterns of edits/alike.txt, in which * is anything, and {a,b} one of the two."""
-    rows = (TOP / "edits/alike.txt").read_text().splitlines()
+    """The patterns of tests/second/alike.txt, in which * is anything, and {a,b} one of the two."""
+    rows = (TOP / "tests/second/alike.txt").read_text().splitlines()
     found = [re.escape(row.strip()).replace("\\*", ".*") for row in rows if row.startswith("  ")]
     return re.compile("|".join(re.sub(r"\\{(.*?)\\}", lambda it: f"(?:{it[1].replace(',', '|')})", it) for it in found))
 
