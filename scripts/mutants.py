@@ -7,9 +7,9 @@ NAME is a program, or link_c for the library's calls. A conditional jump or move
 number is changed by one, in the file that is built of the text. A copy of the text in which each such place leaves a
 mark says first which runs come to it: a mutant runs those alone. It is told where an answer differs, or the program
 fails, or takes eight times as much of the processor's time. One that no run can tell is alike: tests/second/alike.txt
-has patterns of those, with reasons. With --least it fails where fewer than so many of a hundred are told, of those that are
-executed and not alike; --list prints what becomes of each. edits/mutants.md has scores, and what else is kept. It uses
-what `make build` leaves in out/."""
+has patterns of those, with reasons. With --least it fails where fewer than so many of a hundred are told, of those that
+are executed and not alike; --list prints what becomes of each. edits/mutants.md has scores, and what else is kept. It
+uses what `make build` leaves in out/."""
 import argparse
 import collections
 import functools
@@ -145,7 +145,8 @@ def said(text, at, new, function):
 
 def around(name, text, at, new, function):
     """A place as patterns of tests/second/alike.txt have it: its text, its function without the sum behind the name,
-    four instructions or labels in front, what becomes of which, and four behind; without names of labels and registers."""
+    four instructions or labels in front, what becomes of which, and four behind; without names of labels and
+    registers."""
     def plain(line):
         line = re.sub(r"\.LBB\d+_\d+|\.LJTI\d+_\d+", ".L", " ".join(line.split()))
         return re.sub(r"%[a-z]\w*", "%", line)
