@@ -36,8 +36,8 @@ VALUES: Dict[str, Tuple[Callable[[str], Any], Optional[Callable[[Any], bool]], s
     "FILE": (str, None, "a file"),
     "NAME": (str, None, "a name or a path"),
     "OLD": (str, None, "two files"),
-    "SECONDS": (float, lambda it: 0 < it <= 1e6, "a number of seconds above 0"),  # poll(2) waits no longer
-    "N": (int, lambda it: it > 0, "a number from 1 on"),
+    "SECONDS": (float, lambda it: bool(0 < it <= 1e6), "a number of seconds above 0"),  # poll(2) waits no longer
+    "N": (int, lambda it: bool(it > 0), "a number from 1 on"),
     "FORM": (str, ("clock", "utc", "none").__contains__, "clock, utc or none"),
     "WHEN": (str, ("auto", "always", "never").__contains__, "auto, always or never"),
 }
