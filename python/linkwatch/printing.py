@@ -74,7 +74,7 @@ class Output:
 
     def tell(self, event: Event, line: str = "") -> bool:
         """Writes what an event of a line says, or holds it for --settle; false if that is nothing."""
-        told = self.view.told(event)
+        told = [] if self.is_json and self.view.matches(()) else self.view.told(event)  # where all are asked for
         if not self.is_json:
             for it in told or ():
                 self.lines(self.settling.add(it))
