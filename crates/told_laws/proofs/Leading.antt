@@ -8,9 +8,11 @@ use Rattle.message_diff.specs.declared.snapshot.Compared.{Compared}
 use Rattle.message_diff.specs.declared.snapshot.Compared.TheVariants.{State, Message, LenientState, LenientMessage}
 use Rattle.message_diff.specs.Changed.{state_diff, told_diffs}
 use Rattle.message_diff.specs.Counted.{IsLeftBy, IsWithoutCounters}
-use Rattle.message_diff.specs.Differences.{Diff, Has, HasOneEach, Leaf, any_new, any_old, diffs, has_path, left_by}
+use Rattle.message_diff.specs.Differences.{Diff, Has, HasOneEach, Leaf, any_new, any_old, diffs, has_path}
+use Rattle.message_diff.specs.Differences.{is_counter, left_by}
 use Rattle.message_diff.specs.Differences.{left_of, less, may_be, new_diff, new_diffs, new_of, old_diff, old_diffs}
 use Rattle.message_diff.specs.Differences.{old_of, path_of, value_at}
+use Rattle.message_diff.specs.Ipv6.{is_ipv6_counter}
 use Rattle.message_diff.specs.Known.{is_text}
 use Rattle.told_laws.specs.Leading.{Change, Counts, Follow, HaveOld, IsNoCounter, IsToldBetween, LeadThere, LeadsAt}
 use Rattle.told_laws.specs.Leading.{behind, behind_all}
@@ -262,6 +264,13 @@ off_one q paths path true any e (inl h) = absurd cc
 off_one q paths path false any e h = refl
 off_one q paths path true any e (inr h) = ap (λ p. has_path paths p) e ∙ h
 
+counter_off : (q : List ℕ) (paths : List (List ℕ)) (path : List ℕ) (value : Option (List ℕ)) (any : Bool)
+    → is_ipv6_counter q ≡ false → path ≡ q → Off (may_be value || any) paths q → is_counter paths path value ≡ false
+counter_off q paths path value any none e h =
+    ap (λ p. is_ipv6_counter p || (may_be value && has_path paths path)) e
+    ∙ ap (λ b. b || (may_be value && has_path paths path)) none
+    ∙ off_one q paths path (may_be value) any e h
+
 off_rest : (q : List ℕ) (paths : List (List ℕ)) (may any : Bool) → Off (may || any) paths q → Off any paths q
 off_rest q paths true any (inl h) = absurd cc
 off_rest q paths false any (inl h) = inl h
@@ -299,14 +308,14 @@ left_both false false d h i = refl
 left_both true b d h i = absurd cc
 left_both false true d h i = absurd cc
 
-module _ (olds news : List (List ℕ)) (q : List ℕ) where
+module _ (olds news : List (List ℕ)) (q : List ℕ) (none : is_ipv6_counter q ≡ false) where
   left_one : (d : Diff) (a b : Bool) → is_text (path_of d) q ≡ true → Off (may_be (old_of d) || a) olds q
       → Off (may_be (new_of d) || b) news q → left_by olds news d ≡ d ∷ []
   left_one d a b e was is =
       let path : path_of d ≡ q = text_same (path_of d) q e in
-      left_both (may_be (old_of d) && has_path olds (path_of d)) (may_be (new_of d) && has_path news (path_of d)) d
-      (off_one q olds (path_of d) (may_be (old_of d)) a path was)
-      (off_one q news (path_of d) (may_be (new_of d)) b path is)
+      left_both (is_counter olds (path_of d) (old_of d)) (is_counter news (path_of d) (new_of d)) d
+      (counter_off q olds (path_of d) (old_of d) a none path was)
+      (counter_off q news (path_of d) (new_of d) b none path is)
 
   less_next : (d : Diff) (ds : List Diff) (o : Option (List ℕ)) (t : Bool) → is_text (path_of d) q ≡ t
       → (t ≡ true → left_by olds news d ≡ d ∷ []) → fold (behind q) o (left_by olds news d) ≡ behind q o d
@@ -351,12 +360,12 @@ pub record Leads (q : List ℕ) (o v : Option (List ℕ)) (ds : List Diff) : Typ
 state_leads : (pair : Pair) (q : List ℕ) (o v : Option (List ℕ)) (found left : List Diff) → IsNoCounter pair q
     → IsWithoutCounters pair found left → Leads q o v found → Leads q o v left
 state_leads pair q o v found left none is h =
-    let was : Off (any_old found) is.olds q = off_if (any_old found) is.olds q (λ e. none.0 is.olds (is.of_old e)) in
-    let new : Off (any_new found) is.news q = off_if (any_new found) is.news q (λ e. none.1 is.news (is.of_new e)) in
+    let was : Off (any_old found) is.olds q = off_if (any_old found) is.olds q (λ e. none.1 is.olds (is.of_old e)) in
+    let new : Off (any_new found) is.news q = off_if (any_new found) is.news q (λ e. none.2 is.news (is.of_new e)) in
     subst (λ ds. Leads q o v ds) (sym is.are_left)
     (record {
-      to = less_leads is.olds is.news q found was new o ∙ h.to;
-      old = less_old is.olds is.news q found was new o h.old;
+      to = less_leads is.olds is.news q none.0 found was new o ∙ h.to;
+      old = less_old is.olds is.news q none.0 found was new o h.old;
     })
 
 left_leads : (by : Compared) (pair : Pair) (q : List ℕ) (o v : Option (List ℕ)) (found left : List Diff)

@@ -7,6 +7,7 @@ use Rattle.message_diff.specs.declared.snapshot.Compared.TheVariants.{State, Mes
 use Rattle.message_diff.specs.Changed.{told_diffs}
 use Rattle.message_diff.specs.Counted.{AreCounterPaths, IsLeftBy}
 use Rattle.message_diff.specs.Differences.{Diff, HasOneEach, Leaf, diffs, has_path, old_of, path_of, value_at}
+use Rattle.message_diff.specs.Ipv6.{is_ipv6_counter}
 use Rattle.message_diff.specs.Known.{is_text}
 
 -- ** one change
@@ -27,7 +28,8 @@ pub record IsToldBetween (by : Compared) (pair : Pair) (was is : List ℕ) (old 
 -- a path that is no counter of the two messages, where counters do not count
 abbrev pub IsNoCounter : Pair → List ℕ → Type 0
 IsNoCounter pair q =
-    ((paths : List (List ℕ)) → AreCounterPaths pair.is_part pair.old paths → has_path paths q ≡ false)
+    (is_ipv6_counter q ≡ false)
+    × ((paths : List (List ℕ)) → AreCounterPaths pair.is_part pair.old paths → has_path paths q ≡ false)
     × ((paths : List (List ℕ)) → AreCounterPaths pair.is_part pair.new paths → has_path paths q ≡ false)
 
 abbrev pub Counts : Compared → Pair → List ℕ → Type 0
