@@ -20,18 +20,18 @@ $(if $(NEEDS_RT),$(if $(call is_here,rt),,$(error make $(NEEDS_RT) proves the cr
 .PHONY: costs linkdump-tests python-tests linkwatch-tests dev fmt rust-tests fuzz c-bench exhaustive
 
 dist: ## proves, and makes dist/ and the archive of a release anew; its sums say what it was made of
-	@scripts/dist.sh
-	@scripts/archive.sh
+	@scripts/make/dist.sh
+	@scripts/release/archive.sh
 
 sums: ## writes the sums of the files written by hand, as dist/heap.c, to dist/SUMS; those of texts and crates stay
-	@scripts/sums.sh written >dist/SUMS.new
+	@scripts/make/sums.sh written >dist/SUMS.new
 	@mv dist/SUMS.new dist/SUMS
 
 archive: ## packs the archive of a release of what dist/ has
-	@scripts/archive.sh
+	@scripts/release/archive.sh
 
 deb: ## makes Debian's packages in out/deb, by debhelper, of debian/ and what the archive of a release has
-	@scripts/archive.sh >/dev/null
+	@scripts/release/archive.sh >/dev/null
 	@rm -rf out/deb && mkdir out/deb && tar -xf out/linkwire-$(VERSION).tar.gz -C out/deb
 	@cp -r debian out/deb/linkwire-$(VERSION)
 	@cd out/deb/linkwire-$(VERSION) && dpkg-buildpackage -b -us -uc >../log 2>&1 || { cat ../log >&2; exit 1; }
@@ -39,18 +39,18 @@ deb: ## makes Debian's packages in out/deb, by debhelper, of debian/ and what th
 	@ls $(CURDIR)/out/deb/*.deb
 
 dist-tests: ## runs what is built of dist/ with the toolchain out of reach: here, under qemu, with musl, from packages
-	@scripts/dist_tests.sh
-	@scripts/test_dist.sh
+	@scripts/test/dist_tests.sh
+	@scripts/test/test_dist.sh
 
 test: ## runs all tests and stored runs by cargo, the contracts erased, in a minute; it proves nothing
-	@scripts/erased_tests.sh
+	@scripts/test/erased_tests.sh
 
 rust: ## makes the crates in rust/ and rust/capi anew, of the sources and scripts/erase
 	@python3 scripts/erase/erase.py crate rust
 	@python3 scripts/erase/erase.py capi rust/capi
 
 lint: ## long lines, edits that no longer fit, shellcheck, pyflakes, and of rust/ rustfmt, clippy and rustdoc
-	@scripts/lint.sh
+	@scripts/test/lint.sh
 
 dev: ## checks one crate: make dev CRATE=link_vf
 	@$(if $(wildcard crates/$(CRATE)/src),,echo 'make dev CRATE=NAME: no crates/$(CRATE)' >&2; exit 2;) \
@@ -63,12 +63,12 @@ check: ## runs the gate and the scripts beside it; its last line is the gate's
 	@scripts/check.sh
 
 edits: ## tries the edits that the gate has no time for; it takes more than an hour
-	@scripts/more_edits.sh
-	@scripts/tested_edits.sh
+	@scripts/test/more_edits.sh
+	@scripts/test/tested_edits.sh
 
 tables: ## prints the tables as JSON, after they were compared with the kernel's files: make -s tables >tables.json
-	@python3 scripts/kernel_tables.py >&2
-	@python3 scripts/kernel_tables.py --json
+	@python3 scripts/test/kernel_tables.py >&2
+	@python3 scripts/test/kernel_tables.py --json
 
 bench: build c-bench compare ## times the programs and the library
 	@bench/run programs
@@ -78,33 +78,33 @@ compare: $(LIBRARIES) out/linkdump ## times the calls beside libnl-route-3 and D
 	@bench/compare.sh $(CURDIR)/out/liblinkwire.a
 
 show-tests: ## compares what linkshow says of the running kernel's links with what the kernel's client ynl says
-	@scripts/show_tests.sh
+	@scripts/test/show_tests.sh
 
 c-tests: $(LIBRARIES) out/linkdiff out/linkdump ## runs the tests of the library for C, and examples on the kernel
-	@scripts/c_tests.sh $(CURDIR)/out/liblinkwire.a
+	@scripts/test/c_tests.sh $(CURDIR)/out/liblinkwire.a
 
 costs: ## counts what a line takes of the texts in dist/, and compares with tests/costs.txt
-	@python3 scripts/costs.py
+	@python3 scripts/measure/costs.py
 
 linkdump-tests: ## runs linkdump on the running kernel and on captures, with sanitizers too
-	@scripts/linkdump_tests.sh
+	@scripts/test/linkdump_tests.sh
 
 python-tests: $(LIBRARIES) out/linkdiff out/linkdump ## tests the package in python/, for each Python that is here
-	@scripts/python_tests.sh
+	@scripts/test/python_tests.sh
 
 linkwatch-tests: $(LIBRARIES) build ## tests the command linkwatch, and completion by shells
-	@scripts/linkwatch_tests.sh
+	@scripts/test/linkwatch_tests.sh
 
 rust-tests: ## runs the tests of rust/, and compares it with the built program linkwire
-	@scripts/rust_tests.sh
+	@scripts/test/rust_tests.sh
 
 fuzz: $(LIBRARIES) ## tries the laws of the library on generated messages, and by AFL++: make fuzz SECONDS=600
-	@scripts/laws.sh $(CURDIR)/out/liblinkwire.a --seconds $(SECONDS)
-	@scripts/fuzz.sh $(SECONDS)
+	@scripts/test/laws.sh $(CURDIR)/out/liblinkwire.a --seconds $(SECONDS)
+	@scripts/test/fuzz.sh $(SECONDS)
 
 exhaustive: build $(LIBRARIES) ## compares what is built with the second reader of tests/second, on 5,000,000 lines
-	@JOBS=$(shell nproc) scripts/second.sh out out/liblinkwire.a
-	@JOBS=$(shell nproc) scripts/second.sh out out/liblinkwire.a wide
+	@JOBS=$(shell nproc) scripts/test/second.sh out out/liblinkwire.a
+	@JOBS=$(shell nproc) scripts/test/second.sh out out/liblinkwire.a wide
 
 c-bench: $(LIBRARIES) ## times the library for C
 	@for it in link_bench dump_bench; do $(CC) -std=gnu11 -O2 -Wall -Wextra -Werror -Iinclude -o out/$$it \

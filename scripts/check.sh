@@ -22,70 +22,70 @@ gate() {
 }
 
 libraries() {
-    stage 'the text of link_c' scripts/dist.sh --compare link_c
-    scripts/c_library.sh --built
+    stage 'the text of link_c' scripts/make/dist.sh --compare link_c
+    scripts/make/c_library.sh --built
     make -s -o out/library.o out/liblinkwire.a out/liblinkwire.so.0
-    stage 'c_tests.sh, with state_live.sh' scripts/c_tests.sh out/liblinkwire.a crates/linkdiff/out out
-    stage call_answers.py python3 scripts/call_answers.py out/liblinkwire.a crates/linkshow/out/linkshow \
+    stage 'c_tests.sh, with state_live.sh' scripts/test/c_tests.sh out/liblinkwire.a crates/linkdiff/out out
+    stage call_answers.py python3 scripts/test/call_answers.py out/liblinkwire.a crates/linkshow/out/linkshow \
         crates/linkdiff/out/linkdiff
-    stage second.sh scripts/second.sh out out/liblinkwire.a
-    stage 'compilers.sh, of the library' scripts/compilers.sh --library out
-    stage linkdump_tests.sh scripts/linkdump_tests.sh
-    stage fuzz.sh scripts/fuzz.sh 30
-    stage python_tests.sh scripts/python_tests.sh out
-    stage linkwatch_tests.sh scripts/linkwatch_tests.sh out
-    python3 scripts/readme.py out/liblinkwire.a crates/linkwire/out crates/linkshow/out crates/linkstate/out \
+    stage second.sh scripts/test/second.sh out out/liblinkwire.a
+    stage 'compilers.sh, of the library' scripts/test/compilers.sh --library out
+    stage linkdump_tests.sh scripts/test/linkdump_tests.sh
+    stage fuzz.sh scripts/test/fuzz.sh 30
+    stage python_tests.sh scripts/test/python_tests.sh out
+    stage linkwatch_tests.sh scripts/test/linkwatch_tests.sh out
+    python3 scripts/test/readme.py out/liblinkwire.a crates/linkwire/out crates/linkshow/out crates/linkstate/out \
         crates/linkdiff/out out
-    stage 'builds of dist/' scripts/dist_tests.sh
+    stage 'builds of dist/' scripts/test/dist_tests.sh
 }
 
 texts() {
-    stage 'the texts of the programs' scripts/dist.sh --compare "${names[@]}"
-    stage 'slips in dist/' scripts/test_dist.sh
-    stage costs.py python3 scripts/costs.py
-    stage test_costs.sh scripts/test_costs.sh
-    stage test_second.sh scripts/test_second.sh out
-    stage 'forty mutants of linkwire' python3 scripts/mutants.py linkwire --count 40 --least 60
+    stage 'the texts of the programs' scripts/make/dist.sh --compare "${names[@]}"
+    stage 'slips in dist/' scripts/test/test_dist.sh
+    stage costs.py python3 scripts/measure/costs.py
+    stage test_costs.sh scripts/test/test_costs.sh
+    stage test_second.sh scripts/test/test_second.sh out
+    stage 'forty mutants of linkwire' python3 scripts/measure/mutants.py linkwire --count 40 --least 60
 }
 
 programs() {
     for name in "${names[@]}"; do
-        stage "program.sh $name" scripts/program.sh "$name"
+        stage "program.sh $name" scripts/test/program.sh "$name"
     done
-    python3 scripts/state_tests.py crates/linkstate/out/linkstate
-    stage diff_tests.py python3 scripts/diff_tests.py crates/linkdiff/out/linkdiff crates/linkshow/out/linkshow
-    stage sizes.py python3 scripts/sizes.py crates/linkwire/out crates/linkshow/out crates/linkstate/out \
+    python3 scripts/test/state_tests.py crates/linkstate/out/linkstate
+    stage diff_tests.py python3 scripts/test/diff_tests.py crates/linkdiff/out/linkdiff crates/linkshow/out/linkshow
+    stage sizes.py python3 scripts/test/sizes.py crates/linkwire/out crates/linkshow/out crates/linkstate/out \
         crates/linkdiff/out out
     python3 tests/linkdump/hosts.py --linkdiff crates/linkdiff/out/linkdiff
     python3 tests/linkdiff/live.py out/linkdump crates/linkdiff/out/linkdiff
     python3 tests/linkdiff/cases.py crates/linkdiff/out/linkdiff
-    python3 scripts/headline.py crates/linkwire/out/linkwire crates/linkshow/out/linkshow
-    python3 scripts/linkdiff_page.py crates/linkdiff/out/linkdiff
-    python3 scripts/show_damaged.py crates/linkshow/out/linkshow crates/linkwire/out/linkwire
-    stage show_beside.py python3 scripts/show_beside.py crates/beside/out/beside crates/linkshow/out/linkshow
-    python3 scripts/kernel_messages.py
-    python3 scripts/kernel_truth.py crates/linkshow/out/linkshow
-    python3 scripts/kernel_truth.py --live crates/linkshow/out/linkshow out/linkdump
-    scripts/show_tests.sh
-    scripts/rust_tests.sh
-    stage processors.sh scripts/processors.sh
-    stage compilers.sh scripts/compilers.sh out
-    scripts/parallel_test.sh
-    scripts/parallel_hosts.sh
-    scripts/test_progress.sh
-    scripts/refused_memory.sh
-    scripts/refused_parse.sh
+    python3 scripts/test/headline.py crates/linkwire/out/linkwire crates/linkshow/out/linkshow
+    python3 scripts/test/linkdiff_page.py crates/linkdiff/out/linkdiff
+    python3 scripts/test/show_damaged.py crates/linkshow/out/linkshow crates/linkwire/out/linkwire
+    stage show_beside.py python3 scripts/test/show_beside.py crates/beside/out/beside crates/linkshow/out/linkshow
+    python3 scripts/test/kernel_messages.py
+    python3 scripts/test/kernel_truth.py crates/linkshow/out/linkshow
+    python3 scripts/test/kernel_truth.py --live crates/linkshow/out/linkshow out/linkdump
+    scripts/test/show_tests.sh
+    scripts/test/rust_tests.sh
+    stage processors.sh scripts/test/processors.sh
+    stage compilers.sh scripts/test/compilers.sh out
+    scripts/test/parallel_test.sh
+    scripts/test/parallel_hosts.sh
+    scripts/test/test_progress.sh
+    scripts/test/refused_memory.sh
+    scripts/test/refused_parse.sh
     scripts/refused_info.sh
-    scripts/tested_edits.sh
-    python3 scripts/kernel_tables.py
-    scripts/test_kernel_tables.sh
+    scripts/test/tested_edits.sh
+    python3 scripts/test/kernel_tables.py
+    scripts/test/test_kernel_tables.sh
 }
 
-python3 scripts/lines.py
-python3 scripts/version.py
-python3 scripts/edits.py --fit
-python3 scripts/c_names.py
-scripts/sums.sh check
+python3 scripts/test/lines.py
+python3 scripts/release/version.py
+python3 scripts/test/edits.py --fit
+python3 scripts/test/c_names.py
+scripts/make/sums.sh check
 python3 scripts/erase/test_erase.py
 python3 scripts/erase/erase.py check rust
 stage gate gate

@@ -1,6 +1,6 @@
 # shellcheck shell=bash disable=SC2034
-# What the scripts share, `. "$(dirname "$0")/common.sh"`: `self` stands in front of what a script says, by default its
-# name; `top` is the repository, and `folder` is one for the script alone, which goes at its end.
+# What the scripts share, `. "$(dirname "$0")/../common.sh"`: `self` stands in front of what a script says, by default
+# its name; `top` is the repository, and `folder` is one for the script alone, which goes at its end.
 set -euo pipefail
 self=${self:-$(basename "$0" .sh)}
 top=$(cd "$(dirname "${BASH_SOURCE[0]}")/.." && pwd)

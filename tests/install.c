@@ -1,4 +1,4 @@
-/* Prints the name and the MTU of a message, and the version of the header; scripts/test_install.sh compares. */
+/* Prints the name and the MTU of a message, and the version of the header; scripts/test/test_install.sh compares. */
 #include <linkwire.h>
 #include <stdio.h>
 

@@ -1,4 +1,4 @@
-/* The header alone: in a program of its own it compiles as C99, C11, C++11 and C++17 (scripts/c_tests.sh), and
+/* The header alone: in a program of its own it compiles as C99, C11, C++11 and C++17 (scripts/test/c_tests.sh), and
  * says what the library says. */
 #include "linkwire.h"
 

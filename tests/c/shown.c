@@ -1,6 +1,6 @@
 /* Calls linkwire_show, linkwire_diff and linkwire_order: answers, refusals, flags, and buffers that are too short.
  *
- * With words it answers the standard input, lines of hexadecimal messages, and scripts/call_answers.py compares:
+ * With words it answers the standard input, lines of hexadecimal messages, and scripts/test/call_answers.py compares:
  *     shown show ORDER FLAGS     what each message says
  *     shown diff ORDER FLAGS     of each two lines what changed from the first message to the second */
 #include <stdio.h>

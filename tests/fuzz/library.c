@@ -1,5 +1,5 @@
 /* Reads a pair of messages from its input, the length of the first in two bytes in front, and aborts where a law of
- * linkwire.h does not hold of them. scripts/fuzz.sh builds it for AFL++, with the library's text instrumented. */
+ * linkwire.h does not hold of them. scripts/test/fuzz.sh builds it for AFL++, with the library's text instrumented. */
 #include <stdbool.h>
 #include <stdio.h>
 #include <stdlib.h>

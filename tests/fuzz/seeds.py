@@ -1,5 +1,5 @@
 #!/usr/bin/env python3
-"""Writes the seeds of scripts/fuzz.sh: seeds.py FOLDER. FOLDER/library has pairs of messages, the length of the
+"""Writes the seeds of scripts/test/fuzz.sh: seeds.py FOLDER. FOLDER/library has pairs of messages, the length of the
 first in two bytes in front; FOLDER/captures has small captures of them, as pcap and pcapng. They are some messages of
 tests/kernels that are not large, and the pairs of tests/fuzz/corpus.txt, a line of hexadecimal digits each."""
 import sys

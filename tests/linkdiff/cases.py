@@ -16,7 +16,7 @@ import sys
 import tempfile
 
 TOP = os.path.dirname(os.path.dirname(os.path.dirname(os.path.abspath(__file__))))
-sys.path.append(TOP + "/scripts")
+sys.path.append(TOP + "/scripts/test")
 from shared import attribute
 
 LATIN_1 = attribute(20, b"\xe9")

@@ -5,7 +5,7 @@
 
 LINES are files of lines as linkdump writes them, words and hexadecimal, or hexadecimal alone; else the messages are
 those that the programs linkshow and linkwire are run on, those of tests/kernels, and where KERNELS in the environment
-names a folder of archives, as scripts/kernel_truth.py reads one, each twentieth message of these. The last line of
+names a folder of archives, as scripts/test/kernel_truth.py reads one, each twentieth message of these. The last line of
 what is printed says how many there were.
 """
 

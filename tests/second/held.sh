@@ -1,7 +1,7 @@
 #!/bin/sh
 # Prints tests/second/held.txt anew, by what programs and the library answer: held.sh PROGRAMS [LIBRARY], where PROGRAMS
-# is a folder; without LIBRARY the lines of the programs alone. scripts/compilers.sh and scripts/erased_tests.sh say
-# whether builds by other compilers answer alike.
+# is a folder; without LIBRARY the lines of the programs alone. scripts/test/compilers.sh and
+# scripts/test/erased_tests.sh say whether builds by other compilers answer alike.
 set -eu
 cd "$(dirname "$0")/../.."
 programs=$1 library=${2:-}

@@ -1,0 +1,19 @@
+#!/usr/bin/env bash
+# Proves and builds the library for programs in C as one object, out/library.o, which has the code and what it calls of
+# the toolchain; its names are local, but for linkwire_*. dist/Makefile makes the libraries of it. With --built the
+# archive of the crate is there already.
+set -euo pipefail
+top=$(cd "$(dirname "$0")/../.." && pwd)
+kit=$(dirname "$(dirname "$(readlink -f "$(command -v rt)")")")
+mkdir -p "$top/out" "$top/crates/link_c/out"
+if [ "${1:-}" != --built ]; then
+    read -ra flags <<<"$(python3 "$top/scripts/make/targets.py" x86_64)"
+    "$top/scripts/make/progress.sh" link_c "$top/out/link_c.log" rt lib "${flags[@]}"
+fi
+cd "$top/out"
+# what stands there is of another object
+rm -f liblinkwire.a liblinkwire.so.0 liblinkwire.so
+[ "${1:-}" != --built ] || rm -f dist/settings
+${LD:-ld} -r -z noexecstack -o library.o \
+    --whole-archive ../crates/link_c/out/liblink_c.a --no-whole-archive "$kit/c/liblibc_c.a"
+${OBJCOPY:-objcopy} --wildcard --keep-global-symbol='linkwire_*' library.o

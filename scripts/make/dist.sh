@@ -1,0 +1,93 @@
+#!/usr/bin/env bash
+# Makes dist/ anew of what is proved, proving what is not: the texts and their sums. Standard error shows which crate is
+# at work, and standard output each verdict.
+#     dist.sh --compare NAME..    makes the texts of these in out/texts, over what the gate left, and compares
+#     dist.sh --against FOLDER NAME..   compares with those that were made
+. "$(dirname "$0")/../common.sh"
+cd "$top"
+read -ra programs <<<"$(sed -n 's/^PROGRAMS = //p' dist/Makefile)"
+mapfile -t archs < <(awk '!/^#/ { print $1 }' scripts/make/targets.txt)
+
+# verdicts NAME: what the toolchain said of the crate at last, for each processor
+verdicts() {
+    if [ "$(grep -c '^logic=proved .* target=' "$folder/log")" != "${#archs[@]}" ]; then
+        tail -n 40 "$folder/log" >&2
+        exit 1
+    fi
+    grep '^logic=proved .* target=' "$folder/log" | sed "s/^/dist: $1: /"
+}
+
+# compares FOLDER NAME
+compares() {
+    local arch
+    for arch in "${archs[@]}"; do
+        if ! cmp "dist/$arch/$2.s" "$1/$arch/$2.s" >&2; then
+            fails "dist/$arch/$2.s is not what is made of the crates: make dist makes it anew"
+        fi
+    done
+    echo "dist: $2: the texts are what is made of the crates"
+}
+
+# instructions FILE: those of an object file or archive, without their targets and what fills the space between
+instructions() {
+    objdump -d --no-show-raw-insn "$1" | awk -F '\t' '/^ *[0-9a-f]+:/ { print $2 }' |
+        sed 's/<[^>]*>//g; s/^\(j[a-z]*\|call\) .*/\1/; s/ *#.*//' | grep -v 'nop\|xchg   %ax,%ax'
+}
+
+# is_built NAME: the text for x86-64 has the instructions of what the toolchain built
+is_built() {
+    local built=crates/$1/out/lib$1.a
+    [ -e "$built" ] || built=crates/$1/out/$1.o
+    if [ "$(uname -m)" != x86_64 ]; then
+        echo "dist: $1: the instructions: skipped: this is no x86_64"
+        return
+    fi
+    ${CC:-cc} -c -o "$folder/text.o" "dist/x86_64/$1.s"
+    instructions "$built" >"$folder/built"
+    instructions "$folder/text.o" | cmp - "$folder/built" >&2
+    echo "dist: $1: $(wc -l <"$folder/built") instructions, those of the object file that the toolchain made"
+}
+
+case ${1:-} in
+--compare)
+    for name in "${@:2}"; do
+        # in one process: the gate's other scripts run beside it
+        (cd "crates/$name" && python3 "$top/scripts/make/text.py" "$top/out/texts" 1) >"$folder/log" 2>&1 ||
+            { tail -n 40 "$folder/log" >&2; exit 1; }
+        verdicts "$name"
+        compares out/texts "$name"
+        is_built "$name"
+    done
+    exit
+    ;;
+--against)
+    for name in "${@:3}"; do
+        compares "$2" "$name"
+    done
+    exit
+    ;;
+esac
+
+# a program that is new has no text yet, and sums want one
+for arch in "${archs[@]}"; do
+    mkdir -p "dist/$arch"
+    for name in link_c "${programs[@]}"; do
+        [ -e "dist/$arch/$name.s" ] || : >"dist/$arch/$name.s"
+    done
+done
+# what changes meanwhile is seen by the sums: they are taken before and after
+scripts/make/sums.sh make | grep '  crates/' >"$folder/before"
+for name in link_c "${programs[@]}"; do
+    scripts/make/progress.sh "$name" "$folder/log" python3 "$top/scripts/make/text.py" "$folder"
+    verdicts "$name"
+done
+for arch in "${archs[@]}"; do
+    rm -f "dist/$arch"/*.s
+    mv "$folder/$arch"/*.s "dist/$arch/"
+done
+scripts/make/sums.sh make >"$folder/sums"
+if ! grep '  crates/' "$folder/sums" | cmp -s - "$folder/before"; then
+    fails 'a source changed while the texts were made: run this again'
+fi
+mv "$folder/sums" dist/SUMS
+scripts/make/sums.sh check

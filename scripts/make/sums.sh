@@ -1,0 +1,179 @@
+#!/usr/bin/env bash
+# dist/SUMS: the sum of each text, of each source that the texts are made of, and of each file written by hand that a
+# build reads, for `sha256sum -c dist/SUMS`, and in comments the lines of crates.txt and the toolchain. Proofs change no
+# text, and are not in it.
+#     sums.sh make            prints it, for all as it is
+#     sums.sh written         prints it with new sums of the files written by hand, and the others as they stand there
+#     sums.sh unfit ARCH NAME..   prints the names of those texts that do not fit the tree
+#     sums.sh why ARCH NAME.. -- FILE..   prints in a line what changed first of these texts, or of these files written
+#                             by hand, and what to do; nothing where all fit
+#     sums.sh check           compares all; where rt is on the path and is not the toolchain that made them, it says so
+. "$(dirname "$0")/../common.sh"
+shopt -s inherit_errexit
+export LC_ALL=C
+cd "$top"
+sums=dist/SUMS
+names() {
+    sed -n 's/^TEXTS = //p' dist/Makefile | sed "s/\$(PROGRAMS)/$(sed -n 's/^PROGRAMS = //p' dist/Makefile)/"
+}
+archs() {
+    awk '!/^#/ { print $1 }' scripts/make/targets.txt
+}
+
+# sources CRATE..: their sums
+sources() {
+    local it folders=()
+    for it in "$@"; do
+        [ ! -d "crates/$it/src" ] || folders+=("crates/$it/src")
+    done
+    [ "${#folders[@]}" = 0 ] || find "${folders[@]}" -name '*.rt' -type f -exec sha256sum {} +
+}
+
+# what is written by hand
+hand_written() {
+    printf '%s\n' Makefile completions/* dist/*.c dist/*.in dist/*.map dist/Makefile include/*.h programs/*
+}
+
+make_sums() {
+    local all=() name arch crate
+    for name in $(names); do
+        mapfile -t -O "${#all[@]}" all < <(crates_below "$name")
+    done
+    mapfile -t all < <(printf '%s\n' "${all[@]}" | sort -u)
+    echo "# What dist/ and a build are made of: sha256sum -c dist/SUMS compares the files, scripts/make/sums.sh all."
+    echo "# toolchain $(rt version)"
+    for crate in "${all[@]}"; do
+        grep "^${crate}[: ]" crates.txt | sed 's/^/# crates.txt /'
+    done
+    sources "${all[@]}" | sort -k 2
+    for arch in $(archs); do
+        for name in $(names); do
+            sha256sum "dist/$arch/$name.s"
+        done
+    done
+    hand_written | xargs sha256sum
+}
+
+# the same, where the texts and their sources stay as they were
+make_written() {
+    sed '/^#/p; /  crates\//p; /  dist\/.*\.s$/p; d' "$sums"
+    hand_written | xargs sha256sum
+}
+
+# unfit ARCH NAME..: of each text that does not fit a line, its name and what changed. Each file is read once.
+unfit() {
+    local it all sums_now texts=()
+    for it in "$sums" crates.txt; do
+        if [ ! -e "$it" ]; then
+            printf '%s %s is missing\n' "$2" "$it"
+            [ "$#" = 2 ] || unfit "$1" "${@:3}"
+            return
+        fi
+    done
+    for it in "${@:2}"; do
+        [ ! -e "dist/$1/$it.s" ] || texts+=("dist/$1/$it.s")
+    done
+    mapfile -t all < <(sed -n 's/^# crates.txt \([a-z0-9_]*\).*/\1/p' "$sums")
+    sums_now=$(
+        sources "${all[@]}"
+        [ "${#texts[@]}" = 0 ] || sha256sum "${texts[@]}"
+    )
+    awk -v arch="$1" -v names="${*:2}" -v sums="$sums" '
+        function add(name, words, count, at) {
+            if (!(name in below) || name in is_part) return
+            is_part[name] = 1
+            parts[++parts_count] = name
+            count = split(below[name], words, " ")
+            for (at = 1; at <= count; at++) add(words[at])
+        }
+        function differs(name, text, at, folder) {
+            if (!(text in now)) return text " is missing"
+            if (!(name in below)) return sums " has no line of " name
+            split("", is_part)
+            parts_count = 0
+            add(name)
+            for (at = 1; at <= parts_count; at++)
+                if (line_now[parts[at]] != line_then[parts[at]])
+                    return "the line of " parts[at] " in crates.txt changed since dist/ was made"
+            for (at = 1; at <= files; at++) {
+                split(file[at], folder, "/")
+                if (folder[1] == "crates" && folder[2] in is_part && now[file[at]] != then[file[at]])
+                    return file[at] " changed since dist/ was made"
+            }
+            return now[text] == then[text] ? "" : text " is not the text of " sums
+        }
+        { is_comment = sub(/^# crates\.txt /, ""); name = $1; sub(/:.*/, "", name) }
+        of == "crates" { if (/^[a-z]/) line_now[name] = line_now[name] $0 "\n"; next }
+        is_comment { line_then[name] = line_then[name] $0 "\n"; sub(/^[^:]*:/, ""); below[name] = $0; next }
+        /^#/ || NF == 0 { next }
+        { sub(/^\\/, ""); sum = $1; sub(/^[^ ]*  /, "") }
+        !($0 in then) && !($0 in now) { file[++files] = $0 }
+        of == "then" { then[$0] = sum }
+        of == "now" { now[$0] = sum }
+        END {
+            count = split(names, wanted, " ")
+            for (at = 1; at <= count; at++) {
+                why = differs(wanted[at], "dist/" arch "/" wanted[at] ".s")
+                if (why != "") print wanted[at], why
+            }
+        }' of=crates crates.txt of=then "$sums" of=now - <<<"$sums_now"
+}
+
+# unfit_written FILE..: the first that does not fit, and what is wrong with it
+unfit_written() {
+    local it
+    for it in "$@"; do
+        if [ ! -e "$it" ]; then
+            echo "$it is missing"
+            return
+        fi
+    done
+    it=$(sha256sum "$@" | grep -vxFf "$sums" | sed -n '1s/^[^ ]* *//p') || true
+    [ -z "$it" ] || echo "$it is not the file of $sums"
+}
+
+# why ARCH NAME.. -- FILE..
+why() {
+    local what names=()
+    while [ "${2:---}" != -- ]; do
+        names+=("$2")
+        set -- "$1" "${@:3}"
+    done
+    what=$([ "${#names[@]}" = 0 ] || unfit "$1" "${names[@]}" | sed -n '1s/^[^ ]* //p')
+    if [ -n "$what" ]; then
+        echo "$what: make dist proves it and makes dist/ anew, PROVE=1 proves it for one build; or put the file back"
+        return
+    fi
+    what=$(unfit_written "${@:3}")
+    [ -z "$what" ] || echo "$what: make sums writes its sum anew, or put the file back"
+}
+
+check() {
+    local arch what by all files
+    read -ra all <<<"$(names)"
+    mapfile -t files < <(
+        hand_written
+        sed '/^#/d; /  crates\//d; /\.s$/d; s/^[^ ]* *//' "$sums"
+    )
+    for arch in $(archs); do
+        what=$(why "$arch" "${all[@]}" -- "${files[@]}")
+        if [ -n "$what" ]; then
+            echo "dist: $what" >&2
+            return 1
+        fi
+    done
+    by=$(sed -n 's/^# toolchain //p' "$sums")
+    if command -v rt >/dev/null && [ "$(rt version)" != "$by" ]; then
+        echo "dist: made by $by, and rt is $(rt version): make check makes the texts anew and compares them" >&2
+    fi
+    echo "dist: the sums fit"
+}
+
+case $1 in
+make) make_sums ;;
+written) make_written ;;
+unfit) unfit "${@:2}" | cut -d ' ' -f 1 ;;
+why) why "${@:2}" ;;
+check) check ;;
+*) fails "no $1" ;;
+esac

@@ -1,0 +1,332 @@
+#!/usr/bin/env python3
+"""Counts what the programs, the calls of the library for C and of the crate take for a line, and compares the numbers
+with those of tests/costs.txt.
+
+    python3 scripts/measure/costs.py [ROW..]         compares: more than two in a thousand above fails, and as much
+                                                     below
+    python3 scripts/measure/costs.py --make [ROW..]  prints the rows as they are
+
+A ROW is WHAT/WORKLOAD, as linkwire/dumps; with none all are counted. --texts FOLDER counts over other texts than those
+in dist/x86_64, and --rows FILE compares with other rows. JOBS in the environment is how many runs go side by side.
+
+It assembles the texts in a folder of its own, and reads nothing of out/, so that other scripts may build there. Where
+valgrind is not installed, or the compiler is not for x86-64, it says 'skipped'.
+
+Of the instructions those count that stand in the text, by callgrind: none of the C library, of the loader, of the
+program's start or of dist/*.c. So they are the same in each run, in any folder and environment, with any C library and
+any C compiler. What the C library copies, clears or compares is in the steps. The bytes that it asks of the system are
+glibc's, and instructions of the crate and of linkdump are those of one compiler: the head of the rows names which, and
+with another that number is passed over, which the last line says.
+"""
+
+import argparse
+import concurrent.futures
+import glob
+import os
+import pathlib
+import platform
+import re
+import shutil
+import subprocess
+import sys
+import tempfile
+
+import cost_lines
+from shared import TOP
+
+ARCH = "x86_64"
+HERE, ROWS, TEXTS = f"{TOP}/scripts/measure/costs", f"{TOP}/tests/costs.txt", f"{TOP}/dist/{ARCH}"
+CC = os.environ.get("CC", "cc").split()
+PROGRAMS = ["linkwire", "linkshow", "linkstate", "linkdiff"]
+# linkdiff of two files reads the lines of a workload before the middle, and those after it
+FILES = "linkdiff--files"
+OPTIONS = {"linkshow--lenient": ["--lenient"], "linkshow--kernel": ["--kernel", "6.16.0"],
+           "linkstate--lenient": ["--lenient"], "linkdiff--lenient": ["--lenient"],
+           "linkdiff--counters": ["--counters"], "linkdiff--changes-only": ["--changes-only"], FILES: []}
+OF_OPTIONS = ["dumps", "repeats", "events", "damaged", "settings-64", "swapped-64", "all-refused", "refused-turning",
+              "refused-64", "refused-256"]
+LIBRARY, CRATE, DUMP = "link_c", "rust", "linkdump--read"
+CALLS = ["check", "canonical_len", "canonical", "state", "same_message", "unlike_message", "same_state", "unlike_state",
+         "next", "pick", "put", "fault_at", "fault_path", "canonical_lenient_len", "canonical_lenient", "state_lenient",
+         "refusal_next", "show", "show_leniently", "diff", "diff_leniently"]
+OF_CALLS = ["dumps", "requests", "functions-300", "damaged", "names-of-three", "all-refused"]
+OF_CRATE = [f"{CRATE}_{call}" for call in ("check", "parse", "to_vec", "attributes", "view", "unchecked_view")]
+# what count.c counts, and what else the texts may call: where they call more, a cost may stand there that is not seen
+WRAPPED = {"malloc", "calloc", "realloc", "free", "memcpy", "memmove", "memset", "memcmp", "bcmp"}
+CALLED = WRAPPED | {"read", "write", "open", "close", "__sysv_signal"}
+# as dist/Makefile links a program with errno.o
+LINKED = ["-Wl,--wrap=main", "-Wl,--wrap=read", "-Wl,--wrap=write"]
+# the first three are of one line, the others of the whole run
+UNITS = ["instructions", "requests for memory", "steps of the C library", "bytes asked of the system",
+         "bytes held at most"]
+OF_A_LINE, OF_SYSTEM = 3, 3
+WRAP = [f"-Wl,--wrap={name}" for name in sorted(WRAPPED)]
+# a number is stored with two digits behind the point
+MOST, LEAST, ROUNDED = 1.002, 0.998, 0.005
+TITLE = """\
+# What may be taken at most, on x86-64. scripts/measure/costs.py compares, and `scripts/measure/costs.py --make` prints
+# the rows as they are. The columns: a program with its options, a call of the library or of the crate; a workload of
+# scripts/measure/cost_lines.py; of one line: instructions, requests for memory, and steps of what the C library copies,
+# clears or compares, eight a call and one for each 32 bytes; of the whole run: bytes that the C library asked of the
+# system for these requests, and the most bytes that were held at a time. Behind `#:` stands what these rows were made
+# by.
+"""
+
+
+def stop(why):
+    sys.exit(f"costs: {why}")
+
+
+# ** building
+
+def functions(text):
+    """The names of the functions in a text."""
+    return set(re.findall(r"^\t\.type\t([\w.$]+),@function$", text, re.M))
+
+
+def uncounted(text):
+    """What a text calls of others that nothing counts."""
+    called = set(re.findall(r"\b([A-Za-z_]\w*)@(?:PLT|GOTPCREL)", text)) - functions(text)
+    return sorted(it for it in called - CALLED if not it.startswith("rattle_"))
+
+
+def link(texts, folder, names):
+    """Builds these programs, and `calls` of the library, with what counts, and returns the functions of each text.
+
+    The C library is linked as it is by default, that is dynamically: the requests of a static one would count too.
+    """
+    own = {}
+    # without -fno-builtin a compiler may make calls of memcpy here, or leave some out
+    for source in (f"{HERE}/count.c", f"{HERE}/calls.c", f"{TOP}/dist/heap.c", f"{TOP}/dist/errno.c"):
+        subprocess.run([*CC, "-O2", "-fno-builtin", f"-I{TOP}/include", "-c", source], check=True, cwd=folder)
+    for name in sorted(names - {CRATE, DUMP}):
+        text = pathlib.Path(f"{texts}/{name}.s").read_text("utf-8")
+        if uncounted(text):
+            stop(f"{name}.s calls what nothing counts: {', '.join(uncounted(text))}")
+        own[name] = functions(text)
+        more = ["calls.o", "-o", "calls"] if name == LIBRARY else ["errno.o", *LINKED, "-o", name]
+        subprocess.run([*CC, *WRAP, f"{texts}/{name}.s", "heap.o", "count.o", *more], check=True, cwd=folder)
+    if DUMP in names:
+        link_dump(folder)
+    if CRATE in names:
+        link_crate(folder)
+    return own
+
+
+def link_dump(folder):
+    """Builds linkdump with what counts."""
+    sources = sorted(glob.glob(f"{TOP}/programs/linkdump*.c"))
+    words = ["-std=gnu11", "-D_GNU_SOURCE", "-DLINKDUMP_PCAP", "-O2", f"-I{TOP}/include", *WRAP, *sources, "count.o"]
+    subprocess.run([*CC, *words, "-lpcap", "-o", "linkdump"], check=True, cwd=folder)
+
+
+def link_crate(folder):
+    """Builds rust.rs by the crate, with what counts, as `crate`."""
+    os.mkdir(f"{folder}/{CRATE}")
+    wraps = ", ".join(f'"-Clink-arg={it}"' for it in [*WRAP, f"{folder}/count.o"])
+    for name, text in {
+        "Cargo.toml": f'[package]\nname = "crate"\nversion = "0.0.0"\nedition = "2021"\n'
+                      f'[dependencies]\nlinkwire = {{ path = "{TOP}/rust" }}\n'
+                      f'[[bin]]\nname = "crate"\npath = "{HERE}/rust.rs"\n'
+                      f'[profile.release]\nlto = "fat"\ncodegen-units = 1\n',
+        ".cargo/config.toml": f"[build]\nrustflags = [{wraps}]\n",
+    }.items():
+        os.makedirs(os.path.dirname(f"{folder}/{CRATE}/{name}"), exist_ok=True)
+        pathlib.Path(f"{folder}/{CRATE}/{name}").write_text(text, "utf-8")
+    subprocess.run(["cargo", "build", "-q", "--release", "--offline", "--target-dir", "target"], check=True,
+                   cwd=f"{folder}/{CRATE}")
+    os.rename(f"{folder}/{CRATE}/target/release/crate", f"{folder}/crate")
+
+
+# ** counting
+
+COST = re.compile(r"[+\-*\d]\S* (\d+)")
+NAME = re.compile(r"(c?fn|c?ob)=\((\d+)\)(?: (.*))?")
+
+
+def instructions(path, own, program):
+    """How many of callgrind's file are in these functions themselves; with none, in the program's own."""
+    names, total, is_own, is_call = {}, 0, False, False
+    with open(path, encoding="utf-8") as it:
+        for line in it:
+            name, cost = NAME.match(line), COST.match(line)
+            if name:
+                # a name is written out once; '2 is a function that called itself
+                known = names.setdefault((name[1][-2:], name[2]), re.sub(r"'\d+$", "", name[3] or ""))
+                if line.startswith("fn=" if own else "ob="):
+                    is_own = known in own if own else known == program
+            elif cost and not is_call and is_own:
+                total += int(cost[1])
+            # the line behind `calls=` has what the called function took
+            is_call = line.startswith("calls=")
+    return total
+
+
+def text_for(what):
+    """The text that a program or a call stands in, or what else is built for it."""
+    if what == DUMP or what in PROGRAMS:
+        return what
+    return what.partition("--")[0] if what in OPTIONS else CRATE if what in OF_CRATE else LIBRARY
+
+
+def command(folder, what, workload):
+    """How it is run, in this folder. The program is run by a name that is as long in each: it copies that name."""
+    if what in PROGRAMS or what in OPTIONS:
+        halves = [f"{workload}.before", f"{workload}.after"] if what == FILES else []
+        return [f"./{text_for(what)}", *OPTIONS.get(what, []), *halves]
+    if what == DUMP:
+        return ["./linkdump", "--read", f"{workload}.pcap"]
+    return [f"{folder}/crate" if what in OF_CRATE else "./calls", what.partition("_")[2]]
+
+
+def count(folder, what, workload, own):
+    """What a run takes, by UNITS. These are the functions of its text."""
+    of, runs = f"{folder}/{what}.{workload}", command(folder, what, workload)
+    valgrind = ["valgrind", "--tool=callgrind", f"--callgrind-out-file={of}.out", "--error-exitcode=99"]
+    valgrind += ["--toggle-collect=counted"] if what in OF_CRATE else []
+    with open(f"{folder}/{workload}.lines", "rb") as lines:
+        ran = subprocess.run([*valgrind, *runs], stdin=lines, stdout=subprocess.DEVNULL, stderr=subprocess.PIPE,
+                             check=False, cwd=folder, env={**os.environ, "COSTS": f"{of}.txt"})
+        lines.seek(0)
+        number = lines.read().count(b"\n")
+    if ran.returncode:
+        stop(f"{what} {workload}: status {ran.returncode}: {ran.stderr.decode()}")
+    numbers = [int(it) for it in pathlib.Path(f"{of}.txt").read_text("ascii").split()]
+    taken = [instructions(f"{of}.out", own, os.path.realpath(os.path.join(folder, runs[0]))), *numbers]
+    return [round(it / number, 2) for it in taken[:OF_A_LINE]] + taken[OF_A_LINE:]
+
+
+def all_rows(workloads):
+    """What is counted, each with its workload."""
+    rows = [(program, workload) for workload in workloads for program in PROGRAMS]
+    rows += [(program, workload) for workload in OF_OPTIONS for program in OPTIONS]
+    rows += [(f"linkwire_{call}", workload) for workload in OF_CALLS for call in CALLS]
+    return rows + [(call, workload) for workload in OF_CALLS for call in OF_CRATE] + [(DUMP, "events")]
+
+
+def write(folder, workloads):
+    """Writes the lines of each workload, those before and after its middle, and a capture of the announcements."""
+    for workload, text in workloads.items():
+        lines = text.splitlines(keepends=True)
+        middle = len(lines) // 2
+        for end, part in {"lines": lines, "before": lines[:middle], "after": lines[middle:]}.items():
+            with open(f"{folder}/{workload}.{end}", "wb") as it:
+                it.writelines(part)
+    with open(f"{folder}/events.pcap", "wb") as it:
+        it.write(cost_lines.capture(workloads["events"].split()))
+
+
+def counted(texts, workloads, rows):
+    """The numbers of these rows, several side by side."""
+    jobs = int(os.environ.get("JOBS", len(os.sched_getaffinity(0))))
+    with tempfile.TemporaryDirectory() as folder:
+        own = link(texts, folder, {text_for(what) for what, _ in rows})
+        write(folder, workloads)
+        with concurrent.futures.ThreadPoolExecutor(jobs) as pool:
+            runs = {row: pool.submit(count, folder, *row, own.get(text_for(row[0]), set())) for row in rows}
+            return {row: run.result() for row, run in runs.items()}
+
+
+# ** comparing
+
+def versions():
+    """What the numbers of some columns and rows depend on: the C library, and the compilers of what has no text."""
+    def said(words):
+        ran = subprocess.run(words, check=False, capture_output=True, text=True) if shutil.which(words[0]) else None
+        return ran.stdout.split("\n")[0] if ran and ran.returncode == 0 else "none"
+
+    return {"libc": " ".join(platform.libc_ver()), "cc": said([*CC, "-dumpfullversion"]),
+            "rustc": said(["rustc", "--version"]).partition(" (")[0],
+            "libpcap": said(["pkg-config", "--modversion", "libpcap"])}
+
+
+def stored(path):
+    """The rows of a file."""
+    with open(path, encoding="ascii") as it:
+        words = [line.split() for line in it if not line.startswith("#")]
+    return {(what, workload): [float(number) for number in numbers] for what, workload, *numbers in words}
+
+
+def made_by(path):
+    """The versions that a file of rows was made by."""
+    with open(path, encoding="ascii") as it:
+        return dict(line.removeprefix("#: ").strip().split("=", 1) for line in it if line.startswith("#: "))
+
+
+def passed_over(was, now):
+    """What is not compared here: rows by their program, and columns."""
+    rows = {DUMP} if was["cc"] != now["cc"] or now["libpcap"] == "none" else set()
+    rows |= set(OF_CRATE) if was["rustc"] != now["rustc"] else set()
+    return rows, {OF_SYSTEM} if was["libc"] != now["libc"] else set()
+
+
+def remarks(at_most, now, columns):
+    """What is to be said of rows that were counted, by those that are stored; these columns are passed over."""
+    for row in sorted(at_most.keys() ^ now.keys()):
+        yield f"{'/'.join(row)}: {'is not counted' if row in at_most else 'has no row'}"
+    for row in sorted(at_most.keys() & now.keys()):
+        for at, (unit, most, number) in enumerate(zip(UNITS, at_most[row], now[row])):
+            of = f"{number} {unit}{' a line' if at < OF_A_LINE else ''}"
+            if at not in columns and number > most * MOST + ROUNDED:
+                yield f"{'/'.join(row)}: {of}, and at most {most} are allowed"
+            elif at not in columns and number < most * LEAST - ROUNDED:
+                yield f"{'/'.join(row)}: {of}: lower the row, which has {most}"
+
+
+def why_skipped():
+    """Why nothing can be counted here, if so."""
+    if not shutil.which("valgrind"):
+        return "valgrind is not installed"
+    machine = subprocess.run([*CC, "-dumpmachine"], check=True, capture_output=True, text=True).stdout.strip()
+    if machine.partition("-")[0] not in (ARCH, "amd64"):
+        return f"the rows are for x86-64, and {CC[0]} compiles for {machine}"
+    return None
+
+
+def unfit():
+    """The texts of dist/ that are not those of the sources."""
+    words = ["bash", f"{TOP}/scripts/make/sums.sh", "unfit", ARCH, *PROGRAMS, LIBRARY]
+    return subprocess.run(words, check=True, capture_output=True, text=True).stdout.split()
+
+
+def arguments():
+    parser = argparse.ArgumentParser(usage="costs.py [--make] [--texts FOLDER] [--rows FILE] [WHAT/WORKLOAD ..]")
+    parser.add_argument("--make", action="store_true")
+    parser.add_argument("--texts")
+    parser.add_argument("--rows", default=ROWS)
+    parser.add_argument("wanted", nargs="*")
+    return parser.parse_args()
+
+
+def main():
+    asked = arguments()
+    skipped = why_skipped()
+    if skipped:
+        print(f"costs: skipped: {skipped}")
+        return
+    if asked.texts is None and unfit():
+        stop(f"dist/ has other texts than those of the sources ({' '.join(unfit())}): make dist makes them anew")
+    workloads = cost_lines.workloads()
+    wanted = {tuple(row.split("/")) for row in asked.wanted}
+    rows = [row for row in all_rows(workloads) if not wanted or row in wanted]
+    if wanted - set(rows):
+        stop(f"no such row: {', '.join(map('/'.join, sorted(wanted - set(rows))))}")
+    here = versions()
+    over, columns = (set(), set()) if asked.make else passed_over(made_by(asked.rows), here)
+    now = counted(os.path.abspath(asked.texts or TEXTS), workloads, [row for row in rows if row[0] not in over])
+    if asked.make:
+        print(TITLE, *(f"#: {name}={version}\n" for name, version in here.items()), sep="", end="")
+        for row, numbers in now.items():
+            print(*row, *numbers)
+        return
+    at_most = {row: numbers for row, numbers in stored(asked.rows).items()
+               if (not wanted or row in wanted) and row[0] not in over}
+    found = list(remarks(at_most, now, columns))
+    if found:
+        stop("\ncosts: ".join(found))
+    left = [*sorted(over), *(UNITS[it] for it in columns)]
+    print(f"costs: {len(now)} rows hold" + (f"; passed over, of other versions: {', '.join(left)}" if left else ""))
+
+
+if __name__ == "__main__":
+    main()

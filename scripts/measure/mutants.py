@@ -1,0 +1,388 @@
+#!/usr/bin/env python3
+"""Turns one instruction of a text in dist/ at a time, and looks whether the runs of `make self-test` tell.
+
+    mutants.py NAME [--count N] [--seed N] [--jobs N] [--least PERCENT] [--list]
+
+NAME is a program, or link_c for the library's calls. A conditional jump or move is turned round or moved by one, or a
+number is changed by one, in the file that is built of the text. A copy of the text in which each such place leaves a
+mark says first which runs come to it: a mutant runs those alone. It is told where an answer differs, or the program
+fails, or takes eight times as much of the processor's time. One that no run can tell is alike: tests/second/alike.txt
+has patterns of those, with reasons. With --least it fails where fewer than so many of a hundred are told, of those that
+are executed and not alike; --list prints what becomes of each. edits/mutants.md has scores, and what else is kept. It
+uses what `make build` leaves in out/."""
+import argparse
+import collections
+import functools
+import multiprocessing
+import os
+import random
+import re
+import resource
+import subprocess
+import sys
+import tempfile
+from pathlib import Path
+from typing import NamedTuple
+
+TOP = Path(__file__).resolve().parents[2]
+ROUND = {}
+for one, other in (("e", "ne"), ("b", "ae"), ("a", "be"), ("l", "ge"), ("g", "le"), ("s", "ns")):
+    for word in ("j", "set", "cmov"):
+        ROUND[word + one], ROUND[word + other] = word + other, word + one
+BY_ONE = {"jb": "jbe", "jbe": "jb", "ja": "jae", "jae": "ja", "jl": "jle", "jle": "jl", "jg": "jge", "jge": "jg"}
+# as dist/Makefile links a program
+WRAPS = [f"-Wl,--wrap={name}" for name in ("main", "read", "write")]
+# keeps marks in the file that SEEN names, and how much was written; what is written has to be what HELD has
+WATCH = """#define _GNU_SOURCE
+#include <fcntl.h>
+#include <stdio.h>
+#include <stdlib.h>
+#include <string.h>
+#include <sys/mman.h>
+#include <sys/stat.h>
+#include <sys/syscall.h>
+#include <unistd.h>
+_Alignas(4096) char mutants_seen[1 << 20];
+static size_t *written = (size_t *)mutants_seen, held_len;
+static char *held;
+static ssize_t take(void *of, const char *from, size_t len) {
+    (void)of;
+    if (*written + len > held_len || memcmp(held + *written, from, len) != 0)
+        _exit(98);
+    *written += len;
+    return (ssize_t)len;
+}
+ssize_t write(int file, const void *from, size_t len) {
+    return held ? take(0, from, len) : syscall(SYS_write, file, from, len);
+}
+__attribute__((constructor)) static void keep(void) {
+    struct stat it;
+    int seen = open(getenv("SEEN"), O_RDWR), file = open(getenv("HELD"), O_RDONLY);
+    if (mmap(mutants_seen, sizeof mutants_seen, PROT_READ | PROT_WRITE, MAP_SHARED | MAP_FIXED, seen, 0) == MAP_FAILED)
+        abort();
+    if (file < 0 || fstat(file, &it) != 0)
+        return;
+    held_len = (size_t)it.st_size;
+    held = held_len ? mmap(NULL, held_len, PROT_READ, MAP_PRIVATE, file, 0) : "";
+    stdout = fopencookie(NULL, "w", (cookie_io_functions_t){.write = take});
+}
+"""
+WRITTEN = 8  # bytes in front of the marks
+
+
+# calls the program of a test by its name, or that of the lines
+DRIVER = """#include <string.h>
+int lines_main(int, char **);
+#define TEST(name) int name##_main(int, char **);
+%(tests)s
+#undef TEST
+#define TEST(name) if (strcmp(words[1], #name) == 0) return name##_main(1, words + 1);
+int main(int count, char **words) {
+%(tests)s
+    return lines_main(count, words);
+}
+"""
+
+
+class Run(NamedTuple):
+    """Words of the program, the file it reads, and the file it writes to if it is not looked at."""
+
+    words: tuple = ()
+    reads: str = "/dev/null"
+    writes: str = ""
+
+
+def words():
+    parser = argparse.ArgumentParser()
+    parser.add_argument("name", choices=("linkwire", "linkstate", "linkshow", "linkdiff", "link_c"))
+    parser.add_argument("--count", type=int, default=40)
+    parser.add_argument("--seed", type=int, default=7)
+    parser.add_argument("--jobs", type=int, default=2)
+    parser.add_argument("--least", type=int)
+    parser.add_argument("--list", action="store_true")
+    return parser.parse_args()
+
+
+# ** mutants
+
+def turned(word):
+    """The opposite of a jump, a set or a move on a condition, which may have the letter of a size at its end."""
+    base = re.fullmatch(r"(cmov\w+?)([qlw]?)", word)
+    if word in ROUND:
+        return ROUND[word]
+    return ROUND[base[1]] + base[2] if base and base[1] in ROUND else None
+
+
+def sites(text):
+    """Where a text can be changed: the line, how, and the function it is in."""
+    found, function = [], None
+    for at, line in enumerate(text):
+        if label := re.match(r"([A-Za-z_][^ :\t]*):", line):
+            function = label[1]
+        word = (line.split() or [""])[0]
+        if turned(word):
+            found.append((at, "turned", function))
+        if word in BY_ONE:
+            found.append((at, "by one", function))
+        if re.search(r"\$-?\d+", line) and not word.startswith("."):
+            found.append((at, "a number", function))
+    return found
+
+
+def changed(line, how, chance):
+    word = line.split()[0]
+    if how == "turned":
+        return line.replace(word, turned(word), 1)
+    if how == "by one":
+        return line.replace(word, BY_ONE[word], 1)
+    number = re.search(r"\$(-?\d+)", line)
+    return f"{line[:number.start()]}${int(number[1]) + chance.choice((-1, 1))}{line[number.end():]}"
+
+
+def said(text, at, new, function):
+    return f"{function}: {at + 1}: {' '.join(text[at].split())} -> {' '.join(new.split())}"
+
+
+def around(name, text, at, new, function):
+    """A place as patterns of tests/second/alike.txt have it: its text, its function without the sum behind the name,
+    four instructions or labels in front, what becomes of which, and four behind; without names of labels and
+    registers."""
+    def plain(line):
+        line = re.sub(r"\.LBB\d+_\d+|\.LJTI\d+_\d+", ".L", " ".join(line.split()))
+        return re.sub(r"%[a-z]\w*", "%", line)
+
+    def near(step):
+        found, it = [], at + step
+        while len(found) < 4 and 0 <= it < len(text):
+            if text[it].strip() and not re.match(r"\t\.", text[it]):
+                found.append(plain(text[it]))
+            it += step
+        return found
+    function = re.sub(r"\.[0-9a-f]{16}(\.\d+)?$", "", function or "")
+    return "; ".join([f"{name} {function}: ", *near(-1)[::-1], f"[{plain(text[at])} -> {plain(new)}]", *near(1)])
+
+
+def alike():
+    """The patterns of tests/second/alike.txt, in which * is anything, and {a,b} one of the two."""
+    rows = (TOP / "tests/second/alike.txt").read_text().splitlines()
+    found = [re.escape(row.strip()).replace("\\*", ".*") for row in rows if row.startswith("  ")]
+    return re.compile("|".join(re.sub(r"\\{(.*?)\\}", lambda it: f"(?:{it[1].replace(',', '|')})", it) for it in found))
+
+
+# ** what is built, and run
+
+def compiles(*command):
+    return subprocess.run(["cc", *map(str, command)], capture_output=True, check=False).returncode == 0
+
+
+def build(name, folder, text, to):
+    """What is run of a text, at the path `to`; false where it does not assemble."""
+    Path(f"{to}.s").write_text("\n".join(text))
+    made = TOP / "out/dist"
+    more = (*Path(folder).glob("test.*.o"),) if name == "link_c" else (*WRAPS, made / "errno.o")
+    return compiles("-c", "-o", f"{to}.o", f"{to}.s") and compiles("-o", to, f"{to}.o", made / "heap.o",
+                                                                  f"{folder}/watch.o", *more)
+
+
+def prepare(name, folder):
+    """The lines, and the programs that call the library as one."""
+    compiler = ["-std=gnu11", "-O2", f"-I{TOP}/include"]
+    compiles(*compiler, "-DLINES_ALONE", "-o", f"{folder}/lines", TOP / "tests/second/lines.c")
+    for it in ("all", "digits", "news", "more", "changes"):
+        with open(f"{folder}/{it}", "wb") as to:
+            subprocess.run([f"{folder}/lines", it], stdout=to, check=True, cwd=TOP)
+    subprocess.run(["split", "-d", "-n", f"l/{PARTS}", f"{folder}/all", f"{folder}/all."], check=True)
+    Path(f"{folder}/watch.c").write_text(WATCH)
+    compiles("-c", "-O2", "-o", f"{folder}/watch.o", f"{folder}/watch.c")
+    if name == "linkdiff":
+        lines = (TOP / "tests/second/streams.txt").read_bytes().splitlines(True)
+        for it, part in ("old", lines[:450]), ("new", lines[450:]):
+            Path(f"{folder}/{it}").write_bytes(b"".join(part))
+    if name == "link_c":
+        Path(f"{folder}/driver.c").write_text(DRIVER % {"tests": "".join(f"TEST({it})\n" for it in TESTS)})
+        compiles("-c", "-o", f"{folder}/test.driver.o", f"{folder}/driver.c")
+        for it in TESTS:
+            compiles(*compiler, f"-Dmain={it}_main", "-c", "-o", f"{folder}/test.{it}.o", TOP / f"tests/c/{it}.c")
+        compiles(*compiler, "-Dmain=lines_main", "-c", "-o", f"{folder}/test.lines.o", TOP / "tests/second/lines.c")
+
+
+PARTS = 8  # of the lines: a mutant runs those that come to it
+# without `memory`, whose malloc would be that of all tests
+TESTS = "calls", "lenient", "lists", "shown", "sizes", "state", "writer"
+
+
+@functools.lru_cache
+def runs(name, folder):
+    """What `make self-test` runs of a program, or of the library, the short ones first."""
+    if name == "link_c":
+        return [Run(tuple(it.split())) for it in (*TESTS, "more calls", "more held", "all calls", "all held")]
+    said = [line.split(" ")[2:] for line in (TOP / "tests/program/said.txt").read_text().split("\n")
+            if line.startswith(f"$ {name} ")]
+    short = [Run((), str(TOP / f"crates/{name}/stdin")), Run(("--version",)), Run((), f"{folder}/digits", "/dev/full")]
+    parts = ["more", "digits", *(f"all.{it:02}" for it in range(PARTS))]
+    long = {"linkwire": [("", it) for it in parts],
+            "linkstate": [(given, it) for given in ("", "--lenient") for it in parts],
+            "linkshow": [*(("", it) for it in parts),
+                         *(("--lenient --kernel 6.12.0", it) for it in parts if it != "digits")],
+            "linkdiff": [*((given, it) for given in ("", "--counters --lenient") for it in ("changes", "news")),
+                         ("--changes-only", "news")]}
+    if name == "linkdiff":
+        streams, files = str(TOP / "tests/second/streams.txt"), (f"{folder}/old", f"{folder}/new")
+        each = (), ("--lenient",), ("--counters",), ("--counters", "--lenient")
+        short += [Run(it, streams) for it in (*each, ("--changes-only",), ("--changes-only", "--lenient"))]
+        short += [Run((*it, *files)) for it in each]
+    return [*short, *(Run(tuple(it), str(TOP)) for it in said),
+            *(Run(tuple(given.split()), f"{folder}/{made}") for given, made in long[name])]
+
+
+def run(it, to, held, most=60):
+    """Runs the program for so many seconds of the processor's time at most: its status, and how much it wrote, where
+    HELD has all that it may write."""
+    def limits():
+        for what, limit in (resource.RLIMIT_CPU, most), (resource.RLIMIT_AS, 3 << 30), (resource.RLIMIT_CORE, 0):
+            resource.setrlimit(what, (limit, limit))
+    with open(f"{to}.seen", "wb") as seen:
+        seen.truncate(1 << 20)
+    source = os.open(it.reads, os.O_RDONLY)
+    with open(it.writes or (os.devnull if held else f"{to}.out"), "wb") as out:
+        status = subprocess.run([to, *it.words], stdin=source, stdout=out, stderr=subprocess.STDOUT, cwd=TOP,
+                                check=False, preexec_fn=limits, env={"SEEN": f"{to}.seen", "HELD": held}).returncode
+    os.close(source)
+    with open(f"{to}.seen", "rb") as seen:
+        return status, int.from_bytes(seen.read(WRITTEN), "little"), b"" if held else seen.read()
+
+
+class Wanted(NamedTuple):
+    """What a run of the text as it is comes to: its status, the seconds it may take, and which lines it executes."""
+
+    status: int
+    most: int
+    there: set
+
+
+def is_told(name, folder, to, place, wanted):
+    """Whether a run that comes to a place ends otherwise, or writes something else, than the text as it is."""
+    for at, (it, want) in enumerate(zip(runs(name, folder), wanted)):
+        if place in want.there:
+            held = "" if it.writes else f"{folder}/wanted{at}"
+            status, written, _ = run(it, to, held, want.most)
+            if status != want.status or held and written != os.path.getsize(held):
+                return True
+    return False
+
+
+def answers(name, folder, text, lines):
+    """Keeps what each run writes, and which of these lines it executes."""
+    marked, last, wanted, to = [], 0, [], f"{folder}/marked"
+    for number, at in enumerate(lines):
+        marked += [*text[last:at], f"\tmovb $1, mutants_seen+{WRITTEN + number}(%rip)"]
+        last = at
+    if not build(name, folder, marked + text[last:], to):
+        sys.exit(f"mutants: {name}: the text with marks does not assemble")
+    for at, it in enumerate(runs(name, folder)):
+        before = resource.getrusage(resource.RUSAGE_CHILDREN).ru_utime
+        status, _, seen = run(it, to, "")
+        took = resource.getrusage(resource.RUSAGE_CHILDREN).ru_utime - before
+        if not it.writes:
+            os.rename(f"{to}.out", f"{folder}/wanted{at}")
+        wanted.append(Wanted(status, 1 + int(8 * took), {line for mark, line in zip(seen, lines) if mark}))
+    return wanted
+
+
+def labels(path):
+    rows = subprocess.run(["nm", path], capture_output=True, check=True, text=True).stdout.split("\n")
+    return {row.split()[2]: int(row.split()[0], 16) for row in rows if re.search(r" m\d+\.\d$", row)}
+
+
+def patches(name, folder, text, work):
+    """Builds the text as it is, and returns by number of a mutant which bytes of that file are other ones in it; none
+    for one whose instruction has another length."""
+    path, marked, to = f"{folder}/each", list(text), f"{folder}/plain"
+    for at in {at for _, at, _ in work}:
+        marked[at] = f"m{at}.0:\n{text[at]}\nm{at}.1:"
+    build(name, folder, marked, to)
+    Path(f"{path}.s").write_text("".join(
+        f"m{number}.0:\n{text[at]}\nm{number}.1:\n{new}\nm{number}.2:\n" for number, at, new in work))
+    compiles("-c", "-o", f"{path}.o", f"{path}.s")
+    subprocess.run(["objcopy", "-O", "binary", "-j", ".text", f"{path}.o", path], check=True)
+    code, here, there, found = Path(path).read_bytes(), labels(f"{path}.o"), labels(to), {}
+    sections = subprocess.run(["readelf", "-SW", to], capture_output=True, check=True, text=True).stdout
+    base = [int(it, 16) for it in re.search(r" \.text +PROGBITS +(\w+) (\w+)", sections).groups()]
+    for number, at, _ in work:
+        old, new, end = (here[f"m{number}.{it}"] for it in range(3))
+        start, length = there[f"m{at}.0"] - base[0] + base[1], there[f"m{at}.1"] - there[f"m{at}.0"]
+        if new - old != end - new:
+            continue
+        # a jump of two bytes has its condition in the first; alone it is a long one
+        short = 1 if length == 2 and new - old == 6 else 0
+        found[number] = [(start + it - short, code[new + it] - code[old + it]) for it in range(new - old)
+                         if code[new + it] != code[old + it]]
+    return found
+
+
+def attempt(name, folder, text, wanted, patch, work):
+    number, at, new = work
+    to = f"{folder}/{number}"
+    if number in patch:
+        made = bytearray(Path(f"{folder}/plain").read_bytes())
+        for place, more in patch[number]:
+            made[place] = (made[place] + more) % 256
+        Path(to).write_bytes(made)
+        Path(to).chmod(0o755)
+    elif not build(name, folder, [*text[:at], new, *text[at + 1:]], to):
+        return "not built"
+    result = "told" if is_told(name, folder, to, at, wanted) else "kept"
+    for it in ("", ".s", ".o", ".seen"):
+        Path(to + it).unlink(missing_ok=True)
+    return result
+
+
+def main():
+    given = words()
+    os.chdir(TOP)
+    if os.uname().machine != "x86_64":
+        print("mutants: skipped: the texts that are changed are for x86_64")
+        return
+    name = given.name
+    text = Path(f"dist/x86_64/{name}.s").read_text().split("\n")
+    chance = random.Random(given.seed)
+    picked = chance.sample(sites(text), given.count)
+    with tempfile.TemporaryDirectory() as folder:
+        prepare(name, folder)
+        wanted = answers(name, folder, text, sorted({at for at, *_ in picked}))
+        there = set().union(*(it.there for it in wanted))
+        pattern, results, work, places = alike(), collections.Counter(), [], {}
+        for number, (at, how, function) in enumerate(picked):
+            new = changed(text[at], how, random.Random(chance.random()))
+            what = said(text, at, new, function)
+            if at in there:
+                work.append((number, at, new))
+                places[number] = what, pattern.search(around(name, text, at, new, function))
+                continue
+            results["never executed"] += 1
+            if given.list:
+                print(f"mutants: {name}: never executed: {what}")
+        patch = patches(name, folder, text, work)
+        with multiprocessing.Pool(given.jobs) as pool:
+            tried = pool.imap(functools.partial(attempt, name, folder, text, wanted, patch), work)
+            for (number, *_), found in zip(work, tried):
+                what, fits = places[number]
+                results["told, and fits"] += bool(fits) and found == "told"
+                found = "alike" if fits and found == "kept" else found
+                results[found] += 1
+                if given.list:
+                    print(f"mutants: {name}: {found}: {what}", flush=True)
+    tell(given, results)
+
+
+def tell(given, results):
+    told, kept = results["told"], results["kept"]
+    print(f"mutants: {given.name}: seed {given.seed}: {told} of the {told + kept} that are executed and not alike are "
+          f"told; {results['alike']} are alike, and {results['told, and fits']} of the told fit a pattern of those; "
+          f"{results['never executed']} are never executed, {results['not built']} do not assemble")
+    if given.least is not None and told * 100 < given.least * (told + kept):
+        sys.exit(f"mutants: {given.name}: fewer than {given.least} of a hundred are told")
+
+
+if __name__ == "__main__":
+    main()

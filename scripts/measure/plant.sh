@@ -1,0 +1,26 @@
+#!/usr/bin/env bash
+# Lists wrong bodies that a crate's contracts let through, by `rt plant`, and adds what it printed to edits/plants.md
+# with the commit: plant.sh [--minutes N] [CRATE..]. Without names it takes every crate with contracts. Bodies that the
+# time did not reach are counted there as not run.
+. "$(dirname "$0")/../common.sh"
+cd "$top"
+minutes=10
+if [ "${1:-}" = --minutes ]; then
+    minutes=$2
+    shift 2
+fi
+crates=("$@")
+[ "${#crates[@]}" != 0 ] || crates=(nla_wire link_vals link_recs link_vfrec link_nest link_vf link_afspec link_msg
+    link_state link_info link_c line_filter message_lines shown message_shown message_diff expected linkwire linkstate
+    linkshow linkdiff)
+for crate in "${crates[@]}"; do
+    (cd "crates/$crate" && rt plant --minutes "$minutes") >"$folder/log" 2>&1 || true
+    {
+        echo
+        echo "## $crate at $(git rev-parse --short HEAD), $minutes minutes"
+        printf '\n```text\n'
+        grep -E '^(proves|no-ensures|untested|plants) ' "$folder/log" || tail -n 5 "$folder/log"
+        printf '```\n'
+    } >>edits/plants.md
+    tail -n 1 "$folder/log"
+done

@@ -1,0 +1,35 @@
+#!/usr/bin/env bash
+# Packs the archive of a release, out/linkwire-VERSION.tar.gz, of what dist/ has, and prints where it is: the texts,
+# what builds and tests them, the pages and the crate in rust/, and no crates of Rattle. It has the same bytes each
+# time, and says the date of the newest version.
+. "$(dirname "$0")/../common.sh"
+cd "$top"
+scripts/make/sums.sh check >/dev/null
+version=$(sed -n 's/^#define LINKWIRE_VERSION "\(.*\)"$/\1/p' include/linkwire.h)
+date=${SOURCE_DATE_EPOCH:-$(date -ud "$(sed -n 's/^## \[[0-9.]*\] - //p' CHANGELOG.md | head -n 1)" +%s)}
+name=linkwire-$version
+to=$folder/$name
+mkdir -p "$to/tests" out
+cp README.md LICENSE CHANGELOG.md "$to"
+echo 'include dist/Makefile' >"$to/Makefile"
+cp -r completions dist docs examples include man programs rust "$to"
+rm -rf "$to"/rust/target "$to"/rust/*/target
+mkdir -p "$to/python/linkwire" "$to/python/linkwatch"
+cp python/*.py python/*.toml "$to/python"
+cp python/linkwire/*.py python/linkwire/py.typed "$to/python/linkwire"
+cp python/linkwatch/*.py "$to/python/linkwatch"
+cp -r tests/c tests/self_test.sh "$to/tests"
+mkdir "$to/tests/second"
+cp tests/second/lines.c tests/second/streams.sh tests/second/*.txt "$to/tests/second"
+mkdir "$to/tests/program"
+cp tests/program/said.* "$to/tests/program"
+read -ra programs <<<"$(sed -n 's/^PROGRAMS = //p' dist/Makefile)"
+for program in "${programs[@]}"; do
+    mkdir "$to/tests/$program"
+    for it in stdin stdout args status data; do
+        [ ! -e "crates/$program/$it" ] || cp -r "crates/$program/$it" "$to/tests/$program"
+    done
+done
+tar --format=ustar --sort=name --owner=0 --group=0 --numeric-owner --mode=u=rwX,go=rX --mtime="@$date" \
+    -C "$folder" -c "$name" | gzip -9n >"out/$name.tar.gz"
+echo "$PWD/out/$name.tar.gz"

@@ -1,0 +1,54 @@
+#!/usr/bin/env python3
+"""Compares each place that has a version, or the number of a form, with include/linkwire.h, which says what they are,
+and each that names the toolchain with dist/SUMS.
+
+    python3 scripts/release/version.py
+
+The places are those of versions.txt. One that has another version, or none, is printed as 'FILE: CONSTANT is FOUND, not
+WANTED', and the exit status is then 1. What is made of the header, as linkwire.pc, has no number of its own, and is not
+looked at.
+"""
+
+import fnmatch
+import os
+import re
+import subprocess
+import sys
+
+sys.path.append(f"{os.path.dirname(os.path.dirname(os.path.abspath(__file__)))}/test")
+from shared import TOP, table
+
+HEADER, SUMS = "include/linkwire.h", "dist/SUMS"
+PLACES = [(files, constant, re.compile(form, re.M))
+          for _, (files, constant, form) in table("scripts/release/versions.txt")]
+# a program that says its version, anywhere but in what tells of older ones
+ANYWHERE = re.compile(r"\blink(?:wire|show|state|dump|diff|watch)[ -]v?(\d+\.\d+\.\d+)")
+OLDER = {"CHANGELOG.md", "docs/DECISIONS.md"}
+
+
+def read(file):
+    with open(f"{TOP}/{file}", encoding="utf-8", errors="replace") as it:
+        return it.read()
+
+
+def main():
+    wanted = dict(re.findall(r'^#define LINKWIRE_(\w+) "?([\d.]+)"?$', read(HEADER), re.M))
+    wanted["TOOLCHAIN"] = re.search(r"^# toolchain (.*)$", read(SUMS), re.M)[1]
+    listed = subprocess.run(["git", "ls-files"], cwd=TOP, check=True, capture_output=True, text=True, timeout=60).stdout
+    texts = {it: read(it) for it in listed.splitlines() if os.path.isfile(f"{TOP}/{it}") and not it.endswith(".s")}
+    places = [(file, constant, form.findall(texts.get(file, "")) or ["none"])
+              for files, constant, form in PLACES for file in fnmatch.filter(texts, files) or [files]]
+    places += [(file, "VERSION", ANYWHERE.findall(text)) for file, text in texts.items() if file not in OLDER]
+    wrong = {f"{file}: {constant} is {it}, not {wanted[constant]}"
+             for file, constant, found in places for it in found if it != wanted[constant]}
+    for it in sorted(wrong):
+        print(it)
+    if wrong:
+        return 1
+    count = sum(len(found) for *_, found in places)
+    print(f"version: {count} places are as {HEADER} and {SUMS} have it: {wanted['VERSION']}")
+    return 0
+
+
+if __name__ == "__main__":
+    sys.exit(main())

@@ -1,0 +1,81 @@
+#!/usr/bin/env python3
+"""Holds linkdiff to told.py of tests/second, a model of docs/LINKDIFF.md, over messages of kernels.
+
+    python3 scripts/test/diff_tests.py LINKDIFF LINKSHOW [COUNT]
+
+The lines are made: messages of tests/state/pairs.txt, beside themselves, beside the other one of their pair, which has
+the same state, and with attributes that are changed, renamed, moved, dropped and added. COUNT says how many are made.
+Words in front of a line are told as linkshow tells them.
+"""
+import random
+import sys
+
+from shared import HEADER_SIZE, TOP, answers, attribute, compare, frames, said
+from state_tests import pairs
+
+sys.path.append(f"{TOP}/tests/second")
+import told
+
+
+def compare_words(linkdiff, linkshow):
+    """Tells as linkshow does the words of lines that are no messages: texts, what JSON escapes, and no UTF-8."""
+    rng = random.Random(8)
+    pieces = [b"a", b"9", b"=", b'"', b"\\", b"/", b"\0", b"\1", b"\b", b"\f", b"\r", b"\x1f", b"\x7f", b"\xc3",
+              b"\xff", "\u00e9".encode(), "\u2028".encode(), "\U0001f517".encode()]
+    lines = [b"".join(key + b"=" + b"".join(rng.choices(pieces, k=rng.randrange(5))) + b" "
+                      for key in (b"type", b"time", b"host")) + b"00" for _ in range(1000)]
+    compare("diff_tests: words", lines, answers(linkdiff, lines), answers(linkshow, lines))
+    print(f"diff_tests: the words of {len(lines)} lines as linkshow tells them")
+
+
+def altered(rng, message):
+    """Returns the message with a few attributes changed, dropped, moved or added, and its flags perhaps."""
+    header, found = bytearray(message[:HEADER_SIZE]), [(kind, it) for _, kind, it in frames(message)[0]]
+    for _ in range(rng.choice([0, 1, 1, 2, 3])):
+        at = rng.randrange(len(found)) if found else 0
+        way = rng.choice(["drop", "number", "move", "flags", "name", "add"])
+        if way == "drop" and found:
+            del found[at]
+        elif way == "number" and found and len(found[at][1]) in (1, 4):
+            found[at] = (found[at][0], bytes([rng.randrange(2)]) + found[at][1][1:])
+        elif way == "move" and found:
+            found.append(found.pop(at))
+        elif way == "flags":
+            header[8] ^= 1 << rng.randrange(8)
+        elif way == "name":
+            found = [(k, b"renamed\0") if k == 3 else (k, p) for k, p in found]
+        elif way == "add":
+            found.append(rng.choice([(4, b"\xdc\5\0\0"), (20, b"text\0"), (35, bytes(4)), (35, b"\1\0\0\0"),
+                                     (23, bytes(200)), (7, bytes(96)), (300, b"\1\2\3")]))
+    return bytes(header) + b"".join(attribute(*it) for it in found)
+
+
+def changed(linkdiff, linkshow, messages, *options):
+    """Holds what is told of two messages each, of a host of its own, to the model; returns how many changed."""
+    digits = [[it.hex().encode() for it in pair] for pair in messages]
+    known = told.messages(linkshow, options, [it for pair in digits for it in pair], [None])
+    model = told.Model(options)
+    lines = [b"host=h%d %s" % (at, it) for at, pair in enumerate(digits) for it in pair]
+    wanted = [text.encode() for line in lines for text in model.take(told.Line(line, known))]
+    found = said(linkdiff, lines, *options)
+    compare(f"diff_tests: {' '.join(options)}", found, found, wanted)
+    return sum(b'"change":"changed"' in it for it in found)
+
+
+def main(linkdiff, linkshow, count="300"):
+    rng, stored = random.Random(7), pairs()
+    compare_words(linkdiff, linkshow)
+    if changed(linkdiff, linkshow, [pair for _, *pair in stored]):
+        sys.exit("diff_tests: a pair of one state changed, and nobody touched it")
+    moved = changed(linkdiff, linkshow, [pair for _, *pair in stored], "--counters")
+    if changed(linkdiff, linkshow, [(one, one) for _, one, _ in stored], "--counters"):
+        sys.exit("diff_tests: a message changed beside itself")
+    print(f"diff_tests: {len(stored)} pairs of one state, of which nothing is told; with --counters {moved} differ")
+    made = [(one, altered(rng, other)) for _, one, other in rng.choices(stored, k=int(count))]
+    for options in (), ("--counters",), ("--lenient",), ("--lenient", "--counters"):
+        different = changed(linkdiff, linkshow, made, *options)
+        print(f"diff_tests: {' '.join([*options, count])} altered messages, of which {different} differ: ok")
+
+
+if __name__ == "__main__":
+    main(*sys.argv[1:])

@@ -1,0 +1,167 @@
+#!/usr/bin/env bash
+# Builds copies of the tree from dist/ alone, with the toolchain off the path and hidden by a mount where that is
+# allowed, and runs them: here, under qemu-aarch64, on an old processor by qemu-x86_64, statically with musl, from the
+# archive of a release and from Debian's packages. What is not installed is 'skipped'. The last line is 'dist passed'.
+self=dist
+. "$(dirname "$0")/../common.sh"
+if [ -z "$inside" ]; then
+    rt=$(command -v rt || true)
+    mkdir "$folder/empty"
+    copies_tree "$folder/tree"
+    command=("$0" --inside "$folder")
+    if [ -n "$rt" ]; then
+        hidden="mount --bind '$folder/empty' '$(dirname "$(dirname "$(readlink -f "$rt")")")'"
+        if unshare -rm sh -c "$hidden" 2>/dev/null; then
+            command=(unshare -rm sh -c "$hidden && exec \"\$@\"" sh "${command[@]}")
+        else
+            echo 'dist: the toolchain hidden by a mount: skipped: it is not allowed here'
+        fi
+    fi
+    "${command[@]}"
+    exit
+fi
+if command -v rt >/dev/null; then
+    fails 'rt is in reach'
+fi
+cd "$folder/tree"
+read -ra programs <<<"$(sed -n 's/^PROGRAMS = //p' dist/Makefile)"
+
+# has WHAT COMMAND..: whether these are installed, else it says that WHAT is skipped
+has() {
+    local it
+    for it in "${@:2}"; do
+        command -v "$it" >/dev/null || { echo "dist: $1: skipped: no $it"; return 1; }
+    done
+}
+
+# tests WHAT: the tests of what was built, of which one line is left
+tests() {
+    if ! sh tests/self_test.sh "${programs[@]}" >"$folder/log" 2>&1; then
+        cat "$folder/log" >&2
+        fails "$1 fails"
+    fi
+    grep skipped "$folder/log" | sed "s/^/dist: $1: /" || true
+    echo "dist: $1: $(grep -c 'stored run' "$folder/log") stored runs, ${TESTS:-all tests of tests/c}: ok"
+}
+
+# dumps WHAT COMMAND..: linkdump runs, and without libpcap it reads no captures
+dumps() {
+    "${@:2}" --version | grep -qx "linkdump $(sed -n 's/^#define LINKWIRE_VERSION "\(.*\)"$/\1/p' include/linkwire.h)"
+    local status=0
+    "${@:2}" --read x 2>"$folder/log" || status=$?
+    [ "$status $(cat "$folder/log")" = '1 linkdump: x: this linkdump is built without libpcap, and reads no captures' ]
+    echo "dist: $1: linkdump: ok"
+}
+
+# another NAME: goes to a copy of the tree in which nothing is built
+another() {
+    mkdir "$folder/$1"
+    cp -r "$folder/tree/." "$folder/$1"
+    cd "$folder/$1"
+    rm -rf out
+}
+few='calls lists memory laws'
+
+answer=$(echo 00000000000000000000000000000000060003006c6f | make -s run)
+[ "$answer" = 'ok 00000000000000000000000000000000070003006c6f0000' ]
+make -s build lib >/dev/null
+tests here
+# hardens WHAT FOLDER [LIBRARY]
+hardens() {
+    scripts/test/hardened.sh "${@:2}" >/dev/null
+    echo "dist: $1: hardened: ok"
+}
+hardens here out
+if has 'files that do not block, page faults' python3; then
+    python3 tests/program/waits.py out "${programs[@]}" | sed 's/^/dist: /'
+    python3 tests/program/faults.py out "${programs[@]}" | sed 's/^/dist: /'
+fi
+scripts/test/laws.sh out/liblinkwire.a 50000 | sed 's/^/dist: sanitizers: /'
+python3 scripts/test/readme.py out/liblinkwire.a out
+scripts/test/test_install.sh
+
+if [ "$(uname -m)" != x86_64 ]; then
+    echo 'dist: on an old processor: skipped: no x86_64'
+elif has 'on an old processor' qemu-x86_64; then
+    RUN='qemu-x86_64 -cpu Conroe' TESTS=$few tests 'on an old processor'
+fi
+if has 'with musl, statically' musl-gcc; then
+    another musl
+    # the kernel's headers, after musl's own
+    kernel="-O1 -idirafter /usr/include -idirafter /usr/include/$(cc -dumpmachine)"
+    make -s CC=musl-gcc CFLAGS="$kernel" LDFLAGS=-static PCAP= all
+    CC=musl-gcc CFLAGS=$kernel LDFLAGS=-static TESTS=$few tests 'with musl, statically'
+    dumps 'with musl, statically' out/linkdump
+fi
+gnu=aarch64-linux-gnu
+if has aarch64 qemu-aarch64 $gnu-gcc $gnu-ld $gnu-objcopy $gnu-ar; then
+    another aarch64
+    make -s CC=$gnu-gcc LD=$gnu-ld OBJCOPY=$gnu-objcopy AR=$gnu-ar PCAP= all
+    CC=$gnu-gcc RUN="qemu-aarch64 -L /usr/$gnu" TESTS=$few tests aarch64
+    hardens aarch64 out
+    dumps aarch64 qemu-aarch64 -L /usr/$gnu out/linkdump
+fi
+
+another archive
+file=$(scripts/release/archive.sh)
+cp "$file" "$folder/first"
+scripts/release/archive.sh >/dev/null
+cmp "$file" "$folder/first"
+tar -xf "$file" -C "$folder"
+cd "$folder/$(basename "$file" .tar.gz)"
+make -s install DESTDIR="$folder/stage"
+make -s uninstall DESTDIR="$folder/stage"
+[ -z "$(find "$folder/stage" ! -type d)" ]
+if has 'the archive: the package for Python' python3; then
+    python3 -B python/backend.py "$folder" >/dev/null
+fi
+make -s check >"$folder/log"
+tail -n 1 "$folder/log" | grep -qx 'self-test passed'
+cp dist/heap.c "$folder/heap.c"
+echo '/* changed */' >>dist/heap.c
+if make -s check >"$folder/log" 2>&1 || ! grep -q 'a file is not that of dist/SUMS' "$folder/log"; then
+    fails 'the archive: a file that changed is not told'
+fi
+cp "$folder/heap.c" dist/heap.c
+if make -s PROVE=1 >"$folder/log" 2>&1 || ! grep -q 'the crates, which are not in this archive' "$folder/log"; then
+    cat "$folder/log" >&2
+    exit 1
+fi
+echo 'dist: the archive: the same bytes twice, built, tested, installed: ok'
+
+if has packages dpkg-buildpackage dh dh_python3 pkg-config; then
+    cd "$folder/tree"
+    make -s deb >"$folder/packages"
+    mkdir "$folder/deb"
+    cp out/deb/*.deb "$folder/deb"
+    DEB_BUILD_OPTIONS=nocheck make -s deb >/dev/null
+    while read -r file; do
+        cmp "$file" "$folder/deb/$(basename "$file")"
+        dpkg-deb -x "$file" "$folder/root"
+    done <"$folder/packages"
+    lib=$folder/root/usr/lib/$(dpkg-architecture -qDEB_HOST_MULTIARCH)
+    export PKG_CONFIG_SYSROOT_DIR=$folder/root PKG_CONFIG_LIBDIR=$lib/pkgconfig PKG_CONFIG_PATH=
+    read -ra flags <<<"$(pkg-config --cflags --libs linkwire)"
+    cc -o "$folder/uses" tests/install.c "${flags[@]}"
+    [ "$(LD_LIBRARY_PATH=$lib "$folder/uses")" = "lo 1500 $(pkg-config --modversion linkwire)" ]
+    for program in "${programs[@]}"; do
+        cp "$folder/root/usr/bin/$program" out/
+    done
+    TESTS=header tests 'the programs of the packages'
+    hardens 'the programs of the packages' "$folder/root/usr/bin" "$lib/liblinkwire.so.0"
+    "$folder/root/usr/bin/linkdump" --version >/dev/null
+    export PYTHONPATH=$folder/root/usr/lib/python3/dist-packages LD_LIBRARY_PATH=$lib PYTHONDONTWRITEBYTECODE=1
+    if has 'packages: python3-linkwire' python3; then
+        python3 -c 'import linkwire; linkwire.check(linkwire.build([(3, "lo")]))'
+        "$folder/root/usr/bin/linkwatch" --version >/dev/null
+    fi
+    echo 'dist: packages: the same bytes twice, unpacked and used by pkg-config: ok'
+    if has 'packages: lintian' lintian; then
+        lintian --no-cfg --display-info "$folder"/deb/*.deb >"$folder/log" 2>&1 || true
+        if grep -v 'initial-upload-closes-no-bugs' "$folder/log" | grep '^[EW]:\|hardening-' >&2; then
+            exit 1
+        fi
+        echo 'dist: packages: lintian: ok'
+    fi
+fi
+echo 'dist passed'

@@ -1,0 +1,57 @@
+#!/usr/bin/env python3
+"""Messages of real kernels, and what the programs answer: tests/kernels.
+
+    python3 scripts/test/kernel_messages.py [FOLDER]            runs the programs of FOLDER, else of out/, and compares
+    python3 scripts/test/kernel_messages.py --write [FOLDER]    stores what they answer
+
+messages.txt has a line of hexadecimal for each message, and in front of it one that says kernel, where the message is
+from, and the link. PROGRAM.txt has a line for each, as the program answers it; a '=' stands for the message's own
+digits. The messages were chosen of many: each has some number at some place, with its flags, some kind, family or type
+of link, some size of a record that grows, or an order of the counters of IPv6, that none of the others has. A message
+that is added stands at the end. The last line is 'kernel_messages: ok'.
+"""
+
+import os
+import sys
+from itertools import groupby
+
+from shared import TOP, answers, compare, read
+
+STORED = "tests/kernels/%s.txt"
+
+
+def messages():
+    """The messages as the kernel's release and digits."""
+    lines = read(STORED % "messages").splitlines()
+    return [(head[2:].partition(":")[0], digits) for head, digits in zip(lines[::2], lines[1::2], strict=True)]
+
+
+def answered(name, path, listed):
+    """What a program answers; linkshow is told the kernel."""
+    found = []
+    for kernel, group in groupby(listed, key=lambda it: it[0]):
+        lines = [digits for _, digits in group]
+        shown = answers(path, lines, *["--kernel", kernel] * (name == "linkshow"))
+        found += [answer.decode().replace(line, "=") for line, answer in zip(lines, shown)]
+    return found
+
+
+def main():
+    folder, listed = ([it for it in sys.argv[1:] if it != "--write"] or [f"{TOP}/out"])[0], messages()
+    for name in ("linkwire", "linkstate", "linkshow"):
+        path = f"{folder}/{name}"
+        if not os.access(path, os.X_OK):
+            print(f"kernel_messages: skipped: {name} is not built")
+            continue
+        found = answered(name, path, listed)
+        if "--write" in sys.argv:
+            with open(f"{TOP}/{STORED % name}", "w", encoding="utf-8", newline="") as it:
+                it.writelines(line + "\n" for line in found)
+        compare(f"kernel_messages: {name}", [digits for _, digits in listed], found,
+                read(STORED % name).split("\n")[:-1])
+        print(f"kernel_messages: {name}: {len(listed)} answers as stored")
+    print("kernel_messages: ok")
+
+
+if __name__ == "__main__":
+    main()

@@ -1,0 +1,177 @@
+#!/usr/bin/env python3
+"""Holds docs/LINKDIFF.md to the crates and to linkdiff: on how many definitions what linkdiff tells stands, by the
+`use` lines of the specs, that the page quotes them as they stand, and what the program tells of the page's streams.
+
+    python3 scripts/test/linkdiff_page.py [LINKDIFF]
+    python3 scripts/test/linkdiff_page.py --list
+
+Without LINKDIFF it takes out/linkdiff; --list prints the definitions, a file a line, and runs nothing. In a stream each
+line is one of input, and behind the arrow stands what it adds; the page says how. A line `linkdiff OPTION..` says how
+those behind it are run, and with OLD and NEW one arrow stands behind the lines of both. The last line is
+'linkdiff page: ok'."""
+import json
+import os
+import re
+import struct
+import subprocess
+import sys
+import tempfile
+
+from headline import Module, show, size, walk
+from shared import attribute, read
+
+PAGE = "docs/LINKDIFF.md"
+SPECS = "message_diff.specs."
+STARTS = ("Watched", "Watches"), ("Files", "Compares"), ("Differences", "diffs"), ("Differences", "less")
+# what the page says in words
+SAID = {("Changed", "IsChanged"), ("Alone", "IsAlone"), ("Alone", "member_line"), ("Faults", "IsFault"),
+        ("Faults", "fault_line"), ("Compared", "HasTextBy"), ("Compared", "IsRefusalAloneBy"),
+        ("Announced", "kind_in"), ("Announced", "without_event"), ("Announced", "is_wireless_alone"),
+        ("Said", "family_in")}
+QUOTED = re.compile(r"^```antt\n([\s\S]*?)^```$", re.M)
+STREAM = re.compile(r"^```stream\n([\s\S]*?)^```$", re.M)
+LINK = re.compile(r"link\((?:(\d+):)?(\d+)((?: [^()]*)?)\)")
+WIRELESS = struct.pack("<HH4xH", 10, 0x8c07, 1)
+ATTRIBUTES = {"name": lambda it: attribute(3, it.encode() + b"\0"),
+              "mtu": lambda it: attribute(4, struct.pack("<I", int(it))),
+              "kind": lambda it: attribute(18, attribute(1, it.encode() + b"\0")),
+              "carrier": lambda it: attribute(35, struct.pack("<I", int(it))),
+              "ipv6": lambda it: attribute(12, attribute(3, struct.pack(f"<{it}Q", *range(int(it))))),
+              "alias": lambda it: attribute(20, bytes.fromhex(it))}
+
+
+def fails(what):
+    sys.exit(f"linkdiff page: {PAGE}: {what}")
+
+
+# ** definitions
+
+def of_message_diff():
+    """What one reads of message_diff from the contracts on."""
+    def is_left_out(module, name):
+        return not module.startswith(SPECS) or (module.removeprefix(SPECS), name) in SAID
+    return walk([(SPECS + file, name) for file, name in STARTS], is_left_out)
+
+
+def count(found, page):
+    """Holds the sentences of the page that count something to what is found, and returns them."""
+    files = {module.removeprefix(SPECS) for module, _ in found}
+    said = f"{size(found)} in {len(files)} files", f"quotes {quotes(page, found)} of them as they stand"
+    plain = " ".join(page.split())
+    for it in [*said, *(f"`{file}.antt`" for file in sorted(files))]:
+        if it not in plain:
+            fails(f"it does not say '{it}'")
+    return "; ".join(said)
+
+
+def quotes(page, found):
+    """How many definitions the page quotes, each as it stands in its file, comments aside."""
+    texts = {}
+    for module, name in found:
+        lines = Module(module).items[name].splitlines()
+        texts["\n".join(it for it in lines if it.strip() and not it.lstrip().startswith("--"))] = name
+    quoted = [it.strip("\n") for block in QUOTED.findall(page) for it in block.split("\n\n")]
+    for it in quoted:
+        if it not in texts:
+            fails(f"no definition stands so:\n{it}")
+    return len(set(quoted))
+
+
+# ** streams
+
+def spelled(line):
+    """The line of input that stands for this one."""
+    def digits(it):
+        words, octets = it[3].split(), struct.pack("<BBHiII", int(it[1] or 0), 0, 1, int(it[2]), 0, 0)
+        while words:
+            name = words.pop(0)
+            octets += attribute(11, WIRELESS) if name == "wireless" else ATTRIBUTES[name](words.pop(0))
+        return octets.hex()
+    return LINK.sub(digits, line)
+
+
+def text_of(value):
+    return json.dumps(value, separators=(",", ":"))
+
+
+def change(row):
+    if row["path"] == "state":
+        return "state"
+    return " ".join([row["path"], *[text_of(row[it]) if it in row else "-" for it in ("old", "new")]])
+
+
+def told(line):
+    """How the page shows what is told."""
+    it = json.loads(line)
+    if "fault" in it:
+        return f"fault {it['fault']}"
+    if it["change"] == "lost":
+        return "lost"
+    family = f"{it['ifi-family']}:" if it["ifi-family"] else ""
+    changes = ", ".join(map(change, it.get("changes", [])))
+    return " ".join([it["change"], f"{family}{it['ifi-index']}", it["ifname"]]) + (f": {changes}" if changes else "")
+
+
+def runs(linkdiff, words, lines):
+    """What is told of lines, by the number of the line that brings it."""
+    out = [[] for _ in lines]
+    text = "".join(f"time={at} {spelled(it)}\n" for at, it in enumerate(lines))
+    ran = subprocess.run([linkdiff, *words], input=text, capture_output=True, text=True, check=True)
+    for it in ran.stdout.splitlines():
+        out[int(json.loads(it)["time"])].append(told(it))
+    return out
+
+
+def runs_files(linkdiff, lines):
+    middle = lines.index("NEW")
+    with tempfile.TemporaryDirectory() as folder:
+        for name, part in ("OLD", lines[1:middle]), ("NEW", lines[middle + 1:]):
+            with open(os.path.join(folder, name), "w", encoding="utf-8") as it:
+                it.writelines(spelled(line) + "\n" for line in part)
+        ran = subprocess.run([linkdiff, "OLD", "NEW"], capture_output=True, text=True, check=True, cwd=folder)
+    return [told(it) for it in ran.stdout.splitlines()]
+
+
+def hold(linkdiff, words, lines):
+    """Looks whether the program tells of these lines what stands behind their arrows; returns how many they are."""
+    if "OLD" in words:
+        *lines, wanted = lines
+        found = [runs_files(linkdiff, lines)]
+        lines, wanted = ["two files"], [wanted.removeprefix("-> ")]
+    else:
+        parts = [it.partition("->") for it in lines]
+        for line, arrow, _ in parts:
+            if not arrow:
+                fails(f"'{line}' has no arrow")
+        lines, wanted = [it[0].strip() for it in parts], [it[2].strip() for it in parts]
+        found = runs(linkdiff, words, lines)
+    for line, one, other in zip(lines, found, wanted):
+        if "; ".join(one) != other:
+            fails(f"'{line}': told is '{'; '.join(one)}'")
+    return len(lines)
+
+
+def streams(linkdiff, page):
+    """Runs each stream; returns how many lines were held."""
+    held = 0
+    for block in STREAM.findall(page):
+        words, lines = [], []
+        for line in [*filter(lambda it: it and it[0] != "#", block.splitlines()), "linkdiff"]:
+            if line.split()[0] == "linkdiff":
+                held += hold(linkdiff, words, lines) if lines else 0
+                words, lines = line.split()[1:], []
+            else:
+                lines.append(line)
+    return held
+
+
+def main(linkdiff="out/linkdiff"):
+    page = read(PAGE)
+    print(f"linkdiff page: {count(of_message_diff(), page)}")
+    held = streams(os.path.abspath(linkdiff), page)
+    print(f"linkdiff page: {held} lines of {len(STREAM.findall(page))} streams")
+    print("linkdiff page: ok")
+
+
+if __name__ == "__main__":
+    show(of_message_diff()) if sys.argv[1:] == ["--list"] else main(*sys.argv[1:])

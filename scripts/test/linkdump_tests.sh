@@ -1,0 +1,72 @@
+#!/usr/bin/env bash
+# Compiles linkdump by each compiler that is there, with every warning an error, with libpcap and without; runs it on
+# the running kernel and on captures, as it is built and with sanitizers; and holds its lines to what is there while
+# links come and go: linkdump_tests.sh [RUNS], of which 15 take some 20 seconds. What cannot be had is 'skipped'. The
+# last line is 'linkdump passed'.
+self=linkdump
+. "$(dirname "$0")/../common.sh"
+flags=(-std=gnu11 -D_GNU_SOURCE -Wall -Wextra -Wpedantic -Wconversion -Wshadow -Werror -I"$top/include")
+read -ra pcap <<< "-DLINKDUMP_PCAP $(pkg-config --cflags --libs libpcap 2>/dev/null || echo -lpcap)"
+
+# builds FILE FLAGS..
+builds() {
+    ${CC:-cc} "${flags[@]}" -o "$folder/$1" "$top"/programs/linkdump*.c "${@:2}"
+}
+if ! builds with "${pcap[@]}" 2>"$folder/err"; then
+    grep -q 'pcap' "$folder/err" || fails "$(cat "$folder/err")"
+    echo 'linkdump: skipped: captures: no libpcap'
+    pcap=()
+fi
+
+for compiler in gcc clang; do
+    if command -v "$compiler" >/dev/null; then
+        CC=$compiler builds "$compiler" -O2 "${pcap[@]}"
+        CC=$compiler builds "$compiler-without" -O0
+    else
+        echo "linkdump: skipped: no $compiler"
+    fi
+done
+
+# without libpcap it says so, asks the kernel all the same, and needs the C library alone
+builds without -O2
+status=0
+said=$("$folder/without" --read x 2>&1) || status=$?
+[ "$status $said" = '1 linkdump: x: this linkdump is built without libpcap, and reads no captures' ] ||
+    fails "built without libpcap, --read: $said, status $status"
+"$folder/without" --help | grep -q 'built without libpcap' || fails 'built without libpcap, --help does not say so'
+if readelf -d "$folder/without" | grep NEEDED | grep -vE 'libc\.(so|musl)|ld-' >&2; then
+    fails 'built without libpcap, it needs a library'
+fi
+
+builds linkdump -O2 "${pcap[@]}"
+sanitized=''
+if builds sanitized -O1 -g -fsanitize=address,undefined -fno-sanitize-recover=all "${pcap[@]}" 2>"$folder/err"; then
+    sanitized=$folder/sanitized
+else
+    tail -n 3 "$folder/err" >&2
+    echo 'linkdump: skipped: no sanitizers'
+fi
+for program in "$folder/linkdump" ${sanitized:+"$sanitized"}; do
+    "$top/tests/linkdump/live.sh" "$program"
+done
+if ! command -v python3 >/dev/null; then
+    echo 'linkdump: skipped: links that come and go, captures: no python3'
+    echo 'linkdump passed'
+    exit 0
+fi
+python3 "$top/tests/linkdump/hosts.py"
+linkdiff=$(program linkdiff)
+[ -n "$linkdiff" ] || echo 'linkdump: skipped: what linkdiff tells of links that come and go: it is not built'
+if command -v ip >/dev/null && "$folder/linkdump" >/dev/null 2>&1; then
+    python3 "$top/tests/linkdump/churn.py" ${linkdiff:+--linkdiff "$linkdiff"} "$folder/linkdump" "${1:-15}"
+else
+    echo 'linkdump: skipped: links that come and go: no command ip, or no netlink'
+fi
+if [ "${#pcap[@]}" != 0 ]; then
+    python3 "$top/tests/linkdump/captures.py" "$folder/linkdump"
+    if [ -n "$sanitized" ]; then
+        python3 "$top/tests/linkdump/captures.py" "$sanitized"
+        python3 "$top/tests/linkdump/damaged.py" "$sanitized"
+    fi
+fi
+echo 'linkdump passed'

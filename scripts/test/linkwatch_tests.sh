@@ -1,0 +1,49 @@
+#!/usr/bin/env bash
+# Tests the command linkwatch: linkwatch_tests.sh [FOLDER], where the shared library and the programs are, else out/. It
+# runs mypy --strict, the tables of tests/linkwatch for each Python from 3.9 to 3.13 that is here, the command in pipes
+# and at a pseudo terminal, and, in a network namespace, what is shown live. What lacks is 'skipped'. The last line is
+# 'linkwatch passed'.
+self=linkwatch
+. "$(dirname "$0")/../common.sh"
+cd "$top"
+programs=$(realpath "${1:-out}")
+export PYTHONPATH=$top/python LINKWIRE=$programs/liblinkwire.so.0 LINKDIFF=$programs/linkdiff PYTHONDONTWRITEBYTECODE=1
+
+# tables VERSION PYTHON
+tables() {
+    local start=$SECONDS log=$folder/$1.log
+    runs env PYTHONPATH="$PYTHONPATH:tests/linkwatch" "$2" -m unittest test_folding test_reading test_rates
+    echo "linkwatch: Python $1: $(sed -n 's/^Ran \([0-9]* tests\).*/\1/p' "$log"): ok, $((SECONDS - start)) s"
+}
+
+waits=()
+for it in 3.9 3.10 3.11 3.12 3.13; do
+    found=$(python "$it")
+    if [ -z "$found" ]; then
+        echo "linkwatch: skipped: Python $it: it is not here"
+        continue
+    fi
+    tables "$it" "$found" &
+    waits+=("$!")
+done
+if command -v mypy >/dev/null; then
+    runs mypy --strict --cache-dir="$folder/mypy" python/linkwatch
+    echo "linkwatch: mypy --strict: $(tail -n 1 "$log")"
+else
+    echo 'linkwatch: skipped: types: no mypy'
+fi
+for it in command terminal; do
+    runs python3 "tests/linkwatch/test_$it.py"
+    echo "linkwatch: $it: $(sed -n 's/^Ran \([0-9]* tests\).*/\1/p' "$log"): ok"
+done
+if ! command -v ip >/dev/null || ! unshare -n true 2>/dev/null; then
+    echo 'linkwatch: skipped: the running kernel: no ip, or no right to make a namespace'
+else
+    mkdir "$folder/completions"
+    unshare -mn tests/linkwatch/completions.sh "$folder/completions" "$programs"
+    unshare -n python3 tests/linkwatch/live.py "$programs/linkdump" "$programs/linkdiff"
+fi
+for it in "${waits[@]}"; do
+    wait "$it" || fails 'a test fails'
+done
+echo 'linkwatch passed'

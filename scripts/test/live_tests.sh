@@ -1,0 +1,118 @@
+#!/usr/bin/env bash
+# Runs examples/c/manager.c against the running kernel, in a network namespace, where it lists, makes and changes links,
+# and meets a kernel that does what it seldom does: live_tests.sh LIBRARY. What needs netlink, libmnl, a command or a
+# right that is not there is 'skipped'.
+self=live
+. "$(dirname "$0")/../common.sh"
+
+# tells FAULT MESSAGE EXAMPLE ..: it prints nothing else, and fails
+tells() {
+    if with "$1" "$folder/$3" "${@:4}" >"$folder/out" || [ -s "$folder/out" ] || ! grep -qx "$3: $2" "$folder/err"; then
+        cat "$folder/out" "$folder/err" >&2
+        fails "$3 does not tell: $1"
+    fi
+}
+
+# meets the faults of tests/live/kernel_faults.c, in a namespace, where nothing changes meanwhile
+meets_faults() {
+    preloads live/kernel_faults -Wpedantic
+    local fault
+    "$folder/manager" >"$folder/links"
+    for fault in 'ran over' interrupted; do
+        if ! with "$fault" "$folder/manager" >"$folder/out" || ! cmp -s "$folder/out" "$folder/links" || ! asked 2; then
+            fails "manager does not ask again: $fault"
+        fi
+    done
+    tells error 'Operation not permitted' manager
+    tells 'short error' 'Bad message' manager
+    if ! with refused "$folder/manager" >"$folder/out" ||
+        [ "$(wc -l <"$folder/out")" != $(($(wc -l <"$folder/links") - 1)) ] ||
+        ! grep -qx 'manager: a message is refused: an attribute shorter than its header' "$folder/err"; then
+        fails 'manager does not tell that a message is refused'
+    fi
+    echo 'live: manager: a queue that ran over, a dump that was interrupted, errors, a message that is refused'
+}
+
+# refused WORDS ERROR WORD..: the example fails, and tells what the kernel says of it, if it does, and the error
+refused() {
+    if "$manager" "${@:3}" >"$folder/out" 2>"$folder/err" || [ -s "$folder/out" ] ||
+        ! grep -qx "manager: $2" "$folder/err" ||
+        { [ -n "$1" ] && ! grep -qx "manager: the kernel says: $1" "$folder/err"; }; then
+        cat "$folder/out" "$folder/err" >&2
+        fails "manager ${*:3} does not tell: $1: $2"
+    fi
+}
+
+# shown LINE: whether the example prints this line
+shown() {
+    "$manager" | grep -qx "$1" || fails "manager does not print: $1"
+}
+
+# keeps a link of which the alias is refused, a text that is not UTF-8, and tells that
+keeps() {
+    local line
+    if ! ip link set "$1" alias "$(printf 'caf\351')" 2>/dev/null || [ ! -s "/sys/class/net/$1/ifalias" ]; then
+        echo 'live: skipped: manager: an alias in Latin-1'
+        return
+    fi
+    line="manager: IFLA_IFALIAS of link $(cat "/sys/class/net/$1/ifindex") is refused: a text that is not UTF-8"
+    if ! "$manager" >"$folder/out" 2>"$folder/err" || ! grep -q "^$1 " "$folder/out" ||
+        [ "$(cat "$folder/err")" != "$line" ]; then
+        cat "$folder/out" "$folder/err" >&2
+        fails 'manager does not keep a link of which the alias is refused'
+    fi
+    ip link set "$1" alias ''
+    echo 'live: manager: keeps a link with an alias in Latin-1, and tells it'
+}
+
+# makes and changes links by the example, of the kinds that the kernel knows
+manages() {
+    local made='' link=''
+    if "$manager" add veth made1 made2 2>"$folder/err"; then
+        shown 'made1 ether down mtu 1500 kind veth'
+        shown 'made2 ether down mtu 1500 kind veth'
+        made=' veth' link=made1
+    fi
+    if "$manager" add vxlan made0 42 192.0.2.1 2>"$folder/err"; then
+        shown 'made0 ether down mtu [0-9]* kind vxlan'
+        refused 'VXLAN ID must be lower than 16777216' 'Numerical result out of range' \
+            add vxlan made9 16777216 192.0.2.1
+        made="$made vxlan" link=made0
+    fi
+    [ -n "$made" ] || skips 'manager: the kernel knows neither veth nor vxlan'
+    if "$manager" add vlan made3 "$link" 7 2>"$folder/err"; then
+        shown 'made3 ether [a-z]* mtu [0-9]* kind vlan id 7'
+        made="$made vlan"
+    fi
+    refused '' 'File exists' add "${made##* }" "$link" "$link" 7
+    "$manager" set "$link" 1400 desk || fails 'manager does not set'
+    shown 'desk ether [a-z]* mtu 1400 kind .*'
+    [ "$(cat /sys/class/net/desk/mtu)" = 1400 ] || fails 'manager has not set the MTU'
+    refused 'mtu greater than device maximum' 'Invalid argument' set desk 70000 desk
+    refused '' 'No such device' set none 1400 desk
+    echo "live: manager: makes$made, sets, and tells what the kernel says"
+}
+
+if [ -n "$inside" ]; then
+    manager=$1
+    ip link add veth0 type veth peer name port0 2>/dev/null || echo 'live: skipped: the kernel knows no veth'
+    ip link add bridge0 type bridge 2>/dev/null || echo 'live: skipped: the kernel knows no bridge'
+    meets_faults
+    keeps lo
+    manages
+    exit 0
+fi
+library=$1
+manager=$folder/manager
+echo '#include <libmnl/libmnl.h>' | ${CC:-cc} -E - >/dev/null 2>&1 || skips 'manager: no libmnl'
+flags=(-std=c11 -D_GNU_SOURCE -O1 -Wall -Wextra -Wpedantic -Wconversion -Wshadow -Werror -I"$top/include")
+${CC:-cc} "${flags[@]}" -o "$folder/manager" "$top/examples/c/manager.c" "$library" -lmnl
+if ${CC:-cc} "${flags[@]}" -fsanitize=address,undefined -fno-sanitize-recover=all -o "$folder/sanitized" \
+    "$top/examples/c/manager.c" "$library" -lmnl 2>"$folder/err"; then
+    manager=$folder/sanitized
+else
+    echo 'live: skipped: manager with sanitizers'
+fi
+makes_linkdump
+needs_netlink "$folder/linkdump"
+goes_inside "$manager"

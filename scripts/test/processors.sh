@@ -1,0 +1,135 @@
+#!/usr/bin/env bash
+# Tests the crate in rust/, and the library for C of rust/capi, on processors that the proofs are not of, by qemu-user:
+# the tests of the crate by cargo; so many lines, which the example 'lines' has to answer as the proved programs do; and
+# the tests of tests/c. On a machine of the other byte order the numbers of the lines and answers are turned, and
+# tests/c, whose bytes are lowest first, is left out: processors.sh [LINES [PROCESSOR..]].
+#
+# It takes Debian's packages qemu-user-static, gcc-TRIPLET and libstd-rust-dev of the processor, or a rustc whose target
+# is there; a processor that lacks one is said to be skipped. What this machine runs itself, as i386 on x86-64, is run
+# without qemu. SYSROOTS is the folder that has the folders of the triplets, by default /usr. The last line says how
+# many processors were tested.
+self=processors
+. "$(dirname "$0")/../common.sh"
+count=${1:-20000}
+wanted=("${@:2}")
+sysroots=${SYSROOTS:-/usr}
+export CARGO_NET_OFFLINE=true CARGO_TARGET_DIR=${CARGO_TARGET_DIR:-$folder/target}
+export RUST_BACKTRACE=0 CARGO_INCREMENTAL=0 CARGO_PROFILE_DEV_DEBUG=0 CARGO_PROFILE_TEST_DEBUG=0
+# of the crate, not of the tests: overflow is checked all the same, and qemu takes less time
+export CARGO_PROFILE_DEV_OPT_LEVEL=1 CARGO_PROFILE_TEST_OPT_LEVEL=0
+needs cargo rustc python3
+
+# the processor as Debian names it, rustc's target, the triplet of its C, and qemu's name
+rows='armhf armv7-unknown-linux-gnueabihf arm-linux-gnueabihf arm
+i386 i686-unknown-linux-gnu i686-linux-gnu i386
+ppc64el powerpc64le-unknown-linux-gnu powerpc64le-linux-gnu ppc64le
+s390x s390x-unknown-linux-gnu s390x-linux-gnu s390x
+mips64el mips64el-unknown-linux-gnuabi64 mips64el-linux-gnuabi64 mips64el
+riscv64 riscv64gc-unknown-linux-gnu riscv64-linux-gnu riscv64'
+
+# rust_of TARGET: a rustc that has the library of this target
+rust_of() {
+    local it libraries
+    for it in "$(command -v rustc)" /usr/bin/rustc; do
+        libraries=$("$it" --print target-libdir --target "$1" 2>/dev/null) || continue
+        if compgen -G "$libraries/libstd-*.rlib" >/dev/null; then
+            echo "$it"
+            return
+        fi
+    done
+}
+
+# makes_lines: once, $folder/lines, and what the proved programs answer; nothing where these are not built
+makes_lines() {
+    local linkwire linkstate
+    [ ! -e "$folder/asked" ] || return 0
+    touch "$folder/asked"
+    linkwire=$(program linkwire) linkstate=$(program linkstate)
+    if [ -z "$linkwire" ] || [ -z "$linkstate" ]; then
+        echo 'processors: lines: skipped: the programs linkwire and linkstate are not built'
+        return
+    fi
+    runs "${CC:-cc}" -std=gnu11 -O2 -DLINES_ALONE -I"$top/include" -o "$folder/second" "$top/tests/second/lines.c"
+    python3 "$top/scripts/test/rust_lines.py" "$folder/made" $((count / 2))
+    PLACES=$top/tests/second/places.txt "$folder/second" all >"$folder/all"
+    {
+        grep -v '^#' "$top/tests/kernels/messages.txt"
+        cat "$folder/made"
+        awk -v each=$(($(wc -l <"$folder/all") / (count - count / 2) + 1)) 'NR % each == 0' "$folder/all"
+    } | awk -v count="$count" 'NR <= count' >"$folder/lines"
+    "$linkwire" <"$folder/lines" >"$folder/canonical"
+    "$linkstate" <"$folder/lines" >"$folder/state"
+}
+
+# turns_lines: once, the lines and the answers as machines of the other byte order have them
+turns_lines() {
+    local it
+    [ ! -e "$folder/turned.state" ] || return 0
+    for it in canonical state; do
+        python3 "$top/scripts/test/turned.py" "$folder/lines" "$folder/$it" "$folder/turned.$it" "$folder/answers.$it" \
+            >"$folder/log"
+    done
+}
+
+# answers COMMAND..: whether the example answers the lines as the programs do, in its byte order
+answers() {
+    local it
+    makes_lines
+    [ -s "$folder/canonical" ] || return 0
+    [ -z "$is_turned" ] || turns_lines
+    for it in canonical state; do
+        if [ "$is_turned" ]; then
+            "$@" "${it/canonical/}" <"$folder/turned.$it" | cmp - "$folder/answers.$it"
+        else
+            "$@" "${it/canonical/}" <"$folder/lines" | cmp - "$folder/$it"
+        fi
+    done
+    echo "$self: $name: $(wc -l <"$folder/${is_turned:-lines}") lines: the same answers"
+}
+
+# tests_c TARGET TRIPLET COMMAND..: the tests of tests/c on the library of rust/capi
+tests_c() {
+    local test words laws=$((count / 10)) library=$CARGO_TARGET_DIR/$1/debug/liblinkwire.a
+    (cd "$top/rust/capi" && runs cargo build --locked --target "$1" </dev/null)
+    for test in "$top"/tests/c/*.c; do
+        words=()
+        [ "${test##*/}" != laws.c ] || words=("$laws")
+        runs "$2-gcc" -std=gnu11 -O1 -Wall -Wextra -I"$top/include" -o "$folder/c" "$test" "$library" -lpthread -ldl -lm
+        runs "${@:3}" "$folder/c" "${words[@]}" </dev/null
+    done
+    echo "$self: $name: tests/c on the library of rust/capi, its laws on $laws messages: ok"
+}
+
+# tests NAME TARGET TRIPLET QEMU: one processor
+tests() {
+    local name=$1 target=$2 triplet=$3 qemu rustc variable loader runner is_turned=''
+    qemu=$(command -v "qemu-$4" || command -v "qemu-$4-static" || true)
+    rustc=$(rust_of "$target")
+    [ -n "$qemu" ] || { echo "$self: $name: skipped: no qemu-$4" && return; }
+    command -v "$triplet-gcc" >/dev/null || { echo "$self: $name: skipped: no $triplet-gcc" && return; }
+    [ -n "$rustc" ] || { echo "$self: $name: skipped: no library of $target for rustc" && return; }
+    runner=("$qemu" -L "$sysroots/$triplet")
+    loader=$sysroots/$triplet/lib/ld-linux.so.2
+    if "$loader" --version >/dev/null 2>&1; then
+        runner=("$loader" --library-path "$sysroots/$triplet/lib")
+    fi
+    variable=CARGO_TARGET_$(tr a-z- A-Z_ <<<"$target")
+    export "${variable}_LINKER=$triplet-gcc" "${variable}_RUNNER=${runner[*]}"
+    PATH=$(dirname "$rustc"):$PATH
+    export PATH RUSTC=$rustc
+    "$rustc" --print cfg --target "$target" | grep -q '^target_endian="big"$' && is_turned=turned.canonical
+    cd "$top/rust"
+    runs cargo test --locked --target "$target" </dev/null
+    awk -v of="$self: $name: " '/^test result: ok/ { ok += $4; not += $8 }
+        END { print of ok " tests passed, " not " ignored" }' "$log"
+    answers "${runner[@]}" "$CARGO_TARGET_DIR/$target/debug/examples/lines"
+    [ "$is_turned" ] || tests_c "$target" "$triplet" "${runner[@]}"
+    tested=$((tested + 1))
+}
+
+tested=0
+while read -r name target triplet qemu; do
+    [ "${#wanted[@]}" = 0 ] || [[ " ${wanted[*]} " = *" $name "* ]] || continue
+    tests "$name" "$target" "$triplet" "$qemu"
+done <<<"$rows"
+echo "$self: $tested processors tested"

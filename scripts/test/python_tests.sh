@@ -1,0 +1,221 @@
+#!/usr/bin/env bash
+# Tests the package in python/: python_tests.sh [FOLDER], where the shared library and the programs are, else out/. It
+# runs mypy --strict; the wheel, the same bytes twice, also of the archive of sources, its tag by the compiler, and what
+# is said where one lacks or does not fit; pip install -e; for each Python from 3.9 to 3.13 that is here, a fresh
+# environment into which pip installs the package without a network, and the tests there; the running kernel, in a
+# network namespace; `Watch` beside linkdiff over 100,000 lines; the commands of docs/PYTHON.md and docs/FLEET.md; and
+# what needs Debian's pyroute2, PostgreSQL or distributed. What lacks is 'skipped'. The last line is 'python passed'.
+self=python
+. "$(dirname "$0")/../common.sh"
+cd "$top"
+programs=$(realpath "${1:-out}")
+unset LINKWIRE PYTHONPATH CC
+export PYTHONDONTWRITEBYTECODE=1 PIP_DISABLE_PIP_VERSION_CHECK=1 PIP_ROOT_USER_ACTION=ignore
+export LINKDIFF=$programs/linkdiff
+
+# lacks WHAT: says so, and goes on
+lacks() {
+    echo "python: skipped: $*"
+}
+
+# offline COMMAND..: where there is no network, if that is allowed
+offline() {
+    if unshare -rn true 2>/dev/null; then
+        unshare -rn "$@"
+    else
+        "$@"
+    fi
+}
+
+# says PATTERN: whether the last error does
+says() {
+    grep -q "$1" "$folder/err" || fails "it does not say '$1' but $(cat "$folder/err")"
+}
+
+types() {
+    if ! command -v mypy >/dev/null; then
+        lacks 'types: no mypy'
+        return
+    fi
+    runs mypy --strict --cache-dir="$folder/mypy" python/linkwire
+    echo "python: mypy --strict: $(tail -n 1 "$log")"
+}
+
+wheels() {
+    local it
+    mkdir "$folder/one" "$folder/two" "$folder/none" "$folder/tools"
+    for it in one two; do
+        (cd / && python3 "$top/python/backend.py" "$folder/$it") >/dev/null
+        sleep 1.1 # a time would differ
+    done
+    cmp "$folder"/one/*.whl "$folder"/two/*.whl
+    ln -s "$(python3 -c 'import sys; print(sys.executable)')" "$folder/tools/python3"
+    if PATH=$folder/tools LINKWIRE=/nothing python3 python/backend.py "$folder/none" 2>"$folder/err"; then
+        fails 'a wheel is built without a compiler and a library'
+    fi
+    says '^linkwire: there is no cc, and no installed liblinkwire.so.0: install'
+    PATH=$folder/tools LINKWIRE=$programs/liblinkwire.so.0 python3 python/backend.py "$folder/none" >"$folder/name"
+    grep -q -- '-any.whl$' "$folder/name" || fails "without a compiler: $(cat "$folder/name")"
+    if CC="$folder/tools/python3" python3 python/backend.py "$folder/none" >/dev/null 2>&1; then
+        fails 'a compiler that is none builds a wheel'
+    fi
+    if LINKWIRE=/nothing PYTHONPATH=python python3 -c 'import linkwire' 2>"$folder/err"; then
+        fails 'the package is imported without a library'
+    fi
+    says 'ImportError: linkwire: LINKWIRE names a library that does not load: /nothing: cannot open'
+    if PYTHONPATH=python python3 -c 'import linkwire' 2>"$folder/err"; then
+        lacks 'what is said without a library: one is installed'
+    else
+        says 'ImportError: linkwire: no shared library: install liblinkwire.so.0'
+    fi
+    echo 'python: the wheel: the same bytes twice; without a compiler or a library what lacks is said'
+}
+
+# lists PATTERN FILE: whether the archive has such a name
+lists() {
+    python3 -m zipfile -l "$2" | grep -q "$1" || fails "$2 has no $1"
+}
+
+# builds CC TAG: a wheel by this compiler has this tag
+builds() {
+    mkdir "$folder/by"
+    CC=$1 python3 python/backend.py "$folder/by" >"$folder/name"
+    grep -q -- "-py3-none-$2.whl\$" "$folder/name" || fails "by $1: $(cat "$folder/name")"
+    mv "$folder"/by/*.whl "$folder/$2.whl"
+    rmdir "$folder/by"
+}
+
+compilers() {
+    local it machine
+    builds cc "linux_$(uname -m)"
+    lists linkwire-.*/LICENSE "$folder/linux_$(uname -m).whl"
+    while read -r it machine; do
+        if command -v "${it%% *}" >/dev/null; then
+            builds "$it" "$machine"
+        else
+            lacks "a wheel for $machine: no ${it%% *}"
+        fi
+    done <<END
+aarch64-linux-gnu-gcc linux_aarch64
+musl-gcc musllinux_1_1_$(uname -m)
+END
+    for it in riscv64 arm s390x i686; do
+        printf '#!/bin/sh\necho %s-linux-gnu\n' "$it" >"$folder/tools/cc"
+        chmod +x "$folder/tools/cc"
+        if CC=$folder/tools/cc python3 python/backend.py "$folder" 2>"$folder/err"; then
+            fails "a wheel for $it"
+        fi
+        says "^linkwire: processors of $it-linux-gnu are not supported, only aarch64 and x86_64. linkdump is C"
+    done
+    rm "$folder/tools/cc"
+    mkdir "$folder/odd"
+    cp -r python/linkwire "$folder/odd"
+    if [ -e "$folder/linux_aarch64.whl" ] && [ "$(uname -m)" != aarch64 ]; then
+        python3 -m zipfile -e "$folder/linux_aarch64.whl" "$folder/odd"
+    else
+        echo nothing >"$folder/odd/linkwire/liblinkwire.so.0"
+    fi
+    if PYTHONPATH=$folder/odd python3 -c 'import linkwire' 2>"$folder/err"; then
+        fails 'a library of another processor is imported'
+    fi
+    says "ImportError: linkwire: the shared library is there and does not load: $folder/odd/linkwire/liblinkwire.so.0"
+    echo 'python: the tag of a wheel is of its compiler, and what does not fit is said'
+}
+
+# makes FOLDER PYTHON: a fresh environment there; `pip` installs into it
+makes() {
+    # by the pip that this Python has, where it can install elsewhere: to unpack one takes longer than all the rest
+    if "$2" -m pip --python "$2" --version >"$log" 2>&1 && "$2" -m venv --without-pip "$1"; then
+        pip=("$2" -m pip --python "$1/bin/python")
+    elif "$2" -m venv "$1" >"$log" 2>&1; then
+        pip=("$1/bin/pip")
+    else
+        return 1
+    fi
+}
+
+# sources: a wheel of an archive of sources is the one of the repository; an installation that follows the sources
+sources() {
+    local env=$folder/editable pip
+    mkdir "$folder/sources" "$folder/of-sources" "$folder/tree"
+    python3 python/backend.py --sdist "$folder/sources" >/dev/null
+    tar -xzf "$folder"/sources/*.tar.gz -C "$folder/sources"
+    (cd / && python3 "$folder"/sources/linkwire-*/backend.py "$folder/of-sources") >/dev/null
+    cmp "$folder"/one/*.whl "$folder"/of-sources/*.whl
+    cp -r python dist LICENSE "$folder/tree"
+    if ! makes "$env" python3; then
+        lacks 'an installation that follows the sources: no venv'
+        return
+    fi
+    runs offline "${pip[@]}" install --no-index -e "$folder/tree/python"
+    echo 'added = 1' >>"$folder/tree/python/linkwire/numbers.py"
+    (cd / && "$env/bin/python" -c 'import linkwire; linkwire.check(bytes(16)); print(linkwire.numbers.added)') \
+        >"$folder/said"
+    grep -qx 1 "$folder/said" || fails 'an installation does not follow the sources'
+    echo 'python: the archive of sources builds the same wheel, and pip install -e follows the sources'
+}
+
+# environment VERSION PYTHON: installs, and runs the tests
+environment() {
+    local env=$folder/$1 start=$SECONDS pip log=$folder/$1.log
+    if ! makes "$env" "$2"; then
+        lacks "Python $1: no venv"
+        return
+    fi
+    runs offline "${pip[@]}" install --no-index ./python
+    runs env -u LINKWIRE "$env/bin/linkwatch" --version
+    runs env -u LINKWIRE PYTHONPATH=tests/python "$env/bin/python" -m unittest discover -v -s tests/python
+    sed -n "s/.*\.\.\. skipped ['\"]\(.*\)['\"]\$/python: $1: skipped: \1/p" "$log" | sort | uniq -c |
+        sed 's/^ *\([0-9]*\) \(.*\)/\2 (\1 tests)/'
+    echo "python: $1: pip install ./python, $(sed -n 's/^Ran \([0-9]* tests\).*/\1/p' "$log"): ok," \
+        "$((SECONDS - start)) s"
+}
+
+environments() {
+    local it found waits=()
+    for it in 3.9 3.10 3.11 3.12 3.13; do
+        found=$(python "$it")
+        if [ -z "$found" ]; then
+            lacks "Python $it: it is not here"
+            continue
+        fi
+        environment "$it" "$found" &
+        waits+=("$!")
+    done
+    for it in "${waits[@]}"; do
+        wait "$it" || fails 'an environment fails'
+    done
+    if [ -e python/build ] || [ -e python/linkwire.egg-info ]; then
+        fails 'the build leaves something in the tree'
+    fi
+}
+
+# ours COMMAND..: with the package on the path of Debian's python3, where that is here, and the library that was built
+ours() {
+    PATH=$folder/bin:$programs:$PATH PYTHONPATH=$top/python LINKWIRE=$programs/liblinkwire.so.0 "$@"
+}
+
+live() {
+    if ! command -v ip >/dev/null || ! unshare -n true 2>/dev/null; then
+        lacks 'the running kernel: no ip, or no right to make a namespace'
+        return
+    fi
+    ours unshare -n python3 tests/python/live.py
+    ours unshare -n python3 tests/python/beside.py made
+    ours python3 tests/python/pages.py README.md docs/PYTHON.md docs/FLEET.md
+}
+
+mkdir "$folder/bin"
+system=/usr/bin/python3
+[ -x "$system" ] || system=$(command -v python3)
+ln -s "$system" "$folder/bin/python3"
+types
+wheels
+compilers
+sources
+environments
+live
+ours nice -n 12 python3 tests/python/rules.py "$LINKDIFF"
+ours python3 tests/python/beside.py
+ours python3 tests/python/fleet.py
+echo 'python passed'

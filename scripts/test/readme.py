@@ -1,0 +1,224 @@
+"""Holds the pages that users meet first to what they show. Of README.md, docs/USING.md, docs/C.md,
+docs/CONTRIBUTING.md and the manual pages each block with commands has a mark in front:
+
+    runs: shell        each command is run, and prints what stands below it
+    runs: namespace    the same in a network namespace with a bridge and a pair of veth; each line that stands there
+                       is one of those that are printed
+    runs: c            the program is compiled and run as the block below it says, and prints what stands there
+    runs: rust         scripts/test/rust_tests.sh does so
+    runs: python, file: NAME    tests/python/pages.py does so, which scripts/test/python_tests.sh runs
+    compiles: c        the block is compiled, as what a function does that is given `message` and `len`
+    stands in: FILE    the block is a part of that file
+    not run: WHY
+
+In Markdown a mark is a comment, in a manual page a line that begins with '.\\"'. Commands in the text of a page are run
+in one of its blocks, or listed after '<!-- named, not run:', and each 'make' names a target that there is; those of a
+manual page, but for its synopsis, may stand in a block or a list of any page. The manual pages of programs have the
+same sections, in one order.
+
+    python3 scripts/test/readme.py [LIBRARY FOLDER..]
+
+LIBRARY is the static one, and the folders are those of the programs; without them it is what 'make build lib' left in
+out/. The last line is 'readme: ok'."""
+
+import glob
+import os
+import re
+import subprocess
+import sys
+import tempfile
+from pathlib import Path
+
+from shared import TOP, read
+
+PAGES = "README.md", "docs/USING.md", "docs/C.md", "docs/PYTHON.md", "docs/FLEET.md", "docs/CONTRIBUTING.md"
+WARNINGS = "-std=c11 -Wall -Wextra -Wpedantic -Wconversion -Wshadow -Werror -fsyntax-only".split()
+# what a command in the text of a page begins with; one word alone is a name
+PROGRAM = re.compile(
+    r"(?:apt-get|cargo|cut|link(?:diff|dump|show|state|watch|wire)|make|parallel|pip|python3|rt|scripts/\S+) ")
+SECTIONS = "NAME", "SYNOPSIS", "DESCRIPTION", "OPTIONS", "EXIT STATUS", "EXAMPLES", "SEE ALSO"
+LINKS = "ip link set lo up && ip link add br0 type bridge && ip link add veth0 mtu 9000 type veth peer name veth1"
+
+BY_PAGES = re.compile(r"runs: python\b|file: ")
+BLOCK = re.compile(r"^(?:<!-- ([^\n]*) -->\n)?```(\w*)\n([\s\S]*?)^```$", re.M)
+MAN_BLOCK = re.compile(r'^(?:\.\\" ([^\n]*)\n)?\.nf\n([\s\S]*?)^\.fi$', re.M)
+COMMAND = re.compile(r"^[$#] (.*)\n((?:(?![$#] ).*\n)*)", re.M)
+NAMED = re.compile(r"<!-- named, not run: (.*?) -->", re.S)
+WRITES = re.compile(r" >>?\w")
+SPAN = re.compile(r"`([^`]+)`")
+MAN_SPAN = re.compile(r'(?:^\.B (?=[^"])|^\.BR? "|\\fB)(.+?)(?:"|\\f|$)', re.M)
+SYNOPSIS = re.compile(r"^\.SH SYNOPSIS\n[\s\S]*?(?=^\.SH )", re.M)
+PART = """#include <linkwire.h>
+#include <linux/if_link.h>
+#include <stdio.h>
+void part(const uint8_t *message, size_t len);
+void part(const uint8_t *message, size_t len)
+{
+%s}
+"""
+
+
+class Page:
+    """What a page shows, the path of the programs, and how much of it was run."""
+
+    def __init__(self, name, library, path):
+        self.name, self.library, self.path = name, library, path
+        self.counts = dict.fromkeys(("run", "compiled", "only compiled", "parts", "not run"), 0)
+        self.commands = []
+        self.text, self.in_man = read(name), name.startswith("man/")
+        self.listed = [" ".join(it.split()) for found in NAMED.findall(self.text) for it in found.split(";")]
+
+    def fails(self, what):
+        sys.exit(f"readme: {self.name}: {what}")
+
+    def output(self, command, folder=TOP, prefix=()):
+        done = subprocess.run([*prefix, "sh", "-c", command], capture_output=True, text=True, timeout=60, check=False,
+                              cwd=folder, env=self.path, stdin=subprocess.DEVNULL)
+        if done.returncode != 0:
+            self.fails(f"{command}\nends with status {done.returncode}: {done.stderr}")
+        return done.stdout
+
+    def compares(self, command, found, wanted):
+        if found != wanted:
+            self.fails(f"{command}\nprints\n{found}and not\n{wanted}")
+
+    def shell(self, shown):
+        """Commands in turn: in a folder of their own where one of them writes a file."""
+        commands = COMMAND.findall(shown)
+        with tempfile.TemporaryDirectory() as folder:
+            where = folder if any(WRITES.search(command) for command, _ in commands) else TOP
+            for command, wanted in commands:
+                self.compares(command, self.output(command, where), wanted)
+                self.counts["run"] += 1
+
+    def namespace(self, shown):
+        unshare = namespace()
+        if unshare is None:
+            print(f"readme: {self.name}: skipped: no right to make a namespace with links, or no jq")
+            return
+        for command, wanted in COMMAND.findall(shown):
+            found = self.output(f"{LINKS} && {command}", prefix=unshare).splitlines()
+            for line in wanted.splitlines():
+                if line not in map(str.rstrip, found):
+                    self.fails(f"{command}\ndoes not print\n{line}\nbut\n{found}")
+            self.counts["run"] += 1
+
+    def compiled(self, source, shown):
+        """A program in C, by a pkg-config that names the library as it was built."""
+        (command, wanted), = COMMAND.findall(shown)
+        with tempfile.TemporaryDirectory() as folder:
+            Path(folder, re.search(r"[a-z]+[.]c", command)[0]).write_text(source, "utf-8")
+            Path(folder, "pkg-config").write_text(f"#!/bin/sh\necho -I{TOP}/include {self.library}\n", "utf-8")
+            Path(folder, "pkg-config").chmod(0o755)
+            self.output(f"cc {' '.join(WARNINGS)} -I{TOP}/include *.c", folder)
+            self.compares(command, self.output(f"PATH=.:$PATH; {command}", folder), wanted)
+        self.counts["compiled"] += 1
+
+    def compiles(self, part):
+        with tempfile.TemporaryDirectory() as folder:
+            Path(folder, "part.c").write_text(PART % part, "utf-8")
+            self.output(f"cc {' '.join(WARNINGS)} -I{TOP}/include part.c", folder)
+        self.counts["only compiled"] += 1
+
+    def stands(self, file, part):
+        if part not in read(file):
+            self.fails(f"{file} has not what stands here")
+        self.counts["parts"] += 1
+
+    def block(self, mark, shown, following):
+        """Does what the mark of a block says; returns whether the block after it is its output."""
+        kind, _, rest = (mark or "").partition(": ")
+        if mark == "runs: shell":
+            self.shell(shown)
+        elif mark == "runs: namespace":
+            self.namespace(shown)
+        elif mark == "runs: c":
+            self.compiled(shown, following)
+        elif mark == "compiles: c":
+            self.compiles(shown)
+        elif kind == "stands in":
+            self.stands(rest, shown)
+        elif kind == "not run":
+            self.counts["not run"] += len(COMMAND.findall(shown))
+        elif mark != "runs: rust" and not BY_PAGES.match(mark or "") and (mark or COMMAND.search(shown)):
+            self.fails(f"a block has the mark {mark}:\n{shown}")
+        self.commands += [command for command, _ in COMMAND.findall(shown)]
+        return mark in ("runs: c", "runs: rust")
+
+    def hold(self):
+        """Runs what a page shows, and compares."""
+        blocks = [(mark, plain(shown)) for mark, shown in MAN_BLOCK.findall(self.text)] if self.in_man else \
+            [(mark, shown) for mark, _, shown in BLOCK.findall(self.text)]
+        is_output = False
+        for at, (mark, shown) in enumerate(blocks):
+            if not is_output:
+                is_output = self.block(mark, shown, blocks[at + 1][1] if at + 1 < len(blocks) else "")
+            else:
+                is_output = False
+        if self.name.endswith(".1") and tuple(re.findall(r"^\.SH (.*)$", self.text, re.M)) != SECTIONS:
+            self.fails(f"the sections are not {', '.join(SECTIONS)}")
+
+    def named(self, pages):
+        """Looks at the commands that stand in the text, by the blocks and lists of these pages."""
+        if self.in_man:
+            texts = MAN_SPAN.findall(SYNOPSIS.sub("", MAN_BLOCK.sub("", self.text)))
+        else:
+            text = NAMED.sub("", BLOCK.sub("", self.text))
+            if re.search(r"^ {4,}[$#]? ?(?:make|rt|echo|cd) ", text, re.M):
+                self.fails("a command stands in no block")
+            texts = SPAN.findall(text)
+        spans = {" ".join((plain(it) if self.in_man else it).split()) for it in texts}
+        found = {it for it in spans if " " in it and " = " not in it and PROGRAM.match(it)}
+        for command in sorted(found.difference(*(it.listed for it in pages))):
+            if not any(command in it for page in pages for it in page.commands):
+                self.fails(f"'{command}' is neither run nor listed as not run")
+        for command in sorted(set(self.listed) - found):
+            self.fails(f"'{command}' is listed as not run, and stands nowhere")
+        for command in found:
+            target = re.match(r"make ([a-z-]+)", command)
+            if target and target[1] not in targets():
+                self.fails(f"'{command}' names no target of make")
+        self.counts["not run"] += len(self.listed)
+
+
+def plain(shown):
+    """The text of a block of a manual page."""
+    return shown.replace("\\-", "-").replace("\\(dq", '"').replace("\\(aq", "'").replace("\\(->", "→") \
+        .replace("\\e", "\\")
+
+
+def targets():
+    found = subprocess.run(["make", "-s", "help"], cwd=TOP, check=True, capture_output=True, text=True, timeout=60)
+    return set(re.findall(r"^([a-z-]+):", found.stdout, re.M))
+
+
+def namespace():
+    """How to run a command in a network namespace with links, or None."""
+    for flag in "-n", "-rn":
+        tried = subprocess.run(["unshare", flag, "sh", "-c", f"{LINKS} && jq --version"], capture_output=True,
+                               timeout=60, check=False)
+        if tried.returncode == 0:
+            return ["unshare", flag]
+    return None
+
+
+def main(library="out/liblinkwire.a", *programs):
+    if not os.path.exists(library):
+        sys.exit(f"readme: there is no {library}: run 'make build lib' first")
+    folders = map(os.path.abspath, programs or ["out"])
+    path = {name: value for name, value in os.environ.items() if not name.startswith(("MAKE", "MFLAGS"))}
+    path["PATH"] = os.pathsep.join([*folders, os.environ["PATH"]])
+    names = *PAGES, *sorted(glob.glob("man/*.[1-9]", root_dir=TOP))
+    pages = [Page(name, os.path.abspath(library), path) for name in names]
+    for page in pages:
+        page.hold()
+    for page in pages:
+        page.named(pages if page.in_man else [page])
+    sums = {kind: sum(page.counts[kind] for page in pages) for kind in pages[0].counts}
+    print(f"readme: {len(pages)} pages: {sums['run']} commands are run, {sums['compiled']} programs in C compiled and"
+          f" run, {sums['only compiled']} only compiled, {sums['parts']} parts stand in their files;"
+          f" {sums['not run']} commands are marked as not run")
+    print("readme: ok")
+
+
+main(*sys.argv[1:])

@@ -1,0 +1,92 @@
+#!/usr/bin/env python3
+"""The public items of the crate in rust/: each with its variants, fields and calls, and the traits that it has.
+
+    python3 scripts/test/rust_items.py DOC [FILE]
+
+DOC is the folder that `cargo doc` made, of the crate. With FILE, what differs from the list there is printed, and the
+exit status is then 1; rust/items.txt is such a list. What came or went of it is for the CHANGELOG. Calls whose docs
+have no example, and no link to one, are printed too.
+"""
+import difflib
+import html
+import os
+import re
+import sys
+import textwrap
+
+IDS = re.compile(r'id="((?:variant|structfield|method|tymethod|associatedconstant|associatedtype|impl)[.-][^"]+)"')
+CALL = re.compile(r'<section id="(?:ty)?method\.(\w+)"(.*?)(?=<section |$)', re.S)
+OTHERS = re.compile(r'id="(?:trait-implementations|foreign-impls|implementors)"')
+EXAMPLE = re.compile(r"example-wrap|has an example|have examples")
+OWN = ("variant.", "structfield.", "method.", "tymethod.", "associatedconstant.", "associatedtype.")
+
+
+def parts(text):
+    """The ids of an item's page: its own, and the traits that are implemented for it."""
+    text = text.split('id="synthetic-implementations"')[0].split('id="implementors"')[0]
+    own, _, traits = text.partition('id="trait-implementations"')
+    ids = [one for one in IDS.findall(own) if one.startswith(OWN) and ".field." not in one]
+    names = [one.split(".", 1)[1] for one in ids]
+    fields = re.findall(r'id="variant\.(\w+)\.field\.(\w+)"', own)
+    names += [f"{variant}.{field}" for variant, field in fields]
+    found = [html.unescape(one)[5:] for one in IDS.findall(traits) if one.startswith("impl-")]
+    found = {re.sub(r"(-for-|%3C).*", "", one) for one in found} - {"StructuralPartialEq"}
+    return list(dict.fromkeys(names)), sorted(found)
+
+
+def pages(folder):
+    """The pages of items, in the order of their paths: the kind, the path and the text of each."""
+    for root, _, files in sorted(os.walk(folder)):
+        module = os.path.relpath(root, folder).replace(os.sep, "::").replace(".", "")
+        for name in sorted(files):
+            match = re.fullmatch(r"(struct|enum|fn|constant|trait|type|macro)\.(\w+)\.html", name)
+            if not match:
+                continue
+            with open(os.path.join(root, name), encoding="utf-8") as file:
+                text = file.read()
+            if 'http-equiv="refresh"' not in text[:2000]:           # a page that only leads to another
+                yield match[1], (module + "::" if module else "") + match[2], text
+
+
+def items(folder):
+    """The items as lines."""
+    lines = []
+    for kind, path, text in pages(folder):
+        names, traits = parts(text)
+        lines.append(f"{kind} {path}")
+        for words in (" ".join(names), "has " + " ".join(traits) if traits else ""):
+            lines += textwrap.wrap(words, 116, initial_indent="  ", subsequent_indent="    ")
+    return lines
+
+
+def without_example(folder):
+    """The calls whose docs have no example, and no link to one."""
+    for kind, path, text in pages(folder):
+        if kind in ("fn", "macro"):
+            calls = [(path, text)]
+        else:
+            own = OTHERS.split(text)[0]
+            calls = [(f"{path}::{name}", docs) for name, docs in CALL.findall(own)]
+        yield from (name for name, docs in calls if not EXAMPLE.search(docs))
+
+
+def main():
+    if len(sys.argv) not in (2, 3):
+        sys.exit("usage: rust_items.py DOC [FILE]")
+    found = items(sys.argv[1])
+    if len(sys.argv) == 2:
+        print(*found, sep="\n")
+        return
+    with open(sys.argv[2], encoding="utf-8") as file:
+        kept = file.read().splitlines()
+    calls = list(without_example(sys.argv[1]))
+    if found != kept:
+        print(*difflib.unified_diff(kept, found, sys.argv[2], "what is public", lineterm="", n=1), sep="\n")
+    for call in calls:
+        print(f"{call}: no example, and no link to one")
+    if found != kept or calls:
+        sys.exit(1)
+
+
+if __name__ == "__main__":
+    main()

@@ -1,0 +1,143 @@
+#!/usr/bin/env bash
+# Tests the crate in rust/: its tests and those in its docs, with overflow checks, and the program in docs/USING.md,
+# taken out of it, whose output is compared. The example 'lines' has to answer the stored input of the program linkwire
+# as that does, and, where that is built, so many lines that are made and damaged, byte for byte, and these as linkstate
+# does by the state encoding; what the crate's calls say of each of these lines has to agree. The library of rust/capi
+# has to have the names of the library for C, and to pass tests/c: rust_tests.sh [LINES]. Where cargo is not there it
+# says 'skipped'. It needs no registry.
+self=rust
+. "$(dirname "$0")/../common.sh"
+count=${1:-100000}
+linkwire=$top/crates/linkwire
+needs cargo
+export CARGO_TARGET_DIR=$folder/target CARGO_NET_OFFLINE=true
+
+cd "$top/rust"
+runs cargo test --locked
+awk '/^test result: ok/ { sum += $4 } END { print "rust: " sum " tests passed" }' "$folder/log"
+
+# by the oldest rustc that the crate is said to need: a toolchain of rustup, or the distribution's
+oldest=$(sed -n 's/^rust-version = "\(.*\)"/\1/p' Cargo.toml)
+toolchain=$(rustup toolchain list 2>/dev/null | grep -oE "^${oldest//./\\.}(\.[0-9]+)?-[^ ]+" | head -n 1 || true)
+old=()
+if [ -n "$toolchain" ]; then
+    old=(rustup run "$toolchain" cargo)
+elif [[ $(/usr/bin/rustc --version 2>/dev/null) = "rustc $oldest."* ]] && [ -x /usr/bin/cargo ]; then
+    old=(env RUSTC=/usr/bin/rustc RUSTDOC=/usr/bin/rustdoc /usr/bin/cargo)
+fi
+if [ "${#old[@]}" != 0 ]; then
+    CARGO_TARGET_DIR=$folder/oldest runs "${old[@]}" test --locked
+    awk -v old="$oldest" '/^test result: ok/ { sum += $4 } END { print "rust: " sum " tests passed by rustc " old }' \
+        "$folder/log"
+    rm -rf "$folder/oldest"
+else
+    echo "rust: the tests by rustc $oldest: skipped: no such rustc"
+fi
+
+"$top/scripts/test/rust_netlink.sh"
+
+# the library for C by cargo, as processors.sh builds it for others
+(cd capi && runs cargo build --locked)
+capi=$CARGO_TARGET_DIR/debug/liblinkwire
+[ "$(nm -D --defined-only --format=posix "$capi.so" | sed -n 's/^\(linkwire_[a-z_]*\) .*/\1/p' | sort)" = \
+    "$(sed -n 's/^ \(linkwire_.*\)@Base .*/\1/p' "$top/debian/liblinkwire0.symbols" | sort)" ] ||
+    fails 'the library of rust/capi has other names than debian/liblinkwire0.symbols'
+for test in "$top"/tests/c/*.c; do
+    words=()
+    [ "${test##*/}" != laws.c ] || words=(2000)
+    runs "${CC:-cc}" -std=gnu11 -O1 -I"$top/include" -o "$folder/c" "$test" "$capi.a" -lpthread -ldl -lm
+    runs "$folder/c" "${words[@]}" </dev/null
+done
+echo 'rust: tests/c on the library of rust/capi, and 2000 messages of its laws: ok'
+
+# block LANGUAGE: the first of that language after the page's line '<!-- runs: rust -->'
+block() {
+    awk -v fence="\`\`\`$1" '$0 == "<!-- runs: rust -->" { is_part = 1 } is_part && $0 == "```" { if (in_block) exit }
+        in_block { print } is_part && $0 == fence { in_block = 1 }' "$top/docs/USING.md"
+}
+mkdir -p "$folder/sample/src"
+block rust >"$folder/sample/src/main.rs"
+block console | sed 1d >"$folder/wanted"
+[ -s "$folder/sample/src/main.rs" ] && [ -s "$folder/wanted" ]
+cat >"$folder/sample/Cargo.toml" <<END
+[package]
+name = "sample"
+version = "0.0.0"
+edition = "2021"
+
+[dependencies]
+linkwire = { path = "$top/rust" }
+END
+(cd "$folder/sample" && runs cargo build)
+"$CARGO_TARGET_DIR/debug/sample" >"$folder/found"
+diff "$folder/wanted" "$folder/found"
+echo "rust: the page's program: ok"
+
+# the three programs of the first page of the docs, on the kernel
+runs cargo build --locked --example list --example watch --example change
+if unshare -rn true 2>/dev/null; then
+    # shellcheck disable=SC2016
+    runs unshare -rn sh -ec 'cd "$0"; timeout 30 ./watch 2 & sleep 2
+        ip link add v0 type veth peer name v1; ./change v0 1400; wait; ./list
+        ! ./change v9 1400; ! ./change' "$CARGO_TARGET_DIR/debug/examples"
+    [ "$(grep -cE '^[0-9]+: v[01] is ' "$folder/log") $(grep -cE '^[0-9]+: v0 mtu 1400$' "$folder/log")" = '2 1' ]
+    grep -q '^Error: Os { code: 19' "$folder/log"
+    grep -q 'usage: change NAME MTU' "$folder/log"
+    echo 'rust: list, watch and change run: ok'
+else
+    echo 'rust: list, watch and change: skipped: no network namespace may be made'
+fi
+
+# a call of a trait that is not named: rustc names the trait, and says of none that it is private
+mkdir -p "$folder/untold/src"
+sed 's/sample/untold/' "$folder/sample/Cargo.toml" >"$folder/untold/Cargo.toml"
+{
+    awk '/^(enum|struct) [A-Za-z0-9]+$/ { name = $2 } /^  has .*Emitable/ { print name }' items.txt
+    printf '%s\n' DefaultNla LinkAttribute Prop VfInfo
+} | while read -r name; do
+    echo "pub fn of_$name(it: &linkwire::$name) { it.buffer_len(); it.emit(&mut []); }"
+done >"$folder/untold/src/lib.rs"
+cat >>"$folder/untold/src/lib.rs" <<END
+pub fn frame(it: &linkwire::NlaBuffer<&[u8]>) {
+    let _ = linkwire::DefaultNla::parse(it);
+    let _ = linkwire::LinkAttribute::parse_with_param(it, linkwire::AddressFamily::Unspec);
+}
+END
+calls=$(grep -oE '\.(buffer_len|emit)\(|::parse(_with_param)?\(' "$folder/untold/src/lib.rs" | wc -l)
+(cd "$folder/untold" && ! cargo check >/dev/null 2>"$folder/log")
+[ "$(grep -c '^error\[E0599\]' "$folder/log") $(grep -c '^error\[' "$folder/log")" = "$calls $calls" ]
+[ "$(grep -cE '^[0-9 +|]*use linkwire::(Emitable|Parseable|ParseableParametrized);$' "$folder/log")" -ge "$calls" ]
+echo "rust: $calls calls of traits that are not named: rustc names the trait"
+
+runs cargo build --locked --release --example lines
+example=$CARGO_TARGET_DIR/release/examples/lines
+"$example" <"$linkwire/stdin" | cmp - "$linkwire/stdout"
+echo "rust: the program's stored input: the same bytes"
+program=$(program linkwire)
+[ -n "$program" ] || skips 'lines: the program linkwire is not built'
+runs "${CC:-cc}" -std=gnu11 -O2 -DLINES_ALONE -I"$top/include" -o "$folder/second" "$top/tests/second/lines.c"
+export PLACES=$top/tests/second/places.txt
+for set in all digits; do
+    "$folder/second" "$set" >"$folder/lines"
+    for it in linkwire: linkstate:state; do
+        # shellcheck disable=SC2086
+        "$example" ${it#*:} <"$folder/lines" |
+            runs "$folder/second" "$set" compare "${it%:*}" "$top/tests/second/stored.txt"
+        echo "rust: $(cat "$log")"
+    done
+done
+python3 "$top/scripts/test/rust_lines.py" "$folder/lines" "$count"
+"$program" <"$folder/lines" >"$folder/wanted"
+"$example" <"$folder/lines" | cmp - "$folder/wanted"
+answers=$(cut -c 1-7 "$folder/wanted" | cut -d ' ' -f 1 | sort | uniq -c | awk '{ printf ", %s %s", $1, $2 }')
+echo "rust: $(wc -l <"$folder/lines") lines: the same bytes$answers"
+linkstate=$(program linkstate)
+if [ -n "$linkstate" ]; then
+    "$linkstate" <"$folder/lines" >"$folder/wanted"
+    "$example" state <"$folder/lines" | cmp - "$folder/wanted"
+    echo "rust: by the state encoding: the same bytes, $(grep -c '^ok ' "$folder/wanted") states"
+else
+    echo 'rust: by the state encoding: skipped: the program linkstate is not built'
+fi
+LINKWIRE_LINES=$folder/lines runs cargo test --locked --release --test stored lines -- --nocapture
+echo "rust: the calls agree on $(sed -nE 's/^(test .* [.]{3} )?([0-9]+ messages).*/\2/p' "$folder/log")"

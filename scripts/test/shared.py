@@ -1,0 +1,85 @@
+"""What several scripts do: run a program over lines, compare its answers, cut messages into frames, unpack kernels."""
+
+import glob
+import os
+import re
+import struct
+import subprocess
+import sys
+import tempfile
+
+TOP = os.path.dirname(os.path.dirname(os.path.dirname(os.path.abspath(__file__))))
+HEADER_SIZE = 16
+
+
+def read(name):
+    """Returns the text of a file of the repository; bytes that are no UTF-8 stand for themselves."""
+    with open(f"{TOP}/{name}", encoding="utf-8", errors="surrogateescape", newline="") as it:
+        return it.read()
+
+
+def table(name):
+    """Yields each row of a table: its section, and its words, between which two blanks or more stand; four go on."""
+    section = ""
+    for line in filter(None, read(name).replace("\n    ", "  ").split("\n")):
+        if line.startswith("["):
+            section = line.strip("[]")
+        elif not line.startswith("#"):
+            yield section, re.split(r" {2,}", line)
+
+
+def said(program, lines, *options):
+    """Returns the lines that a program writes when it reads these, which are texts or bytes."""
+    text = b"".join((it if isinstance(it, bytes) else it.encode()) + b"\n" for it in lines)
+    ran = subprocess.run([program, *options], input=text, capture_output=True, check=False)
+    if ran.returncode or ran.stderr:
+        sys.exit(f"{program} {' '.join(options)} ends with status {ran.returncode}: {ran.stderr.decode()}")
+    return ran.stdout.split(b"\n")[:-1]
+
+
+def answers(program, lines, *options):
+    """Returns the answers of a program to lines, one to each."""
+    found = said(program, lines, *options)
+    if len(found) != len(lines):
+        sys.exit(f"{program} {' '.join(options)}: {len(found)} answers to {len(lines)} lines")
+    return found
+
+
+def compare(what, lines, found, wanted):
+    """Stops at the first line that is answered otherwise than wanted."""
+    if len(found) != len(wanted):
+        sys.exit(f"{what}: {len(found)} answers, and not {len(wanted)}")
+    for line, one, other in zip(lines, found, wanted):
+        if one != other:
+            sys.exit(f"{what}: {line[:3000]}\nis answered\n{str(one)[:3000]}\nand not\n{str(other)[:3000]}")
+
+
+def frames(octets, at=HEADER_SIZE):
+    """Returns offset, kind and payload of each frame from there on, and where the rest begins that is no frame."""
+    found = []
+    while at + 4 <= len(octets):
+        length, kind = struct.unpack_from("<HH", octets, at)
+        if not 4 <= length <= len(octets) - at:
+            break
+        found.append((at, kind, octets[at + 4:at + length]))
+        at += (length + 3) // 4 * 4
+    return found, at
+
+
+def attribute(kind, payload, padding=b"\0"):
+    """Returns the bytes of an attribute, with its padding."""
+    return struct.pack("<HH", 4 + len(payload), kind) + payload + padding * (-len(payload) % 4)
+
+
+def kernels(folder):
+    """Yields the release of each kernel of a folder and its folder out/, the oldest first; archives are unpacked."""
+    with tempfile.TemporaryDirectory() as unpacked:
+        for archive in glob.glob(f"{folder}/*.tar.xz"):
+            into = f"{unpacked}/{os.path.basename(archive).removesuffix('.tar.xz')}"
+            os.mkdir(into)
+            subprocess.run(["tar", "-xJf", archive, "-C", into], check=True)
+        found = {out.split(os.sep)[-2]: out for it in (folder, unpacked) for out in glob.glob(f"{it}/*/out")}
+        if not found:
+            sys.exit(f"no kernel in {folder}")
+        for release in sorted(found, key=lambda it: [int(n) for n in re.findall(r"\d+", it)]):
+            yield release, found[release]

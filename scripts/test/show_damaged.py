@@ -1,0 +1,154 @@
+#!/usr/bin/env python3
+"""Damages lines, the same way each time, and looks at what the two programs say of them.
+
+    python3 scripts/test/show_damaged.py LINKSHOW LINKWIRE [ROUNDS]
+
+The lines are those of linkshow's stored run, those of linkwire's tests, and a few that are as long as a list can be.
+Any byte is damaged, of the header too, and now and then a digit. Each line has to have one answer, which is a JSON
+object on one line in UTF-8 with no control character and no name twice in one object. It has a fault exactly where
+linkwire refuses the line, and says that it is no hexadecimal exactly where linkwire does. With --lenient each answer is
+what a model here makes of the answers without it to one attribute at a time.
+"""
+
+import glob
+import json
+import random
+import re
+import sys
+
+from shared import HEADER_SIZE, TOP, answers, attribute, compare, frames, read
+
+HEADER = "00" * 16
+LONG = [
+    HEADER + "ffff0300" + "61" * 65531,  # a name
+    HEADER + "58031a0054030a00" + "04000300" * 212,  # counters of IPv6, each of which grows by all of its numbers
+    HEADER + "f4ff1600" + "100001000c0004000000000001000000" * 4095,  # functions
+    HEADER + "0800040001000000" * 16000,  # one name at one place
+]
+# the attributes that hold others, by their numbers: the kernel's name, of which small letters are the one that is shown
+HOLDERS = {12: "IFLA_PROTINFO", 18: "IFLA_LINKINFO", 22: "IFLA_VFINFO_LIST", 24: "IFLA_VF_PORTS", 25: "IFLA_PORT_SELF",
+           26: "IFLA_AF_SPEC", 43: "IFLA_XDP", 52: "IFLA_PROP_LIST", 55: "IFLA_PROTO_DOWN_REASON",
+           62: "IFLA_DEVLINK_PORT", 65: "IFLA_DPLL_PIN"}
+
+
+def sources():
+    """Returns the lines of linkshow's stored run, and the lines and canonical texts that linkwire's tests have."""
+    stored = [it for it in read("crates/linkshow/stdin").split("\n") if re.fullmatch("(?:[0-9a-fA-F]{2})+", it)]
+    tested = [digits for path in sorted(glob.glob("crates/linkwire/src/tests/*.rt", root_dir=TOP))
+              for digits in re.findall("[0-9a-fA-F]{32,}", re.sub(r"\\\n\s*", "", read(path))) if len(digits) % 2 == 0]
+    if not stored or not tested:
+        sys.exit("show_damaged: linkshow's stored run, or the tests of linkwire, have no lines")
+    return list(dict.fromkeys(stored + tested))
+
+
+def damaged_bytes(chance, line):
+    """Returns a line with a few bytes changed, cut or doubled."""
+    bytes_ = bytearray.fromhex(line)
+    for _ in range(chance.randrange(1, 4)):
+        if not bytes_:
+            break
+        at = chance.randrange(chance.choice((len(bytes_), min(len(bytes_), 48))))
+        what = chance.randrange(4)
+        if what == 0:
+            bytes_[at] = chance.choice((0, 1, 3, 4, 5, 255, chance.randrange(256)))
+        elif what == 1:
+            del bytes_[at:]
+        elif what == 2:
+            bytes_[at:at] = bytes_[16:at][: chance.randrange(1, 64)]
+        else:
+            bytes_[at] ^= 1 << chance.randrange(8)
+    return bytes_.hex()
+
+
+def damaged(chance, line):
+    """Returns a line with a few bytes changed, cut or doubled, or a digit that is none."""
+    digits = damaged_bytes(chance, line)
+    if chance.randrange(50) == 0:
+        at = chance.randrange(len(digits) + 1)
+        digits = digits[:at] + chance.choice(("", "0", "g", " ", "\r", "\0", "é")) + digits[at + 1 :]
+    return digits
+
+
+def object_of(pairs):
+    """Returns an object as a dictionary; no name stands twice in it."""
+    found = dict(pairs)
+    if len(found) != len(pairs):
+        raise ValueError("a name stands twice in one object")
+    return found
+
+
+def fault_of(answer):
+    """Returns the fault that an answer of linkshow tells, or nothing."""
+    if min(answer) < 32:
+        raise ValueError("a control character")
+    return json.loads(answer.decode("utf-8"), object_pairs_hook=object_of).get("fault")
+
+
+def parts(message):
+    """Returns offset and line of a message of each attribute alone; None without a header, or where one is no frame."""
+    found, end = frames(message)
+    if len(message) < HEADER_SIZE or end < len(message):
+        return None
+    return [(at, (message[:HEADER_SIZE] + attribute(kind, payload)).hex()) for at, kind, payload in found]
+
+
+def refused_as(at, line, answer):
+    """Returns what stands under refused of an attribute there, by the answer to it alone; nothing if it is accepted."""
+    alone = json.loads(answer)
+    if "fault" not in alone:
+        return None
+    (_, kind, payload), = frames(bytes.fromhex(line))[0]
+    holder = HOLDERS.get(kind & 0x3FFF, "")
+    told = {"at": alone["at"], "fault": alone["fault"]}
+    told |= {it: alone[it] for it in ("got", "need", "want", "left", "length") if it in alone}
+    told["offset"] = alone["offset"] - HEADER_SIZE + at
+    if alone["offset"] > HEADER_SIZE and alone["at"] != holder:
+        told["in"] = holder.removeprefix("IFLA_").lower().replace("_", "-")
+    told["payload"] = payload.hex()
+    # numbers in the order of the answer
+    order = [it for it in ("at", "fault", *alone, "in", "payload") if it in told]
+    return json.dumps({it: told[it] for it in dict.fromkeys(order)}, separators=(",", ":")).encode()
+
+
+def leniently(show, lines, shown):
+    """Returns what the model says with --lenient, of most lines as without it, and of how many it is another answer."""
+    split = {n: parts(bytes.fromhex(line)) for n, (line, answer) in enumerate(zip(lines, shown))
+             if fault_of(answer) not in (None, "not-hex")}
+    split = {n: found for n, found in split.items() if found is not None}
+    asked = list({line for found in split.values() for _, line in found})
+    alone, accepted, refused = dict(zip(asked, answers(show, asked))), [], []
+    for n, found in split.items():
+        told = [(line, refused_as(at, line, alone[line])) for at, line in found]
+        accepted.append(lines[n][:2 * HEADER_SIZE] + "".join(it[2 * HEADER_SIZE:] for it, why in told if why is None))
+        refused.append(b",".join(why for _, why in told if why is not None))
+    wanted = list(shown)
+    for n, answer, why in zip(split, answers(show, accepted), refused):
+        wanted[n] = answer[:-1] + b',"refused":[' + why + b"]}"
+    return wanted, len(split)
+
+
+def main():
+    show, wire = sys.argv[1:3]
+    rounds = int(sys.argv[3]) if len(sys.argv) > 3 else 100
+    chance = random.Random(1)
+    lines = sources() + LONG + [damaged(chance, line) for line in sources() for _ in range(rounds)]
+    lines += [damaged(chance, line) for line in LONG for _ in range(rounds // 10)]
+    shown, checked = answers(show, lines), answers(wire, lines)
+    counts = {None: 0, "refused": 0, "nothex": 0}
+    for line, answer, other in zip(lines, shown, checked):
+        try:
+            fault = fault_of(answer)
+        except ValueError as error:
+            sys.exit(f"show_damaged: {line[:300]}: {error}: {answer[:300]}")
+        said = "nothex" if fault == "not-hex" else "refused" if fault else None
+        if said != (other.decode() if other in (b"refused", b"nothex") else None):
+            sys.exit(f"show_damaged: {line[:300]}: {answer[:300]}, and linkwire: {other[:300]}")
+        counts[said] += 1
+    wanted, count = leniently(show, lines, shown)
+    compare("show_damaged: --lenient", lines, answers(show, lines, "--lenient"), wanted)
+    print(f"show_damaged: {len(lines)} lines, {counts['refused']} with a fault, of which {count} are shown with "
+          f"--lenient, {counts['nothex']} no hexadecimal")
+
+
+if __name__ == "__main__":
+    main()

@@ -1,0 +1,236 @@
+#!/usr/bin/env bash
+# Looks that what does not fit is told, and not built: a text with one instruction changed, with its sum and without, a
+# sum that is wrong, a source or a line of crates.txt that changed without `make dist`, a file written by hand that
+# changed without `make sums`, and a file, a compiler, a text or a command that is missing. A stand-in takes the place
+# of rt. The texts in out/texts, of `dist.sh --compare`, are compared where there are any.
+# shellcheck disable=SC2016
+. "$(dirname "$0")/../common.sh"
+mkdir "$folder/bin" "$folder/rt"
+copies_tree "$folder/tree"
+cd "$folder/tree"
+PATH=$folder/bin:$PATH
+arch=$(cc -dumpmachine | sed 's/-.*//')
+text=dist/$arch/linkwire.s
+
+# tells TEXT COMMAND..: it ends with status 2, or 1 of a script, and its one line has the text
+tells() {
+    local status=0
+    "${@:2}" >"$folder/out" 2>&1 </dev/null || status=$?
+    if [ "$status" = 0 ] || ! grep -qF "$1" "$folder/out" || [ "$(grep -c . "$folder/out")" != 1 ] ||
+        { [ "$2" = make ] && [ "$status" != 2 ]; }; then
+        cat "$folder/out" >&2
+        fails "status $status of '${*:2}', which was to tell '$1'"
+    fi
+    echo "test_dist: $1: ok"
+}
+
+# lacks FILE COMMAND..: runs the rest without this file
+lacks() {
+    mv "$1" "$folder/away"
+    "${@:2}"
+    mv "$folder/away" "$1"
+}
+
+# changes FILE WORD..: changes a file by sed, has the rest told, and puts it back
+changes() {
+    cp "$1" "$folder/was"
+    sed -i "$2" "$1"
+    ! cmp -s "$1" "$folder/was" || fails "$1 has nothing that '$2' changes"
+    "${@:3}"
+    cp "$folder/was" "$1"
+}
+
+# an instruction becomes another of the same size
+instruction='0,/^\taddq\t/s//\tsubq\t/'
+[ "$arch" = x86_64 ] || instruction='0,/^\tadd\t/s//\tsub\t/'
+scripts/make/sums.sh check | grep -qx 'dist: the sums fit'
+told() {
+    tells "$1" scripts/make/sums.sh check
+    tells "$1" make -s run
+}
+changes "$text" "$instruction" told "$text is not the text of dist/SUMS"
+changes dist/SUMS "s/^....\(.*  dist\/$arch\/linkwire\.s\)/0000\1/" told "$text is not the text of dist/SUMS"
+changes crates/nla_wire/src/buffer.rt '$a// changed' told 'crates/nla_wire/src/buffer.rt changed since dist/ was made'
+changes crates.txt 's/^link_msg: /link_msg: memchr /' \
+    told 'the line of link_msg in crates.txt changed since dist/ was made'
+touch crates/link_msg/src/another.rt
+told 'crates/link_msg/src/another.rt changed since dist/ was made'
+rm crates/link_msg/src/another.rt
+lacks crates/link_msg/src/lib.rt told 'crates/link_msg/src/lib.rt changed since dist/ was made'
+lacks crates.txt told 'crates.txt is missing'
+by_hand() {
+    tells "$1 is not the file of dist/SUMS: make sums writes its sum anew" scripts/make/sums.sh check
+    tells "$1 is not the file of dist/SUMS: make sums writes its sum anew" make -s all
+}
+changes dist/heap.c 's/malloc(count != 0 ? count : align)/malloc(count)/' by_hand dist/heap.c
+changes dist/errno.c '$a/* changed */' by_hand dist/errno.c
+changes dist/liblinkwire.map 's/linkwire_\*/*/' by_hand dist/liblinkwire.map
+changes dist/Makefile '$a# changed' by_hand dist/Makefile
+changes Makefile '$a# changed' by_hand Makefile
+changes include/linkwire.h 's/uint16_t kind; /uint32_t kind; /' by_hand include/linkwire.h
+changes programs/linkdump_lines.c '$a/* changed */' by_hand programs/linkdump_lines.c
+lacks dist/heap.c tells 'dist/heap.c is missing' scripts/make/sums.sh check
+# its sum is made anew, and no other
+summed() {
+    cp dist/SUMS "$folder/sums"
+    make -s sums
+    [ "$(diff "$folder/sums" dist/SUMS | grep -c '^[<>] [0-9a-f]*  dist/heap.c$')" = 2 ] || fails 'make sums: no sum'
+    [ "$(diff "$folder/sums" dist/SUMS | grep -c '^[<>]')" = 2 ] || fails 'make sums: other sums'
+    scripts/make/sums.sh check >/dev/null
+    [ "$(echo 0 | make -s run)" = nothex ]
+    cp "$folder/sums" dist/SUMS
+}
+changes dist/heap.c '$a/* changed */' summed
+make -s sums
+cmp dist/SUMS "$folder/sums"
+sed '/^#/d; /  dist\/heap.c$/d' dist/SUMS | sha256sum --quiet -c -
+echo 'test_dist: make sums: ok'
+
+named() {
+    [ "$(scripts/make/sums.sh unfit "$arch" linkwire link_c | xargs)" = "$1" ] ||
+        fails "sums.sh unfit does not name '$1'"
+}
+named ''
+changes crates/nla_wire/src/nla_read.rt '$a// changed' named 'linkwire link_c'
+changes "$text" "$instruction" named linkwire
+
+# where nobody can tell whether they fit, nothing is built: without a command, or without the script; its mode is no
+# matter
+read_rt=crates/nla_wire/src/nla_read.rt
+nobody_tells="scripts/make/sums.sh, which needs bash and sha256sum, does not say whether dist/ fits the crates: "
+untold() {
+    mkdir "$folder/few"
+    tr ':' '\n' <<<"$PATH" | while read -r it; do
+        find "$it/" -maxdepth 1 ! -type d ! -name "$1" -exec ln -sf -t "$folder/few" {} + 2>/dev/null || true
+    done
+    PATH=$folder/few tells "$nobody_tells" make -s run
+    rm -r "$folder/few"
+}
+for it in bash sha256sum; do
+    untold "$it"
+    changes "$read_rt" '$a// changed' untold "$it"
+done
+lacks scripts/make/sums.sh untold none
+chmod -x scripts/make/sums.sh
+changes "$read_rt" '$a// changed' tells "$read_rt changed since dist/ was made" make -s run
+chmod +x scripts/make/sums.sh
+
+# with its sum too, it is not the text that was made of the crates
+forged() {
+    local sum
+    sum=$(sha256sum "$text")
+    sed -i "s/.*  dist\/$arch\/linkwire\.s$/${sum%% *}  dist\/$arch\/linkwire.s/" dist/SUMS
+    scripts/make/sums.sh check >/dev/null
+    if scripts/make/dist.sh --against "$top/out/texts" linkwire >"$folder/out" 2>&1 ||
+        ! grep -q "$text is not what is made of the crates" "$folder/out"; then
+        cat "$folder/out" >&2
+        fails 'a text with its sum is not refused'
+    fi
+    echo 'test_dist: an instruction changed, and its sum: ok'
+}
+if [ -e "$top/out/texts/$arch/linkwire.s" ]; then
+    cp dist/SUMS "$folder/sums"
+    changes "$text" "$instruction" forged
+    cp "$folder/sums" dist/SUMS
+else
+    echo 'test_dist: an instruction changed, and its sum: skipped: no texts were made'
+fi
+
+# what is no source of a text changes nothing: proofs, a crate above
+fits() {
+    [ "$(echo 0 | make -s run 2>&1)" = nothex ]
+    echo "test_dist: $1 changes no text: ok"
+}
+changes crates/nla_wire/specs/Frames.antt '$a-- changed' fits 'a specification'
+changes crates/linkshow/src/main.rt '$a// changed' fits 'a crate above'
+
+# with rt, what changed is proved where that is asked for, and nowhere else
+cat >"$folder/rt/rt" <<'END_OF_RT'
+#!/bin/sh
+mkdir -p out/rlib
+name=$(basename "$PWD")
+case $1 in
+lib)
+    touch out/rlib/stamp
+    echo 'int linkwire_proved(void) { return 1; }' | cc -c -x c -o out/proved.o - && ar rc "out/lib$name.a" out/proved.o
+    ;;
+run) printf '#!/bin/sh\necho proved\n' >"out/$name" && chmod +x "out/$name" ;;
+esac
+END_OF_RT
+chmod +x "$folder/rt/rt"
+mkdir "$folder/c"
+ar rc "$folder/c/liblibc_c.a"
+proves() {
+    PATH=$folder/rt:$PATH
+    for goal in run self-test all; do
+        tells "$read_rt changed since dist/ was made: make dist proves it" make -s "$goal"
+    done
+    make -s run PROVE=1 2>"$folder/err" </dev/null | grep -qx proved
+    echo 'test_dist: what changed is proved where PROVE=1 asks for it, and nowhere else: ok'
+}
+(changes "$read_rt" '$a// changed' proves)
+[ "$(echo 0 | make -s run)" = nothex ]
+# has_proved COUNT: in how many of the libraries stands what the stand-in made
+has_proved() {
+    local count
+    count=$({ nm out/liblinkwire.a; nm -D out/liblinkwire.so.0; } | grep -c ' T linkwire_proved$' || true)
+    [ "$count" = "$1" ] || fails "$count libraries have what was proved, and not $1"
+}
+make -s lib >/dev/null
+has_proved 0
+PATH=$folder/rt:$PATH make -s lib PROVE=1 >"$folder/out" 2>"$folder/err" </dev/null
+has_proved 2
+make -s lib >/dev/null
+has_proved 0
+echo 'test_dist: what was proved gives way to what dist/ has: ok'
+
+# the caller's flags reach each call of the compiler, behind those that harden
+printf '#!/bin/sh\necho "$*" >>%s\nexec cc "$@"\n' "$folder/calls" >"$folder/bin/logs-cc"
+chmod +x "$folder/bin/logs-cc"
+make -s all CC=logs-cc CPPFLAGS=-DPASSED CFLAGS='-O1 -g' LDFLAGS=-Wl,-O1 >/dev/null
+passes() {
+    grep -E -- "$1" "$folder/calls" >"$folder/out"
+    if [ "$(wc -l <"$folder/out")" != "$2" ] || grep -vE -- "$3" "$folder/out" >&2; then
+        fails "calls of the compiler without $3"
+    fi
+}
+passes ' (dist/heap|dist/errno|programs/linkdump)[.]c ?' 3 '-fstack-protector-strong .*-DPASSED .*-O1 -g '
+passes ' -o out/link[a-z]* ' 5 '-Wl,-z,now .*-O1 -g -Wl,-O1 '
+passes ' -o out/liblinkwire.so.0 ' 1 '-Wl,-O1 .*-Wl,-z,now '
+rm -r out
+echo "test_dist: the caller's flags are passed on: ok"
+
+# bad input, and nothing is installed
+installs=(make -s install "DESTDIR=$folder/stage")
+compiles_for() {
+    printf '#!/bin/sh\necho %s\n' "$2" >"$folder/bin/$1"
+    chmod +x "$folder/bin/$1"
+}
+compiles_for other-cc riscv64-linux-gnu
+compiles_for mac-cc arm64-apple-darwin23.1.0
+tells 'there is no nocc: install a C compiler and binutils, or set CC' "${installs[@]}" CC=nocc
+tells 'there is no nold: install a C compiler and binutils, or set LD' "${installs[@]}" LD=nold
+tells 'dist/ has no text for riscv64, only for' "${installs[@]}" CC=other-cc
+tells 'the texts in dist/ are for Linux, and mac-cc compiles for arm64-apple-darwin23.1.0: set CC to a compiler' \
+    "${installs[@]}" CC=mac-cc
+# the headers that a compiler finds: none, and those of the C library alone
+mkdir "$folder/headers"
+tells 'cc -nostdinc finds no errno.h: install the headers of the C library' "${installs[@]}" CC='cc -nostdinc'
+touch "$folder/headers/errno.h" "$folder/headers/stdio.h"
+tells 'finds no linux/rtnetlink.h: install the headers of the kernel, or name their folder in CPPFLAGS' \
+    "${installs[@]}" CC="cc -nostdinc -isystem $folder/headers"
+tells 'PROVE=1 proves the crates by the command rt, which is not on the path: leave it out' "${installs[@]}" PROVE=1
+for goal in dump out/linkdump; do
+    tells 'there is no nocc: install a C compiler and binutils, or set CC' make -s "$goal" CC=nocc
+done
+for file in "$text" dist/heap.c man/linkwire.1 include/linkwire.h dist/linkwire.pc.in programs/*; do
+    lacks "$file" tells "$file is missing" "${installs[@]}"
+done
+for file in include/linkwire.h programs/linkdump.h programs/linkdump_capture.c; do
+    lacks "$file" tells "$file is missing" make -s dump
+done
+for goal in check dist edits; do
+    tells "make $goal proves the crates by the command rt, which is not on the path: make self-test" make -s "$goal"
+done
+[ ! -e "$folder/stage" ] || fails 'something is installed'
+echo 'test_dist passed'

@@ -1,0 +1,82 @@
+#!/usr/bin/env bash
+# Looks that what holds the programs without `rt` tells of slips: of a row that is changed in a copy of the tables that
+# the second reader has, of answers and stored sums that are changed, and of wrong programs in the place of linkdiff:
+# test_second.sh FOLDER, where the programs are.
+. "$(dirname "$0")/../common.sh"
+cd "$top"
+programs=$(realpath "$1")
+"${CC:-cc}" -std=gnu11 -O2 -DLINES_ALONE -Iinclude -o "$folder/lines" tests/second/lines.c
+"$folder/lines" all >"$folder/all"
+
+# slip FILE OLD NEW: a copy of the tables in which a row is changed, by which the reader has to differ from linkwire
+slip() {
+    rm -rf "$folder/crates"
+    mkdir "$folder/crates"
+    local it
+    for it in crates/*/specs; do
+        mkdir -p "$folder/$it"
+        cp "$it"/*.antt "$folder/$it"
+    done
+    grep -qF -- "$2" "crates/$1" || fails "$1 has no '$2'"
+    python3 - "$folder/crates/$1" "$2" "$3" <<'END'
+import sys
+path, old, new = sys.argv[1:]
+text = open(path, encoding="utf-8").read()
+open(path, "w", encoding="utf-8").write(text.replace(old, new, 1))
+END
+    if CRATES=$folder/crates python3 tests/second/check.py --only linkwire,linkstate --lines "$folder/few" "$programs" \
+        "$folder/lines" >"$folder/out" 2>&1 || ! grep -q 'answers differ' "$folder/out"; then
+        cat "$folder/out" >&2
+        fails "$1: '$2' as '$3' is not told"
+    fi
+}
+# every fortieth line, and all of the types of link layers
+awk 'NR % 40 == 0 || length($0) == 32' "$folder/all" >"$folder/few"
+slip link_headline/specs/Kernel.antt 'row 40 u32 Attributes.GsoMaxSegs' 'row 90 u32 Attributes.GsoMaxSegs'
+slip link_headline/specs/Kernel.antt '(sized 12 vf_info_vlan_of)' '(filled vf_info_vlan_of)'
+slip link_headline/specs/StateRows.antt '(23, Clear)' '(24, Clear)'
+slip link_headline/specs/StateRows.antt 'ClearPart 4 12' 'ClearPart 4 8'
+slip link_vals/specs/LinkLayerTypeTable.antt 'layer_type_number Can = 280' 'layer_type_number Can = 279'
+echo 'second: rows that are changed on one side: each is told'
+
+# differs NAME WHAT: the answers in $folder/answers are told to be others than the stored ones, in a line with that
+differs() {
+    if "$folder/lines" all compare linkwire "$folder/stored" <"$folder/answers" >"$folder/out" 2>&1 ||
+        ! grep -qF -- "$2" "$folder/out"; then
+        cat "$folder/out" >&2
+        fails "$1 is not told"
+    fi
+}
+cp tests/second/stored.txt "$folder/stored"
+"$programs/linkwire" <"$folder/all" >"$folder/right"
+awk 'NR < 5000 || is_done { print; next }
+    held ~ /^ok/ && /^ok/ && $0 != held { print; print held; is_done = 1; next }
+    { if (held != "") print held; held = $0 }' "$folder/right" >"$folder/answers"
+differs 'an answer in the place of another' 'linkwire: place 0 '
+awk 'NR >= 200000 && /^ok/ && !count++ { print "refused"; next } { print }' "$folder/right" >"$folder/answers"
+differs 'an answer that is refused' "'refused': stored are"
+sed '$d' "$folder/right" >"$folder/answers"
+differs 'a last answer that is missing' 'fewer answers than lines'
+cp "$folder/right" "$folder/answers"
+sed -i 's/^linkwire 40 ok .*$/linkwire 40 ok 1 00000000/' "$folder/stored"
+differs 'a stored sum that is changed' 'linkwire: place 40 '
+echo 'second: answers that are changed: each is told'
+
+python3 tests/second/laws.py --slips "$programs"
+
+# a number of the crate in rust/
+if ! command -v cargo >/dev/null; then
+    echo 'second: a slip in rust/: skipped: no cargo'
+    exit
+fi
+cp -r rust "$folder/rust"
+sed -i 's/\(IFLA_GSO_MAX_SEGS: u16 =\) 40;/\1 90;/' "$folder/rust/src/generated/link_msg/numbers.rs"
+! cmp -s rust/src/generated/link_msg/numbers.rs "$folder/rust/src/generated/link_msg/numbers.rs" ||
+    fails 'rust/: the number that is to be changed is not there'
+export CARGO_NET_OFFLINE=true CARGO_TARGET_DIR=$folder/target
+cargo build --quiet --locked --example lines --manifest-path "$folder/rust/Cargo.toml" 2>"$folder/out" ||
+    { cat "$folder/out" >&2; exit 1; }
+python3 tests/second/check.py --rust "$CARGO_TARGET_DIR/debug/examples/lines" --only linkwire --lines "$folder/few" \
+    "$programs" "$folder/lines" >"$folder/out" 2>&1 && fails 'a slip in rust/ is not told'
+grep -q "answers differ: {'rust'" "$folder/out" || { cat "$folder/out" >&2; fails 'a slip in rust/ is not told'; }
+echo 'second: a number that is changed in rust/: it is told'
