@@ -12,7 +12,6 @@ import contracts
 import derives
 import erase
 import keys
-import layout
 import memory
 import older
 import owed
@@ -46,7 +45,7 @@ MAKES = {
     "refused": lambda text: refused(text, "link_msg", erase.Mode("crate")),
     "refused in tests": lambda text: refused(text, "message_diff", erase.Mode("tests")),
     "made in tests": lambda text: erase.erase("a.rt", text, "message_diff", erase.Mode("tests")),
-    "laid out": layout.laid_out, "let_else": lambda text: older.let_else("a.rs", text),
+    "let_else": lambda text: older.let_else("a.rs", text),
     "reserved": by(memory.reserved), "narrowing": by(owed.narrowing), "hide_calls": by(surface.hide_calls),
     "other_names": by(surface.other_names),
     "inline_optimized": by(contracts.inline_optimized), "unwrap_functions": by(memory.unwrap_functions),
