@@ -61,7 +61,7 @@ programs() {
     python3 tests/linkdiff/cases.py crates/linkdiff/out/linkdiff
     python3 scripts/test/headline.py crates/linkwire/out/linkwire crates/linkshow/out/linkshow
     python3 scripts/test/linkdiff_page.py crates/linkdiff/out/linkdiff
-    python3 scripts/test/show_damaged.py crates/linkshow/out/linkshow crates/linkwire/out/linkwire
+    stage damaged.py python3 scripts/test/damaged.py out
     stage show_beside.py python3 scripts/test/show_beside.py crates/beside/out/beside crates/linkshow/out/linkshow
     python3 scripts/test/kernel_messages.py
     python3 scripts/test/kernel_truth.py crates/linkshow/out/linkshow

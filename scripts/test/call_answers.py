@@ -17,8 +17,8 @@ import subprocess
 import sys
 import tempfile
 
+from damaged import damaged_bytes
 from shared import HEADER_SIZE, TOP, answers, compare, frames, said
-from show_damaged import damaged_bytes
 
 FILES = ["tests/captures.txt", "tests/kernels/messages.txt", "crates/linkshow/stdin", "crates/linkwire/stdin",
          "crates/linkdiff/stdin", "bench/messages.txt"]

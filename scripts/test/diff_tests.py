@@ -10,8 +10,7 @@ Words in front of a line are told as linkshow tells them.
 import random
 import sys
 
-from shared import HEADER_SIZE, TOP, answers, attribute, compare, frames, said
-from state_tests import pairs
+from shared import HEADER_SIZE, TOP, answers, attribute, compare, frames, pairs, said
 
 sys.path.append(f"{TOP}/tests/second")
 import told

@@ -50,7 +50,7 @@ makes_lines() {
         return
     fi
     runs "${CC:-cc}" -std=gnu11 -O2 -DLINES_ALONE -I"$top/include" -o "$folder/second" "$top/tests/second/lines.c"
-    python3 "$top/scripts/test/rust_lines.py" "$folder/made" $((count / 2))
+    python3 "$top/scripts/test/damaged.py" --write "$folder/made" $((count / 2))
     PLACES=$top/tests/second/places.txt "$folder/second" all >"$folder/all"
     {
         grep -v '^#' "$top/tests/kernels/messages.txt"

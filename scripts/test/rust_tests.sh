@@ -126,7 +126,7 @@ for set in all digits; do
         echo "rust: $(cat "$log")"
     done
 done
-python3 "$top/scripts/test/rust_lines.py" "$folder/lines" "$count"
+python3 "$top/scripts/test/damaged.py" --write "$folder/lines" "$count"
 "$program" <"$folder/lines" >"$folder/wanted"
 "$example" <"$folder/lines" | cmp - "$folder/wanted"
 answers=$(cut -c 1-7 "$folder/wanted" | cut -d ' ' -f 1 | sort | uniq -c | awk '{ printf ", %s %s", $1, $2 }')

@@ -71,6 +71,22 @@ def attribute(kind, payload, padding=b"\0"):
     return struct.pack("<HH", 4 + len(payload), kind) + payload + padding * (-len(payload) % 4)
 
 
+def pairs():
+    """Returns (name, first, second) of each pair of tests/state/pairs.txt."""
+    found = []
+    for line in read("tests/state/pairs.txt").splitlines():
+        word, _, rest = line.partition(" ")
+        if word == "pair":
+            found.append((rest, bytearray(), bytearray()))
+        elif word == "at":
+            at, changed = rest.split()
+            found[-1][2][int(at):int(at) + len(changed) // 2] = bytes.fromhex(changed)
+        elif word != "#":
+            for message in found[-1][1:]:
+                message.extend(bytes.fromhex(line))
+    return [(name, bytes(first), bytes(second)) for name, first, second in found]
+
+
 def kernels(folder):
     """Yields the release of each kernel of a folder and its folder out/, the oldest first; archives are unpacked."""
     with tempfile.TemporaryDirectory() as unpacked:

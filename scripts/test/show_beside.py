@@ -12,14 +12,11 @@ that are accepted; linkshow alone tells the fault, and what is refused. The last
 
 import random
 import re
-import subprocess
 import sys
-import tempfile
-from itertools import islice
 
+from damaged import LONG, damaged, made, sources
 from kernel_messages import messages
-from shared import TOP, answers, compare
-from show_damaged import LONG, damaged, sources
+from shared import answers, compare
 
 # the words of each program for each order of the counters of IPv6, and for lenient reading
 WAYS = [((), ()), (("before",), ("--kernel", "6.12")), (("since",), ("--kernel", "6.16")),
@@ -27,13 +24,6 @@ WAYS = [((), ()), (("before",), ("--kernel", "6.12")), (("since",), ("--kernel",
 MADE_LINES = 200
 REFUSED = b'{"fault":"refused"'
 NOT_HEX = b'{"fault":"not-hex"}'
-
-
-def made():
-    """Returns lines that bench/make_lines.py makes."""
-    with tempfile.NamedTemporaryFile("r", encoding="ascii") as it:
-        subprocess.run([sys.executable, f"{TOP}/bench/make_lines.py", it.name, "1"], check=True, timeout=600)
-        return [line.rstrip("\n") for line in islice(it, MADE_LINES)]
 
 
 def lines_of(path):
@@ -55,7 +45,7 @@ def main():
     beside, show = sys.argv[1:3]
     rounds = int(sys.argv[3]) if len(sys.argv) > 3 else 2
     chance = random.Random(3)
-    whole = sources() + [digits for _, digits in messages()] + LONG + made()
+    whole = sources() + [digits for _, digits in messages()] + LONG + made(MADE_LINES)
     whole += [line for path in sys.argv[4:] for line in lines_of(path)]
     lines = whole + [damaged(chance, line) for line in whole for _ in range(rounds if len(line) < 20_000 else 1)]
     # linkshow takes what stands in front of a blank as words

@@ -1,15 +1,13 @@
 #!/usr/bin/env python3
-"""Holds linkstate to the second reader of tests/second over damaged lines, and to what kernels sent.
+"""Holds linkstate to what kernels sent; damaged.py holds it to the second reader of tests/second.
 
     [KERNELS=FOLDER] python3 scripts/test/state_tests.py LINKSTATE
 
-The lines are those of show_damaged.py and the messages of tests/state/pairs.txt, as they are and damaged; of each the
-answer has to be the second reader's, with --lenient too. With words in front, which may be damaged too, each line has
-to have them in front of its answer. The two messages of each pair have one state, which is the state encoding of
-itself. FOLDER has a folder RELEASE/out, or an archive RELEASE.tar.xz of out/, for each kernel: NAME.hex has a dump's
+With words in front, which may be damaged, a line has to have them in front of its answer. The two messages of each pair
+of tests/state/pairs.txt have one state, which is the state encoding of itself. FOLDER has a folder RELEASE/out, or an archive RELEASE.tar.xz of out/, for each kernel: NAME.hex has a dump's
 messages, a line of hexadecimal each, and NAME.hex2 those of a dump that came after. Each pair of messages of an
-interface has one state too, or is refused twice, but for those that are named in ASKED. Without FOLDER that is
-'skipped'.
+interface has one state too, that of the second reader, or is refused twice, but for those that are named in ASKED.
+Without FOLDER that is 'skipped'.
 """
 
 import glob
@@ -18,8 +16,8 @@ import random
 import re
 import sys
 
-from shared import TOP, answers, compare, kernels, read
-from show_damaged import LONG, damaged, sources
+from damaged import sources
+from shared import TOP, answers, compare, kernels, pairs
 
 sys.path.append(f"{TOP}/tests/second")
 from check import Said
@@ -38,34 +36,17 @@ def fails(*words):
     sys.exit("state_tests: " + " ".join(map(str, words)))
 
 
-def pairs():
-    """Returns (name, first, second) of each pair of tests/state/pairs.txt."""
-    found = []
-    for line in read("tests/state/pairs.txt").splitlines():
-        word, _, rest = line.partition(" ")
-        if word == "pair":
-            found.append((rest, bytearray(), bytearray()))
-        elif word == "at":
-            at, changed = rest.split()
-            found[-1][2][int(at):int(at) + len(changed) // 2] = bytes.fromhex(changed)
-        elif word != "#":
-            for message in found[-1][1:]:
-                message.extend(bytes.fromhex(line))
-    return [(name, bytes(first), bytes(second)) for name, first, second in found]
-
-
 def of_answer(answer):
     """Returns the bytes of an answer 'ok ..', or nothing."""
     return bytes.fromhex(answer[3:].decode()) if answer.startswith(b"ok ") else None
 
 
 def compare_states(linkstate, lines):
-    """Compares the answers with the second reader's, strictly and leniently; returns how many lines have a state."""
+    """Compares the answers with the second reader's, strictly and leniently."""
     saids = [Said(line.encode()) for line in lines]
-    strict, lenient = [it.stated.encode() for it in saids], [it.stated_leniently.encode() for it in saids]
-    compare("state_tests", lines, answers(linkstate, lines), strict)
-    compare("state_tests: --lenient", lines, answers(linkstate, lines, "--lenient"), lenient)
-    return [sum(it.startswith(b"ok ") for it in found) for found in (strict, lenient)]
+    compare("state_tests", lines, answers(linkstate, lines), [it.stated.encode() for it in saids])
+    compare("state_tests: --lenient", lines, answers(linkstate, lines, "--lenient"),
+            [it.stated_leniently.encode() for it in saids])
 
 
 # ** words in front
@@ -141,16 +122,12 @@ def compare_kernels(linkstate, folder):
 
 def main(linkstate):
     chance, found = random.Random(2), pairs()
-    messages = [it.hex() for _, first, second in found for it in (first, second)]
-    lines = sources() + LONG + messages + [damaged(chance, line) for line in sources() for _ in range(60)]
-    lines += [damaged(chance, line) for line in messages for _ in range(200)]
-    strict, lenient = compare_states(linkstate, lines)
-    with_words = compare_worded(linkstate, [worded(chance, line) for line in sources() + messages for _ in range(20)])
+    lines = sources() + [it.hex() for _, *pair in found for it in pair]
+    with_words = compare_worded(linkstate, [worded(chance, line) for line in lines for _ in range(20)])
     moved, refused = two_states(linkstate, found)
     if moved or refused:
         fails("two states, or a refusal:", ", ".join([*moved, *refused]))
-    print(f"state_tests: {len(lines)} lines, {strict} with a state and {lenient} leniently, as the second reader's; "
-          f"{with_words} with words; {len(found)} pairs of one state")
+    print(f"state_tests: {with_words} lines with words; {len(found)} pairs of one state")
     if os.environ.get("KERNELS"):
         return compare_kernels(linkstate, os.environ["KERNELS"])
     return print("state_tests: skipped: KERNELS names no folder of kernels")
