@@ -1,8 +1,9 @@
 -- Pieces that were stored one after another.
-use Rattle.std.proofs.Common.{◌≡◌, ℕ, ◌≤◌, Bool, List, [], ◌∷◌, ◌++◌, length, take, ap, sym, ◌∙◌, arith}
+use Rattle.std.proofs.Common.{◌≡◌, ℕ, ◌+◌, ◌/◌, ◌%◌, ◌<◌, ◌≤◌, Bool, List, [], ◌∷◌, ◌++◌, length, take, ap, sym, ◌∙◌, arith}
 use Rattle.std.proofs.Common.{append_assoc, append-nil, length-append, length-take-le, take-take, subst}
 use Rattle.std.proofs.lemmas.List.{take_at}
-use Rattle.std.specs.Prelude.{Result, Ok, Err}
+use Rattle.std.specs.Prelude.{Result, Ok, Err, decimal}
+use Rattle.std.proofs.lemmas.Fmt.{decimal_step}
 use Rattle.json.specs.Filled.{Placed}
 use Rattle.shown.specs.Print.{escape, quoted, token_text, print, print_from}
 use Rattle.json.specs.Token.{Token}
@@ -14,6 +15,13 @@ pub placed_keeps : {a b xs : List ℕ} {at end : ℕ} → at ≤ length a → Pl
 placed_keeps {a} {b} {xs} {at} {end} within p =
     sym (take-take at end b (omega (arith, p.moved))) ∙ ap (take at) p.bytes
     ∙ take_at (take at a) xs at (length-take-le at a within)
+
+-- the digits of a number in front of its last one, and this
+pub digit_behind : (n : ℕ) (a b c : List ℕ) (at middle end : ℕ) → 10 ≤ n → n < 1000
+    → Placed a b at (decimal (n / 10)) middle → Placed b c middle ((48 + n % 10) ∷ []) end
+    → Placed a c at (decimal n) end
+digit_behind n a b c at middle end two few p q =
+    subst (λ xs. Placed a c at xs end) (sym (decimal_step n two (omega (arith, few)))) (Placed-then p q)
 
 -- a comma where one is due, a quote, a text that needs no escape, and a quote
 pub quoted_placed : {a b c d : List ℕ} {i j k l : ℕ} (comma : Bool) (text : List ℕ) → escape text ≡ text

@@ -1,4 +1,4 @@
-use Rattle.std.proofs.Common.{◌≡◌, ◌≤◌, ◌*◌, length, take}
+use Rattle.std.proofs.Common.{◌≡◌, ◌*◌, length, take}
 use Rattle.hex.specs.Hex.{encode_lower}
 use Rattle.shown.proofs.address.put_hex.Given as goal
 
