@@ -18,3 +18,4 @@ pub mod AttributesMeant
 pub mod FramesMeant
 pub mod MessagesMeant
 pub mod Tied
+pub mod Placed

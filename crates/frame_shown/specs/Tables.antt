@@ -1,5 +1,6 @@
 -- The row of a number in a list of attributes: its name, and how its payload is shown.
-use Rattle.std.specs.Prelude.{ℕ, ◌==◌, List, [], Option, None, Some, Bool, true, false, bit_and, codes, cond, get_or}
+use Rattle.std.specs.Prelude.{ℕ, suc, ◌==◌, ◌&&◌, List, [], ◌∷◌, Option, None, Some, Bool, true, false, bit_and, codes}
+use Rattle.std.specs.Prelude.{cond, get_or}
 use Rattle.std.specs.Prelude.{length}
 use Rattle.std.specs.Prelude.{map, nat_lt, not}
 use Rattle.std.specs.List.{find}
@@ -18,6 +19,8 @@ use Rattle.frame_shown.specs.declared.form.Group.{Group}
 use Rattle.frame_shown.specs.declared.form.Group.TheVariants as Groups
 use Rattle.frame_shown.specs.declared.form.List.{List as Shape}
 use Rattle.frame_shown.specs.declared.form.List.TheVariants as Shapes
+use Rattle.frame_shown.specs.declared.form.Manner.{Manner}
+use Rattle.frame_shown.specs.declared.form.Manner.TheVariants as Manners
 use Rattle.frame_shown.specs.declared.form.Table.{Table}
 use Rattle.frame_shown.specs.declared.form.Table.TheVariants as Tables
 use Rattle.frame_shown.specs.declared.form.Way.{Way}
@@ -32,6 +35,13 @@ Known = List ℕ × Way
 
 abbrev pub no_row : Known
 no_row = ([], Ways.Own Forms.Kept)
+
+-- how a payload is shown by what stands in a table
+abbrev pub manner_way : Manner → Way
+manner_way (Manners.Own form) = Ways.Own form.now
+manner_way (Manners.By style) = Ways.By style.now
+manner_way (Manners.Nest place) = Ways.By (S.Nest place)
+manner_way (Manners.Counters members) = Ways.By (S.Record members)
 
 -- ** tables of this crate: a number, a name and a form
 abbrev pub Rows : Type 0
@@ -58,6 +68,11 @@ row_found (Some row) = (row.1.0, Ways.Own row.1.1)
 -- the first row of a number
 abbrev pub row_by : Rows → ℕ → Known
 row_by rows n = row_found (find (λ row. row.0 == n) rows)
+
+-- the rows have all numbers from this one on, in order
+abbrev pub are_from : ℕ → Rows → Bool
+are_from first [] = true
+are_from first (row ∷ rows) = (row.0 == first) && are_from (suc first) rows
 
 -- of a table in which each row stands at the place of its number
 abbrev pub row_of_list : List (List ℕ × Form) → ℕ → Known

@@ -21,11 +21,11 @@ pub trait Depth {
         cx: &Around<'_>,
         page: &mut Page,
         name: &str,
-        list: List,
+        list: &List,
         bytes: &[u8],
     ) -> Result<(), AllocError>
         ensures { OnOk result
-            (page.new ≡ with_value name.now (nest cx.now list bytes.now) page.old) };
+            (page.new ≡ with_value name.now (nest cx.now list.now bytes.now) page.old) };
 }
 
 /// Lists are shown as their bytes.
@@ -38,7 +38,7 @@ impl Depth for Bottom {
         _cx: &Around<'_>,
         page: &mut Page,
         name: &str,
-        _list: List,
+        _list: &List,
         bytes: &[u8],
     ) -> Result<(), AllocError> {
         page.hex(name, bytes)
@@ -55,7 +55,7 @@ impl<D: Depth> Depth for Above<D> {
         cx: &Around<'_>,
         page: &mut Page,
         name: &str,
-        list: List,
+        list: &List,
         bytes: &[u8],
     ) -> Result<(), AllocError> {
         show_list_by::<D>(cx, page, name, list, bytes)

@@ -11,13 +11,18 @@ ghost use Rattle.frame_shown.specs.Items.{values_of};
 ghost use Rattle.frame_shown.specs.Items.{objects_under};
 ghost use Rattle.frame_shown.specs.Frames.{are_twice, by_number, entries_in, frame_item, items_in, list_shown};
 ghost use Rattle.frame_shown.specs.Frames.{way_shown};
-ghost use Rattle.frame_shown.specs.Tables.{entry_list, group_name, is_own};
+ghost use Rattle.frame_shown.specs.Tables.{entry_list, group_name, is_own, manner_way};
+ghost use Rattle.frame_shown.specs.Values.{form_shown, style_shown};
+ghost use Rattle.link_info.specs.declared.style.Style.TheVariants as S;
 ghost use Rattle.shown.specs.Keys.{IsKey};
 
 use crate::depth::Depth;
-use crate::form::{Around, Group, List, NUMBERS, Way, is_kept, kind_shown, row_in};
+use crate::form::{
+    Around, Form, Group, List, Manner, NUMBERS, Way, found_in, is_kept_by, kind_shown,
+};
 use crate::kept::show_kept;
-use crate::value::{show_form, show_style};
+use crate::value::{number_at, show_form, show_style};
+use link_info::{Member, Place, Style};
 use nla_wire::{NlaBuffer, NlasIterator};
 use shown::{Nest, Page};
 use std::alloc::AllocError;
@@ -36,8 +41,78 @@ pub fn show_way<D: Depth>(
         (page.new ≡ with_value name.now (way_shown (D.nest cx.now) cx.now way payload.now) page.old) }
 {
     match way {
-        Way::Own(form) => show_form::<D>(cx, page, name, form, payload),
-        Way::By(style) => show_style::<D>(cx, page, name, style, payload),
+        Way::Own(form) => show_form::<D>(cx, page, name, &form, payload),
+        Way::By(style) => show_style::<D>(cx, page, name, &style, payload),
+    }
+}
+
+/// Adds a value by a form: most are numbers.
+#[inline(always)]
+fn show_own<D: Depth>(
+    cx: &Around<'_>,
+    page: &mut Page,
+    name: &str,
+    form: &Form,
+    payload: &[u8],
+) -> Result<(), AllocError>
+    requires key { IsKey name.now }
+    ensures { OnOk result (page.new
+        ≡ with_value name.now (form_shown (D.nest cx.now) cx.now form.now payload.now) page.old) }
+{
+    match *form {
+        Form::Number(size) => page.keyed_number(name, number_at(size, payload, 0)),
+        _ => show_form::<D>(cx, page, name, form, payload),
+    }
+}
+
+/// Adds the data of a kind of link.
+#[inline(never)]
+fn show_data<D: Depth>(
+    cx: &Around<'_>,
+    page: &mut Page,
+    name: &str,
+    place: Place,
+    payload: &[u8],
+) -> Result<(), AllocError>
+    ensures { OnOk result (page.new
+        ≡ with_value name.now (style_shown (D.nest cx.now) (S.Nest place) payload.now) page.old) }
+{
+    show_style::<D>(cx, page, name, &Style::Nest(place), payload)
+}
+
+/// Adds the counters that a kind of link has beside its data.
+#[inline(never)]
+fn show_counters<D: Depth>(
+    cx: &Around<'_>,
+    page: &mut Page,
+    name: &str,
+    members: &'static [Member],
+    payload: &[u8],
+) -> Result<(), AllocError>
+    ensures { OnOk result (page.new ≡ with_value name.now
+        (style_shown (D.nest cx.now) (S.Record members.entry) payload.now) page.old) }
+{
+    show_style::<D>(cx, page, name, &Style::Record(members), payload)
+}
+
+/// Adds a value by the row where it stands.
+#[inline(always)]
+fn show_manner<D: Depth>(
+    cx: &Around<'_>,
+    page: &mut Page,
+    name: &str,
+    manner: Manner,
+    payload: &[u8],
+) -> Result<(), AllocError>
+    requires key { is_own (manner_way manner) ≡ true → IsKey name.now }
+    ensures { OnOk result (page.new ≡ with_value name.now
+        (way_shown (D.nest cx.now) cx.now (manner_way manner) payload.now) page.old) }
+{
+    match manner {
+        Manner::Own(form) => show_own::<D>(cx, page, name, form, payload),
+        Manner::By(style) => show_style::<D>(cx, page, name, style, payload),
+        Manner::Nest(place) => show_data::<D>(cx, page, name, place, payload),
+        Manner::Counters(members) => show_counters::<D>(cx, page, name, members, payload),
     }
 }
 
@@ -47,32 +122,32 @@ pub fn show_way<D: Depth>(
 fn show_frame<D: Depth>(
     cx: &Around<'_>,
     page: &mut Page,
-    list: List,
+    list: &List,
     frame: &NlaBuffer<'_>,
 ) -> Result<bool, AllocError>
     ensures shown { OnOk result (page.new ≡ with_members
-        (shown_as (frame_item (D.nest cx.now) cx.now list frame.now)) page.old) }
+        (shown_as (frame_item (D.nest cx.now) cx.now list.now frame.now)) page.old) }
     ensures kept { IfOk result (λ kept. kept
-        ≡ are_any (kept_ones (frame_item (D.nest cx.now) cx.now list frame.now ∷ []))) }
+        ≡ are_any (kept_ones (frame_item (D.nest cx.now) cx.now list.now frame.now ∷ []))) }
 {
-    let (name, way) = row_in(cx, list, frame.kind());
-    if is_kept(way, frame.value()) {
+    let (name, manner) = found_in(cx, list, frame.kind());
+    if is_kept_by(manner, frame.value()) {
         return Ok(true);
     }
-    show_way::<D>(cx, page, name, way, frame.value())?;
+    show_manner::<D>(cx, page, name, manner, frame.value())?;
     Ok(false)
 }
 
 /// The number of an attribute that is shown under a name.
 #[inline(always)]
 #[tactic(auto, using(crate::proofs::Items::kept_no_number, crate::proofs::Items::named_number))]
-fn number_in<D: Depth>(cx: &Around<'_>, list: List, frame: &NlaBuffer<'_>) -> Option<usize>
-    ensures value { result ≡ number_in (frame_item (D.nest cx.now) cx.now list frame.now) }
+fn number_in<D: Depth>(cx: &Around<'_>, list: &List, frame: &NlaBuffer<'_>) -> Option<usize>
+    ensures value { result ≡ number_in (frame_item (D.nest cx.now) cx.now list.now frame.now) }
     ensures small { IfSome result (λ n. n < 256) }
 {
     let number = frame.kind();
-    let (_, way) = row_in(cx, list, number);
-    if is_kept(way, frame.value()) {
+    let (_, manner) = found_in(cx, list, number);
+    if is_kept_by(manner, frame.value()) {
         return None;
     }
     Some(number as usize)
@@ -117,11 +192,11 @@ struct Survey {
 }
 
 /// Goes over the attributes of a list once.
-fn look_over<D: Depth>(cx: &Around<'_>, list: List, bytes: &[u8]) -> Survey
+fn look_over<D: Depth>(cx: &Around<'_>, list: &List, bytes: &[u8]) -> Survey
     ensures repeated { result.is_any_repeated
-        ≡ are_any (earlier_ones (items_in (D.nest cx.now) cx.now list (items bytes.now))) }
+        ≡ are_any (earlier_ones (items_in (D.nest cx.now) cx.now list.now (items bytes.now))) }
     ensures kept { result.is_any_kept
-        ≡ are_any (kept_ones (items_in (D.nest cx.now) cx.now list (items bytes.now))) }
+        ≡ are_any (kept_ones (items_in (D.nest cx.now) cx.now list.now (items bytes.now))) }
 {
     let mut seen = [0u8; NUMBERS];
     let mut is_any_repeated = false;
@@ -147,13 +222,13 @@ fn look_over<D: Depth>(cx: &Around<'_>, list: List, bytes: &[u8]) -> Survey
 fn show_named<D: Depth>(
     cx: &Around<'_>,
     page: &mut Page,
-    list: List,
+    list: &List,
     bytes: &[u8],
 ) -> Result<bool, AllocError>
     ensures shown { OnOk result (page.new ≡ with_members
-        (flat_map shown_as (items_in (D.nest cx.now) cx.now list (items bytes.now))) page.old) }
+        (flat_map shown_as (items_in (D.nest cx.now) cx.now list.now (items bytes.now))) page.old) }
     ensures kept { IfOk result (λ kept. kept
-        ≡ are_any (kept_ones (items_in (D.nest cx.now) cx.now list (items bytes.now)))) }
+        ≡ are_any (kept_ones (items_in (D.nest cx.now) cx.now list.now (items bytes.now)))) }
 {
     let mut is_any_kept = false;
     for item in NlasIterator::new(bytes) {
@@ -171,20 +246,20 @@ fn show_named<D: Depth>(
 fn show_kept_frame<D: Depth>(
     cx: &Around<'_>,
     page: &mut Page,
-    list: List,
+    list: &List,
     frame: &NlaBuffer<'_>,
 ) -> Result<(), AllocError>
-    ensures { OnOk result (page.new ≡ with_members
-        (objects (kept_ones (frame_item (D.nest cx.now) cx.now list frame.now ∷ []))) page.old) }
+    ensures { OnOk result (page.new ≡ with_members (objects
+        (kept_ones (frame_item (D.nest cx.now) cx.now list.now frame.now ∷ []))) page.old) }
 {
-    let (name, way) = row_in(cx, list, frame.kind());
-    if !is_kept(way, frame.value()) {
+    let (name, manner) = found_in(cx, list, frame.kind());
+    if !is_kept_by(manner, frame.value()) {
         return Ok(());
     }
     show_kept(
         page,
         name,
-        kind_shown(way, frame.kind_with_flags()),
+        kind_shown(manner, frame.kind_with_flags()),
         frame.value(),
     )
 }
@@ -193,11 +268,11 @@ fn show_kept_frame<D: Depth>(
 fn show_kept_frames<D: Depth>(
     cx: &Around<'_>,
     page: &mut Page,
-    list: List,
+    list: &List,
     bytes: &[u8],
 ) -> Result<(), AllocError>
-    ensures { OnOk result (page.new ≡ with_members
-        (objects (kept_ones (items_in (D.nest cx.now) cx.now list (items bytes.now)))) page.old) }
+    ensures { OnOk result (page.new ≡ with_members (objects
+        (kept_ones (items_in (D.nest cx.now) cx.now list.now (items bytes.now)))) page.old) }
 {
     for item in NlasIterator::new(bytes) {
         let Ok(frame) = item else {
@@ -208,33 +283,50 @@ fn show_kept_frames<D: Depth>(
     Ok(())
 }
 
-/// Adds the list of the attributes that are kept, if there are any.
-fn show_others<D: Depth>(
+/// Adds the list of the attributes that are kept.
+#[inline(never)]
+fn show_some<D: Depth>(
     cx: &Around<'_>,
     page: &mut Page,
-    list: List,
+    list: &List,
     bytes: &[u8],
-    is_any_kept: bool,
 ) -> Result<(), AllocError>
-    requires { is_any_kept
-        ≡ are_any (kept_ones (items_in (D.nest cx.now) cx.now list (items bytes.now))) }
+    requires { are_any (kept_ones
+        (items_in (D.nest cx.now) cx.now list.now (items bytes.now))) ≡ true }
     ensures { OnOk result (page.new ≡ with_members (list_under (codes "other") (map object_of
-        (kept_ones (items_in (D.nest cx.now) cx.now list (items bytes.now))))) page.old) }
+        (kept_ones (items_in (D.nest cx.now) cx.now list.now (items bytes.now))))) page.old) }
 {
-    if !is_any_kept {
-        return Ok(());
-    }
     page.begin("other", Nest::List)?;
     show_kept_frames::<D>(cx, page, list, bytes)?;
     page.end()
 }
 
+/// Adds the list of the attributes that are kept, if there are any.
+#[inline(always)]
+fn show_others<D: Depth>(
+    cx: &Around<'_>,
+    page: &mut Page,
+    list: &List,
+    bytes: &[u8],
+    is_any_kept: bool,
+) -> Result<(), AllocError>
+    requires { is_any_kept
+        ≡ are_any (kept_ones (items_in (D.nest cx.now) cx.now list.now (items bytes.now))) }
+    ensures { OnOk result (page.new ≡ with_members (list_under (codes "other") (map object_of
+        (kept_ones (items_in (D.nest cx.now) cx.now list.now (items bytes.now))))) page.old) }
+{
+    if !is_any_kept {
+        return Ok(());
+    }
+    show_some::<D>(cx, page, list, bytes)
+}
+
 /// How many attributes there are of each number that has a name.
 #[cold]
 #[inline(never)]
-fn count<D: Depth>(cx: &Around<'_>, list: List, bytes: &[u8]) -> [usize; NUMBERS]
+fn count<D: Depth>(cx: &Around<'_>, list: &List, bytes: &[u8]) -> [usize; NUMBERS]
     ensures { (n : ℕ) → n < 256 → slice_index result n
-        ≡ count_of n (items_in (D.nest cx.now) cx.now list (items bytes.now)) }
+        ≡ count_of n (items_in (D.nest cx.now) cx.now list.now (items bytes.now)) }
 {
     let mut counts = [0usize; NUMBERS];
     for item in NlasIterator::new(bytes) {
@@ -254,14 +346,14 @@ fn count<D: Depth>(cx: &Around<'_>, list: List, bytes: &[u8]) -> [usize; NUMBERS
 fn show_last<D: Depth>(
     cx: &Around<'_>,
     page: &mut Page,
-    list: List,
+    list: &List,
     bytes: &[u8],
     counts: &[usize; NUMBERS],
 ) -> Result<(), AllocError>
     requires { (n : ℕ) → n < 256 → slice_index counts.now n
-        ≡ count_of n (items_in (D.nest cx.now) cx.now list (items bytes.now)) }
+        ≡ count_of n (items_in (D.nest cx.now) cx.now list.now (items bytes.now)) }
     ensures { OnOk result (page.new ≡ with_members
-        (last_ones (items_in (D.nest cx.now) cx.now list (items bytes.now))) page.old) }
+        (last_ones (items_in (D.nest cx.now) cx.now list.now (items bytes.now))) page.old) }
 {
     let mut left = *counts;
     for item in NlasIterator::new(bytes) {
@@ -284,14 +376,14 @@ fn show_last<D: Depth>(
 fn show_earlier<D: Depth>(
     cx: &Around<'_>,
     page: &mut Page,
-    list: List,
+    list: &List,
     bytes: &[u8],
     counts: &[usize; NUMBERS],
 ) -> Result<(), AllocError>
     requires { (n : ℕ) → n < 256 → slice_index counts.now n
-        ≡ count_of n (items_in (D.nest cx.now) cx.now list (items bytes.now)) }
-    ensures { OnOk result (page.new ≡ with_members
-        (objects (earlier_ones (items_in (D.nest cx.now) cx.now list (items bytes.now)))) page.old) }
+        ≡ count_of n (items_in (D.nest cx.now) cx.now list.now (items bytes.now)) }
+    ensures { OnOk result (page.new ≡ with_members (objects
+        (earlier_ones (items_in (D.nest cx.now) cx.now list.now (items bytes.now)))) page.old) }
 {
     let mut left = *counts;
     for item in NlasIterator::new(bytes) {
@@ -317,14 +409,15 @@ fn show_earlier<D: Depth>(
 fn show_repeated<D: Depth>(
     cx: &Around<'_>,
     page: &mut Page,
-    list: List,
+    list: &List,
     bytes: &[u8],
 ) -> Result<(), AllocError>
-    requires { are_any (earlier_ones (items_in (D.nest cx.now) cx.now list (items bytes.now))) ≡ true }
+    requires { are_any (earlier_ones
+        (items_in (D.nest cx.now) cx.now list.now (items bytes.now))) ≡ true }
     ensures { OnOk result (page.new ≡ with_members
-        (last_ones (items_in (D.nest cx.now) cx.now list (items bytes.now))
+        (last_ones (items_in (D.nest cx.now) cx.now list.now (items bytes.now))
         ++ list_under (codes "repeated") (map object_of
-        (earlier_ones (items_in (D.nest cx.now) cx.now list (items bytes.now))))) page.old) }
+        (earlier_ones (items_in (D.nest cx.now) cx.now list.now (items bytes.now))))) page.old) }
 {
     let counts = count::<D>(cx, list, bytes);
     show_last::<D>(cx, page, list, bytes, &counts)?;
@@ -337,16 +430,16 @@ fn show_repeated<D: Depth>(
 fn show_all<D: Depth>(
     cx: &Around<'_>,
     page: &mut Page,
-    list: List,
+    list: &List,
     bytes: &[u8],
     is_any_repeated: bool,
 ) -> Result<(), AllocError>
     requires { is_any_repeated
-        ≡ are_any (earlier_ones (items_in (D.nest cx.now) cx.now list (items bytes.now))) }
+        ≡ are_any (earlier_ones (items_in (D.nest cx.now) cx.now list.now (items bytes.now))) }
     ensures { OnOk result (page.new ≡ with_members
-        (last_ones (items_in (D.nest cx.now) cx.now list (items bytes.now))
+        (last_ones (items_in (D.nest cx.now) cx.now list.now (items bytes.now))
         ++ list_under (codes "repeated") (map object_of
-        (earlier_ones (items_in (D.nest cx.now) cx.now list (items bytes.now))))) page.old) }
+        (earlier_ones (items_in (D.nest cx.now) cx.now list.now (items bytes.now))))) page.old) }
 {
     if is_any_repeated {
         return show_repeated::<D>(cx, page, list, bytes);
@@ -360,11 +453,11 @@ fn show_all<D: Depth>(
 fn show_surveyed<D: Depth>(
     cx: &Around<'_>,
     page: &mut Page,
-    list: List,
+    list: &List,
     bytes: &[u8],
 ) -> Result<(), AllocError>
     ensures { OnOk result (page.new ≡ with_members
-        (members_of (items_in (D.nest cx.now) cx.now list (items bytes.now))) page.old) }
+        (members_of (items_in (D.nest cx.now) cx.now list.now (items bytes.now))) page.old) }
 {
     let survey = look_over::<D>(cx, list, bytes);
     show_all::<D>(cx, page, list, bytes, survey.is_any_repeated)?;
@@ -375,11 +468,11 @@ fn show_surveyed<D: Depth>(
 pub fn show_members<D: Depth>(
     cx: &Around<'_>,
     page: &mut Page,
-    list: List,
+    list: &List,
     bytes: &[u8],
 ) -> Result<(), AllocError>
     ensures { OnOk result (page.new ≡ with_members
-        (members_of (items_in (D.nest cx.now) cx.now list (items bytes.now))) page.old) }
+        (members_of (items_in (D.nest cx.now) cx.now list.now (items bytes.now))) page.old) }
 {
     if has_twice(bytes) {
         return show_surveyed::<D>(cx, page, list, bytes);
@@ -393,11 +486,11 @@ fn show_object<D: Depth>(
     cx: &Around<'_>,
     page: &mut Page,
     name: &str,
-    list: List,
+    list: &List,
     bytes: &[u8],
 ) -> Result<(), AllocError>
     ensures { OnOk result (page.new ≡ with_value name.now (object_of
-        (members_of (items_in (D.nest cx.now) cx.now list (items bytes.now)))) page.old) }
+        (members_of (items_in (D.nest cx.now) cx.now list.now (items bytes.now)))) page.old) }
 {
     page.begin(name, Nest::Object)?;
     show_members::<D>(cx, page, list, bytes)?;
@@ -409,13 +502,13 @@ pub fn show_one_list<D: Depth>(
     cx: &Around<'_>,
     page: &mut Page,
     name: &str,
-    list: List,
+    list: &List,
     bytes: &[u8],
 ) -> Result<bool, AllocError>
     ensures shown { OnOk result (page.new ≡ with_value name.now (list_of (flat_map values_of
-        (named_ones (items_in (D.nest cx.now) cx.now list (items bytes.now))))) page.old) }
+        (named_ones (items_in (D.nest cx.now) cx.now list.now (items bytes.now))))) page.old) }
     ensures kept { IfOk result (λ kept. kept
-        ≡ are_any (kept_ones (items_in (D.nest cx.now) cx.now list (items bytes.now)))) }
+        ≡ are_any (kept_ones (items_in (D.nest cx.now) cx.now list.now (items bytes.now)))) }
 {
     page.begin(name, Nest::List)?;
     let is_any_kept = show_named::<D>(cx, page, list, bytes)?;
@@ -429,11 +522,11 @@ fn show_listed<D: Depth>(
     page: &mut Page,
     name: &str,
     group: Group,
-    list: List,
+    list: &List,
     bytes: &[u8],
 ) -> Result<(), AllocError>
     ensures { OnOk result (page.new ≡ with_value name.now (object_of (listed_under (group_name group)
-        (items_in (D.nest cx.now) cx.now list (items bytes.now)))) page.old) }
+        (items_in (D.nest cx.now) cx.now list.now (items bytes.now)))) page.old) }
 {
     page.begin(name, Nest::Object)?;
     let is_any_kept = show_one_list::<D>(cx, page, group.name(), list, bytes)?;
@@ -445,11 +538,11 @@ fn show_listed<D: Depth>(
 fn show_entries<D: Depth>(
     cx: &Around<'_>,
     page: &mut Page,
-    list: List,
+    list: &List,
     bytes: &[u8],
 ) -> Result<(), AllocError>
     ensures { OnOk result (page.new ≡ with_members (objects
-        (entries_in (D.nest cx.now) cx.now list (frames_in (items bytes.now)))) page.old) }
+        (entries_in (D.nest cx.now) cx.now list.now (frames_in (items bytes.now)))) page.old) }
 {
     for item in NlasIterator::new(bytes) {
         let Ok(frame) = item else {
@@ -475,7 +568,7 @@ fn show_entry_list<D: Depth>(
 {
     page.begin(name, Nest::Object)?;
     page.begin(group.name(), Nest::List)?;
-    show_entries::<D>(cx, page, group.entry(), bytes)?;
+    show_entries::<D>(cx, page, &group.entry(), bytes)?;
     page.end()?;
     page.end()
 }
@@ -485,13 +578,13 @@ pub fn show_list_by<D: Depth>(
     cx: &Around<'_>,
     page: &mut Page,
     name: &str,
-    list: List,
+    list: &List,
     bytes: &[u8],
 ) -> Result<(), AllocError>
     ensures { OnOk result (page.new
-        ≡ with_value name.now (list_shown (D.nest cx.now) cx.now list bytes.now) page.old) }
+        ≡ with_value name.now (list_shown (D.nest cx.now) cx.now list.now bytes.now) page.old) }
 {
-    match list {
+    match *list {
         List::Listed(group, _) => show_listed::<D>(cx, page, name, group, list, bytes),
         List::Entries(group) => show_entry_list::<D>(cx, page, name, group, bytes),
         _ => show_object::<D>(cx, page, name, list, bytes),

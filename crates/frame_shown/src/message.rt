@@ -85,7 +85,7 @@ fn show_frames(cx: &Around<'_>, page: &mut Page, family: u8, bytes: &[u8]) -> Re
     ensures { OnOk result
         (page.new ≡ with_members (frames_shown cx.now family bytes.now) page.old) }
 {
-    show_members::<Whole>(cx, page, List::Message(family), bytes)
+    show_members::<Whole>(cx, page, &List::Message(family), bytes)
 }
 
 /// Adds what the attributes of a message of this family say.

@@ -15,12 +15,12 @@ loop-item-init g c =
     c.into_iter-item-iterator.ensures.into_iter_gives ∙ c.new-item-items.ensures.value in
     record {
       size = refl;
-      repeated = none_repeats (items_in (g.D.Depth.nest c.args.cx.now) c.args.cx.now c.args.list
+      repeated = none_repeats (items_in (g.D.Depth.nest c.args.cx.now) c.args.cx.now c.args.list.now
           c.into_iter-item-iterator.result)
-          ∙ ap (λ xs. are_any (earlier_ones (items_in (g.D.Depth.nest c.args.cx.now) c.args.cx.now c.args.list
+          ∙ ap (λ xs. are_any (earlier_ones (items_in (g.D.Depth.nest c.args.cx.now) c.args.cx.now c.args.list.now
           xs))) first;
       kept = or-false _ ∙ ap (λ xs. are_any (kept_ones (items_in (g.D.Depth.nest c.args.cx.now) c.args.cx.now
-          c.args.list xs))) first;
+          c.args.list.now xs))) first;
     }
 
 pub loop-item-preserved-in-Some-number_in : goal.loop-item-preserved-in-Some-number_in
@@ -28,15 +28,15 @@ loop-item-preserved-in-Some-number_in g c =
     let here : c.loop-item.item-iterator ≡ Ok c.in-Ok.frame ∷ c.next.new.self = rw c.in-Ok.is at
     c.in-Some.ensures.steps in
     let m = c.in-Some-number_in.number in
-    let is : number_in (frame_item (g.D.Depth.nest c.args.cx.now) c.args.cx.now c.args.list c.in-Ok.frame) ≡ Some m =
+    let is : number_in (frame_item (g.D.Depth.nest c.args.cx.now) c.args.cx.now c.args.list.now c.in-Ok.frame) ≡ Some m =
     sym c.number_in.ensures.value ∙ c.in-Some-number_in.is in
     record {
       size = length-set c.loop-item.seen m _ ∙ c.loop-item.invariant.size;
-      repeated = named_looked (g.D.Depth.nest c.args.cx.now) c.args.cx.now c.args.list c.in-Ok.frame
+      repeated = named_looked (g.D.Depth.nest c.args.cx.now) c.args.cx.now c.args.list.now c.in-Ok.frame
           c.loop-item.item-iterator c.next.new.self here c.loop-item.seen m c.loop-item.is_any_repeated _
           c.loop-item.invariant.size
           c.in-Some-number_in.ensures.small is c.loop-item.invariant.repeated;
-      kept = named_kept (g.D.Depth.nest c.args.cx.now) c.args.cx.now c.args.list c.in-Ok.frame
+      kept = named_kept (g.D.Depth.nest c.args.cx.now) c.args.cx.now c.args.list.now c.in-Ok.frame
           c.loop-item.item-iterator c.next.new.self here m c.loop-item.is_any_kept _ is c.loop-item.invariant.kept;
     }
 
@@ -44,13 +44,13 @@ pub loop-item-preserved : goal.loop-item-preserved
 loop-item-preserved g c =
     let here : c.loop-item.item-iterator ≡ Ok c.in-Ok.frame ∷ c.next.new.self = rw c.in-Ok.is at
     c.in-Some.ensures.steps in
-    let is : number_in (frame_item (g.D.Depth.nest c.args.cx.now) c.args.cx.now c.args.list c.in-Ok.frame) ≡ None =
+    let is : number_in (frame_item (g.D.Depth.nest c.args.cx.now) c.args.cx.now c.args.list.now c.in-Ok.frame) ≡ None =
     sym c.number_in.ensures.value ∙ c.in_default-number_in.is in
     record {
       size = c.loop-item.invariant.size;
-      repeated = kept_looked (g.D.Depth.nest c.args.cx.now) c.args.cx.now c.args.list c.in-Ok.frame
+      repeated = kept_looked (g.D.Depth.nest c.args.cx.now) c.args.cx.now c.args.list.now c.in-Ok.frame
           c.loop-item.item-iterator c.next.new.self here c.loop-item.seen c.loop-item.is_any_repeated _ is
           c.loop-item.invariant.repeated;
-      kept = kept_found (g.D.Depth.nest c.args.cx.now) c.args.cx.now c.args.list c.in-Ok.frame
+      kept = kept_found (g.D.Depth.nest c.args.cx.now) c.args.cx.now c.args.list.now c.in-Ok.frame
           c.loop-item.item-iterator c.next.new.self here c.loop-item.is_any_kept _ is c.loop-item.invariant.kept;
     }

@@ -13,7 +13,7 @@ use Rattle.frame_shown.proofs.list.show_listed.Goals as goal
 
 pub returns : goal.returns
 returns g c =
-    let its = items_in (g.D.Depth.nest c.args.cx.now) c.args.cx.now c.args.list (read c.args.bytes.now) in
+    let its = items_in (g.D.Depth.nest c.args.cx.now) c.args.cx.now c.args.list.now (read c.args.bytes.now) in
     let group = group_name c.args.group in
     let value = list_of (flat_map values_of (named_ones its)) in
     let others = list_under (codes "other") (map object_of (kept_ones its)) in

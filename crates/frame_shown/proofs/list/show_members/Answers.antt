@@ -11,11 +11,11 @@ use Rattle.frame_shown.proofs.list.show_members.Goals as goal
 
 pub returns : goal.returns
 returns g c =
-    let its = items_in (g.D.Depth.nest c.args.cx.now) c.args.cx.now c.args.list (read c.args.bytes.now) in
+    let its = items_in (g.D.Depth.nest c.args.cx.now) c.args.cx.now c.args.list.now (read c.args.bytes.now) in
     let repeated = list_under (codes "repeated") (map object_of (earlier_ones its)) in
     let others = list_under (codes "other") (map object_of (kept_ones its)) in
     let none : are_any (earlier_ones its) ≡ false =
-    none_twice (g.D.Depth.nest c.args.cx.now) c.args.cx.now c.args.list (read c.args.bytes.now)
+    none_twice (g.D.Depth.nest c.args.cx.now) c.args.cx.now c.args.list.now (read c.args.bytes.now)
     (sym c.has_twice.ensures ∙ c.if-has_twice.false) in
     on_ok_weaker c.show_others.result (λ is. both_added (last_ones its ++ repeated) others c.args.page.now _ _
     (c.in_ok-is_any_kept.ensures.shown ∙ ap (λ ms. with_members ms c.args.page.now) (all_shown its none)) is)

@@ -10,7 +10,7 @@ use Rattle.frame_shown.proofs.list.show_repeated.Goals as goal
 
 pub returns : goal.returns
 returns g c =
-    let its = items_in (g.D.Depth.nest c.args.cx.now) c.args.cx.now c.args.list (read c.args.bytes.now) in
+    let its = items_in (g.D.Depth.nest c.args.cx.now) c.args.cx.now c.args.list.now (read c.args.bytes.now) in
     let repeated = list_under (codes "repeated") (map object_of (earlier_ones its)) in
     on_ok_weaker c.end.result (λ ends. both_added (last_ones its) repeated c.args.page.now _ _
     c.in_ok-show_last.ensures

@@ -6,12 +6,12 @@ use Rattle.shown.specs.Drafts.{with_members}
 use Rattle.frame_shown.specs.Items.{are_any, kept_ones, objects}
 use Rattle.frame_shown.specs.Frames.{items_in}
 use Rattle.frame_shown.proofs.Items.{objects_shown}
-use Rattle.frame_shown.proofs.list.show_others.Goals as goal
+use Rattle.frame_shown.proofs.list.show_some.Goals as goal
 
 pub returns : goal.returns
 returns g c =
-    let its = items_in (g.D.Depth.nest c.args.cx.now) c.args.cx.now c.args.list (read c.args.bytes.now) in
-    let any : are_any (kept_ones its) ≡ true = cc (c.requires, c.if-not-is_any_kept.false) in
+    let its = items_in (g.D.Depth.nest c.args.cx.now) c.args.cx.now c.args.list.now (read c.args.bytes.now) in
+    let any : are_any (kept_ones its) ≡ true = c.requires in
     on_ok_weaker c.end.result (λ ends. objects_shown (codes "other") (kept_ones its) c.args.page.now _ _ any
     (c.in_ok-show_kept_frames.ensures ∙ ap (with_members (objects (kept_ones its))) c.in_ok-begin.ensures) ends)
     c.end.ensures
