@@ -73,6 +73,7 @@ c-bench: $(LIBRARIES) ## times the library for C
 ##@ Makes what is released, without rt
 
 rust: ## makes the crates in rust/ and rust/capi anew, of the sources and scripts/erase
+	@python3 scripts/erase/borrowed.py
 	@python3 scripts/erase/erase.py crate rust
 	@python3 scripts/erase/erase.py capi rust/capi
 

@@ -91,16 +91,18 @@
 //!
 //! # What is proved
 //!
-//! The check, the walk over attributes and the search for the last of a number are made of proved sources, as the
-//! readers of numbers and records are. Keys, [`get`](LinkView::get) and [`iter`](LinkView::iter) are by hand over these
-//! or made of the rows of the enums, and tested: on every stored message they give what `parse` gives, in inner lists
-//! and in the data of kinds too.
+//! A key and `iter` call proved code: the check of the message, the search for the last attribute of a number, and the
+//! reading of its value. By contract that value is the variant and the value that `parse` gives, in a message and in
+//! each list inside. Written by hand are the choice of the variant that a key names, the pass of a tuple over the
+//! attributes, the entries of the lists of virtual functions and ports, and the data of kinds. Tests compare all of it
+//! with what `parse` gives, on every stored message.
 
 #[macro_use]
 mod macros;
 mod info;
 mod read;
 
+use crate::link_view::attributes::BorrowedAttributes;
 use crate::link_view::message_view::last_in;
 use crate::nla_wire::{NlaBuffer, NlasIterator};
 use crate::{AddressFamily, Attribute, Attributes, DecodeError, LinkAttribute};
@@ -110,8 +112,9 @@ use core::marker::PhantomData;
 
 #[doc(no_inline)]
 pub use crate::link_view::LinkView;
+pub use crate::link_view::payload::WirelessEventView;
 pub use info::{InfoDataView, InfoPortDataView, LinkXstatsView};
-pub use read::{Values, WirelessEventView};
+pub use read::Values;
 
 impl Copy for LinkView<'_> {}
 
@@ -130,6 +133,12 @@ pub trait Place<'a>: Sized {
     ///
     /// [`ListView`] has an example of what is made of it.
     fn member(attribute: Attribute<'a>, family: AddressFamily) -> Result<Option<Self::Member>, DecodeError>;
+
+    #[doc(hidden)]
+    #[inline]
+    fn next(left: &mut BorrowedAttributes<'a>) -> Option<Result<Option<Self::Member>, DecodeError>> {
+        Some(left.frames.next()?.and_then(|frame| Self::member(Attribute::new(frame), left.family)))
+    }
 }
 
 /// A key: the number of an attribute, and what its value is over borrowed bytes.
@@ -175,6 +184,24 @@ pub trait Key<'a> {
     ///
     /// [`Key`] has an example.
     fn read(attribute: Attribute<'a>, family: AddressFamily) -> Result<Option<Self::Value>, DecodeError>;
+
+    #[doc(hidden)]
+    #[inline]
+    fn of_message(view: &LinkView<'a>) -> Result<Option<Self::Value>, DecodeError>
+    where
+        Self: Sized,
+    {
+        value::<Self>(view.last(Self::NUMBER)?, view.header().interface_family)
+    }
+
+    #[doc(hidden)]
+    #[inline]
+    fn of_list(list: &'a [u8]) -> Result<Option<Self::Value>, DecodeError>
+    where
+        Self: Sized,
+    {
+        value::<Self>(last_in(list, Self::NUMBER)?, AddressFamily::Unspec)
+    }
 }
 
 /// A key, or a tuple of up to eight of one list.
@@ -188,63 +215,37 @@ pub trait Keys<'a> {
     type Values;
 
     #[doc(hidden)]
-    fn get<L: Frames<'a>>(self, list: &L) -> Result<Self::Values, DecodeError>;
+    fn of_message(self, view: &LinkView<'a>) -> Result<Self::Values, DecodeError>;
+
+    #[doc(hidden)]
+    fn of_list(self, list: &'a [u8]) -> Result<Self::Values, DecodeError>;
 }
 
 mod sealed {
     use super::*;
 
-    /// A list of attributes over borrowed bytes.
-    pub trait Frames<'a> {
-        fn frames(&self) -> NlasIterator<'a>;
-        fn last(&self, number: u16) -> Result<Option<NlaBuffer<'a>>, DecodeError>;
-        fn family(&self) -> AddressFamily;
+    /// Keys that are read in one pass.
+    pub trait Pass<'a> {
+        type Values;
+
+        fn pass(self, frames: NlasIterator<'a>, family: AddressFamily) -> Result<Self::Values, DecodeError>;
     }
 }
 
-use sealed::Frames;
-
-impl<'a> Frames<'a> for LinkView<'a> {
-    #[inline]
-    fn frames(&self) -> NlasIterator<'a> {
-        LinkView::frames(self)
-    }
-
-    #[inline]
-    fn last(&self, number: u16) -> Result<Option<NlaBuffer<'a>>, DecodeError> {
-        LinkView::last(self, number)
-    }
-
-    #[inline]
-    fn family(&self) -> AddressFamily {
-        self.header().interface_family
-    }
-}
-
-impl<'a, P> Frames<'a> for ListView<'a, P> {
-    #[inline]
-    fn frames(&self) -> NlasIterator<'a> {
-        NlasIterator::new(self.list)
-    }
-
-    #[inline]
-    fn last(&self, number: u16) -> Result<Option<NlaBuffer<'a>>, DecodeError> {
-        last_in(self.list, number)
-    }
-
-    #[inline]
-    fn family(&self) -> AddressFamily {
-        AddressFamily::Unspec
-    }
-}
+use sealed::Pass;
 
 impl<'a, K: Key<'a>> Keys<'a> for K {
     type Place = K::Place;
     type Values = Option<K::Value>;
 
     #[inline]
-    fn get<L: Frames<'a>>(self, list: &L) -> Result<Option<K::Value>, DecodeError> {
-        value::<K>(list.last(K::NUMBER)?, list.family())
+    fn of_message(self, view: &LinkView<'a>) -> Result<Option<K::Value>, DecodeError> {
+        K::of_message(view)
+    }
+
+    #[inline]
+    fn of_list(self, list: &'a [u8]) -> Result<Option<K::Value>, DecodeError> {
+        K::of_list(list)
     }
 }
 
@@ -264,10 +265,24 @@ macro_rules! tuples {
             type Values = (Option<$first::Value>, $(Option<$key::Value>,)*);
 
             #[inline]
-            fn get<L: Frames<'a>>(self, list: &L) -> Result<Self::Values, DecodeError> {
+            fn of_message(self, view: &LinkView<'a>) -> Result<Self::Values, DecodeError> {
+                self.pass(view.frames(), view.header().interface_family)
+            }
+
+            #[inline]
+            fn of_list(self, list: &'a [u8]) -> Result<Self::Values, DecodeError> {
+                self.pass(NlasIterator::new(list), AddressFamily::Unspec)
+            }
+        }
+
+        impl<'a, $first: Key<'a>, $($key: Key<'a>),*> Pass<'a> for ($first, $($key,)*) {
+            type Values = (Option<$first::Value>, $(Option<$key::Value>,)*);
+
+            #[inline]
+            fn pass(self, frames: NlasIterator<'a>, family: AddressFamily) -> Result<Self::Values, DecodeError> {
                 let mut $first_found = None;
                 $(let mut $found = None;)*
-                for frame in list.frames() {
+                for frame in frames {
                     let frame = frame?;
                     let number = frame.kind();
                     if number == $first::NUMBER {
@@ -277,7 +292,6 @@ macro_rules! tuples {
                         $found = Some(frame);
                     })*
                 }
-                let family = list.family();
                 Ok((value::<$first>($first_found, family)?, $(value::<$key>($found, family)?,)*))
             }
         }
@@ -315,7 +329,7 @@ impl<'a> LinkView<'a> {
     /// ```
     #[inline]
     pub fn get<K: Keys<'a, Place = LinkAttribute>>(&self, keys: K) -> Result<K::Values, DecodeError> {
-        keys.get(self)
+        keys.of_message(self)
     }
 
     /// The attributes, front to back: after [`new`](LinkView::new) exactly those that `LinkMessage::parse` reads.
@@ -323,7 +337,7 @@ impl<'a> LinkView<'a> {
     /// The page of this module has an example.
     #[must_use]
     pub fn iter(&self) -> Members<'a, LinkAttribute> {
-        Members::of(self)
+        Members::of(self.values())
     }
 }
 
@@ -408,7 +422,7 @@ impl<'a, P: Place<'a>> ListView<'a, P> {
     /// [`ListView`] has an example.
     #[inline]
     pub fn get<K: Keys<'a, Place = P>>(&self, keys: K) -> Result<K::Values, DecodeError> {
-        keys.get(self)
+        keys.of_list(self.list)
     }
 
     /// The attributes, front to back.
@@ -416,7 +430,7 @@ impl<'a, P: Place<'a>> ListView<'a, P> {
     /// [`ListView`] has an example.
     #[must_use]
     pub fn iter(&self) -> Members<'a, P> {
-        Members::of(self)
+        Members::of(BorrowedAttributes { family: AddressFamily::Unspec, frames: NlasIterator::new(self.list) })
     }
 }
 
@@ -442,27 +456,26 @@ impl<'a, P: Place<'a>> IntoIterator for ListView<'a, P> {
 ///
 /// [`ListView`] has an example.
 pub struct Members<'a, P> {
-    family: AddressFamily,
-    frames: NlasIterator<'a>,
+    left: BorrowedAttributes<'a>,
     place: PhantomData<fn() -> P>,
 }
 
 impl<'a, P> Members<'a, P> {
     #[inline]
-    fn of(list: &impl Frames<'a>) -> Self {
-        Members { family: list.family(), frames: list.frames(), place: PhantomData }
+    fn of(left: BorrowedAttributes<'a>) -> Self {
+        Members { left, place: PhantomData }
     }
 }
 
 impl<P> Clone for Members<'_, P> {
     fn clone(&self) -> Self {
-        Members { frames: self.frames.clone(), ..*self }
+        Members::of(self.left.clone())
     }
 }
 
 impl<P> fmt::Debug for Members<'_, P> {
     fn fmt(&self, f: &mut fmt::Formatter<'_>) -> fmt::Result {
-        f.debug_struct("Members").field("family", &self.family).field("frames", &self.frames).finish()
+        f.debug_struct("Members").field("family", &self.left.family).field("frames", &self.left.frames).finish()
     }
 }
 
@@ -472,11 +485,7 @@ impl<'a, P: Place<'a>> Iterator for Members<'a, P> {
     #[inline]
     fn next(&mut self) -> Option<Self::Item> {
         loop {
-            let member = match self.frames.next()? {
-                Ok(frame) => P::member(Attribute::new(frame), self.family),
-                Err(fault) => Err(fault),
-            };
-            if let Some(item) = member.transpose() {
+            if let Some(item) = P::next(&mut self.left)?.transpose() {
                 return Some(item);
             }
         }
@@ -490,7 +499,8 @@ mod keys {
     use super::{Key, ListView, Place, Values, WirelessEventView};
     use crate::link_msg::numbers;
     use crate::link_view::LinkView;
-    use crate::nla_wire::{parse_i32, parse_u8, parse_u32};
+    use crate::link_view::attributes::{BorrowedAttributes, borrow_frame};
+    use crate::link_view::borrowed::BorrowedAttribute;
     use crate::rattle::net::{Ipv4Addr, Ipv6Addr};
     use crate::{AddressFamily, Attribute, DecodeError, LinkAttribute, typed};
 

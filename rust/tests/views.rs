@@ -75,7 +75,7 @@ macro_rules! inside {
 }
 
 macro_rules! keys {
-    ($($(#[$docs:meta])+ $name:ident($value:ty) $number:ident $how:ident $under:tt;)+) => {
+    ($($(#[$docs:meta])+ $name:ident($value:ty) $number:ident $how:ident;)+) => {
         impl Checked for (&[u8], LinkView<'_>) {
             fn keys_agree(&self) {
                 let view = &self.1;
@@ -107,7 +107,7 @@ macro_rules! keys {
 
 macro_rules! members {
     (
-        $(#[$docs:meta])+ $module:ident $place:ident $numbers:ident;
+        $(#[$docs:meta])+ $module:ident $place:ident $numbers:ident $file:ident::$borrowed:ident;
         $($(#[$row_docs:meta])+ $name:ident($value:ty) $number:ident $how:ident;)*
     ) => {
         impl Checked for ListView<'_, linkwire::$place> {

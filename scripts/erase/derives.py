@@ -25,7 +25,10 @@ EMPTY = {"LinkVfInfo", "LinkVfPort"}
 # Equality of these is written out, for their models, and is that of their fields.
 STRUCTURAL = {"DefaultNla", "NlaBuffer"}
 # These are not compared in the sources, and a Rust user compares them.
-COMPARED = {"Field", "Info", "KindRow", "Member", "Place", "Plain", "Row", "Size", "Style", "Value"}
+COMPARED = {"Field", "Info", "KindRow", "Member", "Place", "Plain", "Row", "Size", "Style", "Value",
+            "WirelessEventView"}
+# A new kernel adds to these too, which borrow and so are not stored.
+BORROW = {"WirelessEventView"}
 
 
 def derived(s):
@@ -63,6 +66,8 @@ def stored(s, name, end, kept):
         if keeps_others(s, name) and s.text[name] not in GROWS:
             s.fail(name, f"{s.text[name]} keeps others, and is not in GROWS of derives.py")
         s.after[end] = "\n" + SERDE + "\n#[non_exhaustive]" * (s.text[name] in GROWS)
+    elif s.text[name] in BORROW:
+        s.after[end] = "\n#[non_exhaustive]"
 
 
 def keeps_others(s, name):

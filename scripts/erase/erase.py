@@ -17,6 +17,7 @@ import subprocess
 import sys
 import tempfile
 
+import borrowed
 import contracts
 import derives
 import examples
@@ -346,6 +347,8 @@ def main():
     if made != "check":
         make_all(Mode(made), out)
         return
+    for path, _ in borrowed.stale():
+        sys.exit(f"erase.py: {os.path.relpath(path)} is not what is made of the rows: run `make rust`")
     for mode, folder in ((Mode("crate"), out), (Mode("capi"), os.path.join(out, "capi"))):
         found = compare(mode, folder)
         if found:

@@ -24,7 +24,7 @@ VALUES = {"Bytes": ("&'a [u8]", "bytes"), "Text": ("&'a str", "text"), "bool": (
           "State": ("crate::State", "named_u8"), "LinkMode": ("crate::LinkMode", "named_u8"),
           "LinkEvent": ("crate::LinkEvent", "named_u32"), "LinkPhysId": ("crate::LinkPhysId", "record"),
           "Map": ("crate::Map", "record"), "Stats": ("crate::Stats", "record"), "Stats64": ("crate::Stats64", "record"),
-          "WirelessEvent": ("WirelessEventView<'a>", "event"), "DefaultNla": ("&'a [u8]", "bytes"),
+          "WirelessEvent": ("WirelessEventView<'a>", "event"), "DefaultNla": ("&'a [u8]", "kept"),
           "List<LinkExtentMask>": ("u32", "u32"), "LinkVfPort": ("ListView<'a, crate::VfPort>", "some")}
 # Lists whose attributes are kept in a message, and which have a type among the data of kinds.
 TYPED = {"AfSpecBridge": "typed::AfSpecBridge", "LinkProtoInfoBridge": "typed::InfoBridgePort"}
@@ -70,26 +70,26 @@ def snake(name):
 # ** the attributes of a message
 
 def families(said):
-    """Under which families of the header it is the variant."""
+    """Under which family of the header it is the variant: any, or the rest of them."""
     named = re.search(r"of the family AF_(\w+)", said)
-    return f"[{named[1].capitalize()}]" if named else "rest" if "of any other family" in said else "any"
+    return named[1].capitalize() if named else "rest" if "of any other family" in said else "any"
 
 
-def outermost():
+def rows():
+    """The rows of `LinkAttribute`: what is said of each, its variant, what it holds, its number, its value, how that is
+    read, and under which families."""
     source = read(ROWS)
     number_of = dict(re.findall(r"^ +(?:held|plain|mask) (\w+)\(\w+ => (IFLA_\w+)", source, re.M))
-    rows, taken = [], {}
     variants = [(said, name, held, number_of.get(name) or first(said))
                 for said, name, held in declared(source, "LinkAttribute")]
     for said, name, held, number in variants:
-        taken.setdefault(number, []).append(families(said).strip("[]"))
-    for said, name, held, number in variants:
         value, how = VALUES.get(held) or listed(held, said)
-        under = families(said)
-        if under == "rest":
-            under = f"(not {' '.join(it for it in taken[number] if it != 'rest')})"
-        rows += doc(said) + [f"    {name}({value}) {number} {how} {under};\n"]
-    return "keys! {\n" + "".join(rows) + "}\n"
+        yield said, name, held, number, value, how, families(said)
+
+
+def outermost():
+    made = [doc(said) + [f"    {name}({value}) {number} {how};\n"] for said, name, _, number, value, how, _ in rows()]
+    return "keys! {\n" + "".join(line for lines in made for line in lines) + "}\n"
 
 
 # ** the attributes of inner lists
@@ -104,31 +104,53 @@ def member(said, name, held, some):
     return kind, "same"
 
 
-def inner(crate, source, enum, said):
+def inner_rows(source, enum):
+    """The rows of an inner list: what is said of each, its variant, what it holds, its number, its value, how that is
+    read."""
     some = re.findall(r"^ +some (\w+)\(", source, re.M)
+    for text, name, held in declared(source, enum):
+        if "written only" not in text:
+            value, how = member(text, name, held, some)
+            yield text, name, held, first(text), value, how
+
+
+def inner(crate, source, enum, said):
     members = re.match(r"A member of ([^(:,]*\w)", said)
     if not members:
         raise ValueError(f"keys.py: it is not said of which list {enum} is a member")
     head = doc(f"Members of {members[1]}: the keys of [`{enum}`](crate::{enum})")
-    rows = [f"    {snake(enum)} {enum} {crate};\n"]
-    for text, name, held in declared(source, enum):
-        if "written only" not in text:
-            value, how = member(text, name, held, some)
-            rows += doc(text) + [f"    {name}({value}) {first(text)} {how};\n"]
+    rows = [f"    {snake(enum)} {enum} {crate} {crate.removeprefix('link_')}::Borrowed{enum};\n"]
+    for text, name, _, number, value, how in inner_rows(source, enum):
+        rows += doc(text) + [f"    {name}({value}) {number} {how};\n"]
     return "members! {\n" + "".join(head + rows) + "}\n"
+
+
+def sources():
+    """The sources of the crates of inner lists."""
+    for crate in INNER:
+        for path in sorted(glob.glob(os.path.join(CRATES, crate, "src", "*.rt"))):
+            yield crate, os.path.basename(path).removesuffix(".rt"), read(path)
+
+
+def enums(source):
+    """The enums of a source that are members of a list, and what is said of each."""
+    for said, enum in re.findall(r"((?:^///.*\n)+)#\[derive\(.*\)\]\npub enum (\w+)", source, re.M):
+        if enum not in NOT_LISTS:
+            yield enum, " ".join(re.findall(r"/// (.*)", said))
+
+
+def entries(source):
+    """The entries of a source that are lists themselves: the type, its members, its number."""
+    return re.findall(r"^pub struct (\w+)\(pub List<(\w+)>\);[\s\S]*?const NUMBER: u16 = (\w+);", source, re.M)
 
 
 def lists():
     """The enums of inner lists, and the lists of lists."""
-    for crate in INNER:
-        for path in sorted(glob.glob(os.path.join(CRATES, crate, "src", "*.rt"))):
-            source = read(path)
-            for said, enum in re.findall(r"((?:^///.*\n)+)#\[derive\(.*\)\]\npub enum (\w+)", source, re.M):
-                if enum not in NOT_LISTS:
-                    yield inner(crate, source, enum, " ".join(re.findall(r"/// (.*)", said)))
-            for enum, held, number in re.findall(
-                    r"^pub struct (\w+)\(pub List<(\w+)>\);[\s\S]*?const NUMBER: u16 = (\w+);", source, re.M):
-                yield f"entries!({enum} {held} {number});\n"
+    for crate, _, source in sources():
+        for enum, said in enums(source):
+            yield inner(crate, source, enum, said)
+        for enum, held, number in entries(source):
+            yield f"entries!({enum} {held} {number});\n"
 
 
 # ** the data of kinds

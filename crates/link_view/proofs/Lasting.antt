@@ -6,6 +6,7 @@ use Rattle.nla_wire.specs.Frames.{Frame, number, IsBytes, Frames}
 use Rattle.nla_wire.specs.Gives.{without_place}
 use Rattle.nla_wire.specs.Grammar.{list, Every}
 use Rattle.nla_wire.specs.Items.{Item, items, all_frames}
+use Rattle.nla_wire.specs.Reading.{◌>>=◌}
 use Rattle.nla_wire.specs.declared.error.Cause.{Cause}
 use Rattle.nla_wire.specs.declared.error.DecodeError.{DecodeError}
 use Rattle.nla_wire.proofs.Items.{items_nil, items_next}
@@ -19,6 +20,9 @@ use Rattle.link_msg.specs.declared.header.LinkHeader.{LinkHeader}
 use Rattle.link_msg.specs.declared.message.LinkMessage.{LinkMessage}
 use Rattle.link_msg.proofs.Reading.{message_agrees}
 use Rattle.link_view.specs.Views.{Opened, parsed, latest, last_of, IsMeant, IsLastOf, AreFramesOf}
+use Rattle.link_view.specs.Told.{told_found, read_found, each_read, all_read}
+use Rattle.link_view.specs.Borrowed.{owned}
+use Rattle.link_view.specs.declared.borrowed.BorrowedAttribute.{BorrowedAttribute}
 
 -- ** frame by frame
 
@@ -96,3 +100,51 @@ frames_told v m small e =
 pub opened_means : (b : List ℕ) (v : Opened) → ((m : LinkMessage) × Means b m) → read_message b ≡ parsed v
     → (m : LinkMessage) × Means b m × (parsed v ≡ Ok m)
 opened_means b v m same = (m.0, m.1, sym same ∙ message_agrees.only b m.0 m.1)
+
+-- ** values
+
+meant_read : (family : AddressFamily) (f : Option Frame) (v : Option LinkAttribute) → IsMeant family f v
+    → read_found (attribute_place family).reads (Ok f) ≡ Ok v
+meant_read family None None h = refl
+meant_read family None (Some v) h = absurd h
+meant_read family (Some f) None h = absurd h
+meant_read family (Some f) (Some v) h =
+    ap (λ (r : Result LinkAttribute Cause). r >>= λ a. Ok (Some a)) ((attribute_lawful family).agrees.only f v h)
+
+every_read : (family : AddressFamily) (fs : List Frame) (vs : Values) → Every (attribute_place family).means fs vs
+    → each_read (attribute_place family).reads (all_frames fs) ≡ all_read vs
+every_read family [] [] h = refl
+every_read family [] (v ∷ vs) h = absurd h
+every_read family (f ∷ fs) [] h = absurd h
+every_read family (f ∷ fs) (v ∷ vs) h =
+    ap (λ (r : Result LinkAttribute Cause). r ∷ each_read (attribute_place family).reads (all_frames fs))
+    ((attribute_lawful family).agrees.only f v h.0)
+    ∙ ap (λ (rs : List (Result LinkAttribute Cause)). Ok v ∷ rs) (every_read family fs vs h.1)
+
+-- a message's header is that of its view
+same_header : (v : Opened) (m : LinkMessage) → parsed v ≡ Ok m → v.header ≡ m.header
+same_header v m e = (with_header_ok v.header _ m e).0
+
+pub value_told : (v : Opened) (m : LinkMessage) (n : ℕ) (result : Result (Option BorrowedAttribute) DecodeError)
+    → IsBytes v.list
+    → told_found owned result
+    ≡ read_found (attribute_place v.header.interface_family).reads (latest n None (items v.list))
+    → parsed v ≡ Ok m → told_found owned result ≡ Ok (last_of n None m.attributes)
+value_told v m n result small found e =
+    let t = in_list m.header.interface_family n v.list m.attributes small (rest_read v m e) in
+    found
+    ∙ ap (λ (r : Result (Option Frame) Cause). read_found (attribute_place v.header.interface_family).reads r) t.1
+    ∙ subst
+    (λ (h : LinkHeader). read_found (attribute_place h.interface_family).reads (Ok t.0)
+    ≡ Ok (last_of n None m.attributes))
+    (sym (same_header v m e)) (meant_read m.header.interface_family t.0 (last_of n None m.attributes) t.2)
+
+pub values_told : (v : Opened) (m : LinkMessage) → IsBytes v.list → parsed v ≡ Ok m
+    → each_read (attribute_place v.header.interface_family).reads (items v.list) ≡ all_read m.attributes
+values_told v m small e =
+    let t = frames_told v m small e in
+    ap (λ (xs : List Item). each_read (attribute_place v.header.interface_family).reads xs) t.1
+    ∙ subst
+    (λ (h : LinkHeader). each_read (attribute_place h.interface_family).reads (all_frames t.0)
+    ≡ all_read m.attributes)
+    (sym (same_header v m e)) (every_read m.header.interface_family t.0 m.attributes t.2)

@@ -1,1 +1,7 @@
+pub mod Told
 pub mod Views
+pub mod Events
+pub mod Borrowed
+pub mod Nest
+pub mod Afspec
+pub mod Vf

@@ -27,6 +27,11 @@ latest n found [] = Ok found
 latest n found ((Err c) ∷ xs) = Err c
 latest n found ((Ok f) ∷ xs) = latest n (if number f == n then Some f else found) xs
 
+-- a frame that is there has this number
+abbrev pub HasNumber : ℕ → Option Frame → Type 0
+HasNumber n None = Unit {0}
+HasNumber n (Some f) = number f ≡ n
+
 -- the last attribute of this number, or the one that was found before
 abbrev pub last_of : ℕ → Option LinkAttribute → List LinkAttribute → Option LinkAttribute
 last_of n found [] = found

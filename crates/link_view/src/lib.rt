@@ -1,6 +1,24 @@
 //! Messages over borrowed bytes: their attributes are found and read with no memory.
 #![tactic(auto)]
 
+pub mod afspec;
+pub mod attributes;
+pub mod borrowed;
 pub mod message_view;
+pub mod nest;
+pub mod payload;
+pub mod vf;
 
+pub use afspec::{
+    BorrowedAfSpecInet, BorrowedAfSpecInet6, BorrowedAfSpecMctp, BorrowedAfSpecUnspec,
+    BorrowedLinkProtoInfoInet6,
+};
+pub use attributes::{BorrowedAttributes, borrow_frame};
+pub use borrowed::BorrowedAttribute;
 pub use message_view::{LinkView, last_in};
+pub use nest::{
+    BorrowedDevlinkPort, BorrowedDpllPin, BorrowedLinkInfo, BorrowedLinkProtocolDownReason,
+    BorrowedLinkXdp, BorrowedProp,
+};
+pub use payload::WirelessEventView;
+pub use vf::{BorrowedVfInfo, BorrowedVfPort, BorrowedVfStats, BorrowedVfVlan};

@@ -1,16 +1,22 @@
 //! A message over borrowed bytes.
 
-ghost use Rattle.std.specs.Prelude.{◌≡◌, ◌≢◌, ◌≤◌, Option, None, Ok, length, take, drop, IfOk, IfErr, MatchResult};
+ghost use Rattle.std.specs.Prelude.{◌≡◌, ◌≢◌, ◌≤◌, Option, None, Some, Ok, length, take, drop};
+ghost use Rattle.std.specs.Prelude.{IfOk, IfErr, MatchResult};
 ghost use Rattle.nla_wire.specs.Frames.{Frame, IsBytes};
 ghost use Rattle.nla_wire.specs.Fields.{IsShort};
 ghost use Rattle.nla_wire.specs.Gives.{without_place};
 ghost use Rattle.nla_wire.specs.Items.{items};
 ghost use Rattle.nla_wire.specs.declared.error.Cause.TheVariants.{OutOfMemory};
 ghost use Rattle.link_msg.specs.Header.{header_size};
+ghost use Rattle.link_msg.specs.Tables.{attribute_place};
 ghost use Rattle.link_msg.specs.Messages.{Means, FirstFault, MeansNothing, read_message};
 ghost use Rattle.link_msg.specs.declared.message.LinkMessage.{LinkMessage};
-ghost use Rattle.link_view.specs.Views.{parsed, latest, IsLastOf, AreFramesOf};
+ghost use Rattle.link_view.specs.Views.{parsed, latest, last_of, HasNumber, IsLastOf, AreFramesOf};
+ghost use Rattle.link_view.specs.Told.{told_found, read_found, each_read, all_read};
+ghost use Rattle.link_view.specs.Borrowed.{owned};
 
+use crate::attributes::{BorrowedAttributes, borrow_frame};
+use crate::borrowed::BorrowedAttribute;
 use link_msg::header::HEADER_SIZE;
 use link_msg::{LinkHeader, LinkMessage};
 use nla_wire::{DecodeError, NlaBuffer, NlasIterator};
@@ -39,7 +45,8 @@ fn are_bytes(_bytes: &[u8])
 
 /// The last frame of this number in a list of attributes; or the fault that ends the frames, wherever that is.
 pub fn last_in(list: &[u8], number: u16) -> Result<Option<NlaBuffer<'_>>, DecodeError>
-    ensures { without_place result ≡ latest number None (items list.now) }
+    ensures found { without_place result ≡ latest number None (items list.now) }
+    ensures numbered { IfOk result (λ found. HasNumber number found) }
 {
     let mut found = None;
     for item in NlasIterator::new(list) {
@@ -102,8 +109,69 @@ impl<'a> LinkView<'a> {
     pub fn last(&self, number: u16) -> Result<Option<NlaBuffer<'a>>, DecodeError>
         ensures found { without_place result ≡ latest number None (items self.now.list) }
         ensures parsed { (m : LinkMessage) → parsed self.now ≡ Ok m → IsLastOf m number result }
+        ensures numbered { IfOk result (λ found. HasNumber number found) }
     {
         are_bytes(self.list);
         last_in(self.list, number)
+    }
+
+    /// What `last_value` does; for the proof: its clause cites the reader alone, and that of a message follows.
+    #[inline(always)]
+    fn read_last(&self, number: u16) -> Result<Option<BorrowedAttribute<'a>>, DecodeError>
+        ensures { told_found owned result
+            ≡ read_found (attribute_place self.now.header.interface_family).reads
+            (latest number None (items self.now.list)) }
+    {
+        let family = self.header.interface_family;
+        match self.last(number) {
+            Ok(Some(frame)) => match borrow_frame(number, frame, family) {
+                Ok(value) => Ok(Some(value)),
+                Err(fault) => Err(fault),
+            },
+            Ok(None) => Ok(None),
+            Err(fault) => Err(fault),
+        }
+    }
+
+    /// The last attribute of this number over borrowed bytes, as the kernel reads a list; `None` where there is none.
+    ///
+    /// Of a message that `parse` reads it is what `parse` gives: the same variant with the same value. Else a fault of
+    /// the frames is refused, or one of the value.
+    #[inline(always)]
+    pub fn last_value(&self, number: u16) -> Result<Option<BorrowedAttribute<'a>>, DecodeError>
+        ensures parsed { (m : LinkMessage) → parsed self.now ≡ Ok m
+            → told_found owned result ≡ Ok (last_of number None m.attributes) }
+        ensures found { told_found owned result
+            ≡ read_found (attribute_place self.now.header.interface_family).reads
+            (latest number None (items self.now.list)) }
+    {
+        are_bytes(self.list);
+        self.read_last(number)
+    }
+
+    /// What `values` does; for the proof: its clause cites the reader alone, and that of a message follows.
+    #[inline(always)]
+    fn read_all(&self) -> BorrowedAttributes<'a>
+        ensures { result ≡ each_read (attribute_place self.now.header.interface_family).reads
+            (items self.now.list) }
+    {
+        BorrowedAttributes {
+            family: self.header.interface_family,
+            frames: self.frames(),
+        }
+    }
+
+    /// The attributes over borrowed bytes, front to back: of a message that `parse` reads exactly those that it gives,
+    /// in order.
+    #[inline(always)]
+    pub fn values(&self) -> BorrowedAttributes<'a>
+        ensures parsed { (m : LinkMessage) → parsed self.now ≡ Ok m
+            → result ≡ all_read m.attributes }
+        ensures values { result
+            ≡ each_read (attribute_place self.now.header.interface_family).reads
+            (items self.now.list) }
+    {
+        are_bytes(self.list);
+        self.read_all()
     }
 }

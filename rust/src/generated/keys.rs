@@ -3,145 +3,145 @@
 
 keys! {
     /// IFLA_ADDRESS: the hardware address, bytes.
-    Address(&'a [u8]) IFLA_ADDRESS bytes any;
+    Address(&'a [u8]) IFLA_ADDRESS bytes;
     /// IFLA_BROADCAST: the broadcast address, bytes.
-    Broadcast(&'a [u8]) IFLA_BROADCAST bytes any;
+    Broadcast(&'a [u8]) IFLA_BROADCAST bytes;
     /// IFLA_IFNAME: the name, a text with one NUL.
-    IfName(&'a str) IFLA_IFNAME text any;
+    IfName(&'a str) IFLA_IFNAME text;
     /// IFLA_MTU: the largest size of a packet, in bytes.
-    Mtu(u32) IFLA_MTU u32 any;
+    Mtu(u32) IFLA_MTU u32;
     /// IFLA_LINK: the index of the link below.
-    Link(u32) IFLA_LINK u32 any;
+    Link(u32) IFLA_LINK u32;
     /// IFLA_QDISC: the queueing discipline, a text.
-    Qdisc(&'a str) IFLA_QDISC text any;
+    Qdisc(&'a str) IFLA_QDISC text;
     /// IFLA_STATS: counters of 32 bits, a record of 96 bytes. A shorter one is filled up with zeros.
-    Stats(crate::Stats) IFLA_STATS record any;
+    Stats(crate::Stats) IFLA_STATS record;
     /// IFLA_MASTER: the index of the link that this one belongs to.
-    Controller(u32) IFLA_MASTER u32 any;
+    Controller(u32) IFLA_MASTER u32;
     /// IFLA_WIRELESS: an event of the wireless extensions.
-    Wireless(WirelessEventView<'a>) IFLA_WIRELESS event any;
+    Wireless(WirelessEventView<'a>) IFLA_WIRELESS event;
     /// IFLA_PROTINFO, of the family AF_BRIDGE: a non-empty list.
-    ProtoInfoBridge(ListView<'a, typed::InfoBridgePort>) IFLA_PROTINFO some [Bridge];
+    ProtoInfoBridge(ListView<'a, typed::InfoBridgePort>) IFLA_PROTINFO some;
     /// IFLA_PROTINFO, of the family AF_INET6: a non-empty list.
-    ProtoInfoInet6(ListView<'a, crate::LinkProtoInfoInet6>) IFLA_PROTINFO some [Inet6];
+    ProtoInfoInet6(ListView<'a, crate::LinkProtoInfoInet6>) IFLA_PROTINFO some;
     /// IFLA_PROTINFO, of any other family: kept as it is, with its flags.
-    ProtoInfoUnknown(&'a [u8]) IFLA_PROTINFO bytes (not Bridge Inet6);
+    ProtoInfoUnknown(&'a [u8]) IFLA_PROTINFO kept;
     /// IFLA_TXQLEN: the length of the transmit queue, in packets.
-    TxQueueLen(u32) IFLA_TXQLEN u32 any;
+    TxQueueLen(u32) IFLA_TXQLEN u32;
     /// IFLA_MAP: addresses of the device, a record of 32 bytes. A shorter one is refused.
-    Map(crate::Map) IFLA_MAP record any;
+    Map(crate::Map) IFLA_MAP record;
     /// IFLA_OPERSTATE: the operational state, one byte.
-    OperState(crate::State) IFLA_OPERSTATE named_u8 any;
+    OperState(crate::State) IFLA_OPERSTATE named_u8;
     /// IFLA_LINKMODE: the mode of the link, one byte.
-    Mode(crate::LinkMode) IFLA_LINKMODE named_u8 any;
+    Mode(crate::LinkMode) IFLA_LINKMODE named_u8;
     /// IFLA_LINKINFO: the kind of the link and its data, a non-empty list.
-    LinkInfo(ListView<'a, crate::LinkInfo>) IFLA_LINKINFO some any;
+    LinkInfo(ListView<'a, crate::LinkInfo>) IFLA_LINKINFO some;
     /// IFLA_NET_NS_PID: a process whose network namespace is meant.
-    NetNsPid(u32) IFLA_NET_NS_PID u32 any;
+    NetNsPid(u32) IFLA_NET_NS_PID u32;
     /// IFLA_IFALIAS: an alias, a text.
-    IfAlias(&'a str) IFLA_IFALIAS text any;
+    IfAlias(&'a str) IFLA_IFALIAS text;
     /// IFLA_NUM_VF: how many virtual functions there are.
-    NumVf(u32) IFLA_NUM_VF u32 any;
+    NumVf(u32) IFLA_NUM_VF u32;
     /// IFLA_VFINFO_LIST: virtual functions. Entries with another number than IFLA_VF_INFO are dropped.
-    VfInfoList(ListView<'a, crate::LinkVfInfo>) IFLA_VFINFO_LIST list any;
+    VfInfoList(ListView<'a, crate::LinkVfInfo>) IFLA_VFINFO_LIST list;
     /// IFLA_STATS64: counters of 64 bits, a record of 200 bytes. A shorter one is filled up with zeros.
-    Stats64(crate::Stats64) IFLA_STATS64 record any;
+    Stats64(crate::Stats64) IFLA_STATS64 record;
     /// IFLA_VF_PORTS: ports of virtual functions, a non-empty payload. Entries with another number than IFLA_VF_PORT
     /// are dropped, so that the list may be empty; it has no canonical encoding then.
-    VfPorts(ListView<'a, crate::LinkVfPort>) IFLA_VF_PORTS some any;
+    VfPorts(ListView<'a, crate::LinkVfPort>) IFLA_VF_PORTS some;
     /// IFLA_PORT_SELF: the port of the interface itself, a non-empty list.
-    PortSelf(ListView<'a, crate::VfPort>) IFLA_PORT_SELF some any;
+    PortSelf(ListView<'a, crate::VfPort>) IFLA_PORT_SELF some;
     /// IFLA_AF_SPEC, of the family AF_BRIDGE: settings of a bridge, a non-empty list.
-    AfSpecBridge(ListView<'a, typed::AfSpecBridge>) IFLA_AF_SPEC some [Bridge];
+    AfSpecBridge(ListView<'a, typed::AfSpecBridge>) IFLA_AF_SPEC some;
     /// IFLA_AF_SPEC, of the family AF_UNSPEC: settings by family, a list.
-    AfSpecUnspec(ListView<'a, crate::AfSpecUnspec>) IFLA_AF_SPEC list [Unspec];
+    AfSpecUnspec(ListView<'a, crate::AfSpecUnspec>) IFLA_AF_SPEC list;
     /// IFLA_AF_SPEC, of any other family: bytes.
-    AfSpecUnknown(&'a [u8]) IFLA_AF_SPEC bytes (not Bridge Unspec);
+    AfSpecUnknown(&'a [u8]) IFLA_AF_SPEC bytes;
     /// IFLA_GROUP: the group of the link.
-    Group(u32) IFLA_GROUP u32 any;
+    Group(u32) IFLA_GROUP u32;
     /// IFLA_NET_NS_FD: a descriptor of a network namespace.
-    NetNsFd(i32) IFLA_NET_NS_FD i32 any;
+    NetNsFd(i32) IFLA_NET_NS_FD i32;
     /// IFLA_EXT_MASK: what more is asked for, flags in a number of four bytes.
-    ExtMask(u32) IFLA_EXT_MASK u32 any;
+    ExtMask(u32) IFLA_EXT_MASK u32;
     /// IFLA_PROMISCUITY: how often promiscuous mode was asked for.
-    Promiscuity(u32) IFLA_PROMISCUITY u32 any;
+    Promiscuity(u32) IFLA_PROMISCUITY u32;
     /// IFLA_NUM_TX_QUEUES: how many queues send.
-    NumTxQueues(u32) IFLA_NUM_TX_QUEUES u32 any;
+    NumTxQueues(u32) IFLA_NUM_TX_QUEUES u32;
     /// IFLA_NUM_RX_QUEUES: how many queues receive.
-    NumRxQueues(u32) IFLA_NUM_RX_QUEUES u32 any;
+    NumRxQueues(u32) IFLA_NUM_RX_QUEUES u32;
     /// IFLA_CARRIER: 1 where there is a carrier.
-    Carrier(u8) IFLA_CARRIER u8 any;
+    Carrier(u8) IFLA_CARRIER u8;
     /// IFLA_PHYS_PORT_ID: the id of the port, at most 32 bytes.
-    PhysPortId(crate::LinkPhysId) IFLA_PHYS_PORT_ID record any;
+    PhysPortId(crate::LinkPhysId) IFLA_PHYS_PORT_ID record;
     /// IFLA_CARRIER_CHANGES: how often the carrier came or went.
-    CarrierChanges(u32) IFLA_CARRIER_CHANGES u32 any;
+    CarrierChanges(u32) IFLA_CARRIER_CHANGES u32;
     /// IFLA_PHYS_SWITCH_ID: the id of the switch, at most 32 bytes.
-    PhysSwitchId(crate::LinkPhysId) IFLA_PHYS_SWITCH_ID record any;
+    PhysSwitchId(crate::LinkPhysId) IFLA_PHYS_SWITCH_ID record;
     /// IFLA_LINK_NETNSID: the id of the network namespace of the link below.
-    LinkNetNsId(i32) IFLA_LINK_NETNSID i32 any;
+    LinkNetNsId(i32) IFLA_LINK_NETNSID i32;
     /// IFLA_PHYS_PORT_NAME: the name of the port, a text.
-    PhysPortName(&'a str) IFLA_PHYS_PORT_NAME text any;
+    PhysPortName(&'a str) IFLA_PHYS_PORT_NAME text;
     /// IFLA_PROTO_DOWN: 1 where a protocol holds the link down.
-    ProtoDown(u8) IFLA_PROTO_DOWN u8 any;
+    ProtoDown(u8) IFLA_PROTO_DOWN u8;
     /// IFLA_GSO_MAX_SEGS: the most segments of one packet that the device splits.
-    GsoMaxSegs(u32) IFLA_GSO_MAX_SEGS u32 any;
+    GsoMaxSegs(u32) IFLA_GSO_MAX_SEGS u32;
     /// IFLA_GSO_MAX_SIZE: the most bytes of one packet that the device splits.
-    GsoMaxSize(u32) IFLA_GSO_MAX_SIZE u32 any;
+    GsoMaxSize(u32) IFLA_GSO_MAX_SIZE u32;
     /// IFLA_XDP: the attached program, a non-empty list.
-    Xdp(ListView<'a, crate::LinkXdp>) IFLA_XDP some any;
+    Xdp(ListView<'a, crate::LinkXdp>) IFLA_XDP some;
     /// IFLA_EVENT: why the link announced itself, four bytes.
-    Event(crate::LinkEvent) IFLA_EVENT named_u32 any;
+    Event(crate::LinkEvent) IFLA_EVENT named_u32;
     /// IFLA_NEW_NETNSID: the id of the network namespace that the link has moved to.
-    NewNetnsId(i32) IFLA_NEW_NETNSID i32 any;
+    NewNetnsId(i32) IFLA_NEW_NETNSID i32;
     /// IFLA_IF_NETNSID, also IFLA_TARGET_NETNSID: the id of the network namespace that is asked about.
-    IfNetnsId(i32) IFLA_IF_NETNSID i32 any;
+    IfNetnsId(i32) IFLA_IF_NETNSID i32;
     /// IFLA_CARRIER_UP_COUNT: how often the carrier came.
-    CarrierUpCount(u32) IFLA_CARRIER_UP_COUNT u32 any;
+    CarrierUpCount(u32) IFLA_CARRIER_UP_COUNT u32;
     /// IFLA_CARRIER_DOWN_COUNT: how often the carrier went.
-    CarrierDownCount(u32) IFLA_CARRIER_DOWN_COUNT u32 any;
+    CarrierDownCount(u32) IFLA_CARRIER_DOWN_COUNT u32;
     /// IFLA_NEW_IFINDEX: the index of the link in the network namespace that it has moved to.
-    NewIfIndex(i32) IFLA_NEW_IFINDEX i32 any;
+    NewIfIndex(i32) IFLA_NEW_IFINDEX i32;
     /// IFLA_MIN_MTU: the least MTU that the link takes, in bytes.
-    MinMtu(u32) IFLA_MIN_MTU u32 any;
+    MinMtu(u32) IFLA_MIN_MTU u32;
     /// IFLA_MAX_MTU: the greatest MTU that the link takes, in bytes.
-    MaxMtu(u32) IFLA_MAX_MTU u32 any;
+    MaxMtu(u32) IFLA_MAX_MTU u32;
     /// IFLA_PROP_LIST: alternative names, a list.
-    PropList(ListView<'a, crate::Prop>) IFLA_PROP_LIST list any;
+    PropList(ListView<'a, crate::Prop>) IFLA_PROP_LIST list;
     /// IFLA_PERM_ADDRESS: the permanent hardware address, bytes.
-    PermAddress(&'a [u8]) IFLA_PERM_ADDRESS bytes any;
+    PermAddress(&'a [u8]) IFLA_PERM_ADDRESS bytes;
     /// IFLA_PROTO_DOWN_REASON: why a protocol holds the link down, a list.
-    ProtoDownReason(ListView<'a, crate::LinkProtocolDownReason>) IFLA_PROTO_DOWN_REASON list any;
+    ProtoDownReason(ListView<'a, crate::LinkProtocolDownReason>) IFLA_PROTO_DOWN_REASON list;
     /// IFLA_PARENT_DEV_NAME: the name of the device above, a text.
-    ParentDevName(&'a str) IFLA_PARENT_DEV_NAME text any;
+    ParentDevName(&'a str) IFLA_PARENT_DEV_NAME text;
     /// IFLA_PARENT_DEV_BUS_NAME: the name of its bus, a text.
-    ParentDevBusName(&'a str) IFLA_PARENT_DEV_BUS_NAME text any;
+    ParentDevBusName(&'a str) IFLA_PARENT_DEV_BUS_NAME text;
     /// IFLA_GRO_MAX_SIZE: the most bytes of one packet that is joined from received ones.
-    GroMaxSize(u32) IFLA_GRO_MAX_SIZE u32 any;
+    GroMaxSize(u32) IFLA_GRO_MAX_SIZE u32;
     /// IFLA_TSO_MAX_SIZE: the most bytes of one packet that the hardware splits.
-    TsoMaxSize(u32) IFLA_TSO_MAX_SIZE u32 any;
+    TsoMaxSize(u32) IFLA_TSO_MAX_SIZE u32;
     /// IFLA_TSO_MAX_SEGS: the most segments of one packet that the hardware splits.
-    TsoMaxSegs(u32) IFLA_TSO_MAX_SEGS u32 any;
+    TsoMaxSegs(u32) IFLA_TSO_MAX_SEGS u32;
     /// IFLA_ALLMULTI: how often all multicast packets were asked for.
-    AllMulticast(u32) IFLA_ALLMULTI u32 any;
+    AllMulticast(u32) IFLA_ALLMULTI u32;
     /// IFLA_DEVLINK_PORT: the port of devlink, a list.
-    DevlinkPort(ListView<'a, crate::DevlinkPort>) IFLA_DEVLINK_PORT list any;
+    DevlinkPort(ListView<'a, crate::DevlinkPort>) IFLA_DEVLINK_PORT list;
     /// IFLA_GSO_IPV4_MAX_SIZE: as `GsoMaxSize`, of IPv4 packets.
-    GsoIpv4MaxSize(u32) IFLA_GSO_IPV4_MAX_SIZE u32 any;
+    GsoIpv4MaxSize(u32) IFLA_GSO_IPV4_MAX_SIZE u32;
     /// IFLA_GRO_IPV4_MAX_SIZE: as `GroMaxSize`, of IPv4 packets.
-    GroIpv4MaxSize(u32) IFLA_GRO_IPV4_MAX_SIZE u32 any;
+    GroIpv4MaxSize(u32) IFLA_GRO_IPV4_MAX_SIZE u32;
     /// IFLA_DPLL_PIN: the pin of a clock, a list.
-    DpllPin(ListView<'a, crate::DpllPin>) IFLA_DPLL_PIN list any;
+    DpllPin(ListView<'a, crate::DpllPin>) IFLA_DPLL_PIN list;
     /// IFLA_NETNS_IMMUTABLE: whether the link stays in its network namespace, one byte: 0 is false, all else true.
-    NetnsImmutable(bool) IFLA_NETNS_IMMUTABLE truth any;
+    NetnsImmutable(bool) IFLA_NETNS_IMMUTABLE truth;
     /// IFLA_HEADROOM: how many bytes a packet needs in front of its data, where the payload has two bytes.
-    Headroom(u16) IFLA_HEADROOM sized any;
+    Headroom(u16) IFLA_HEADROOM sized;
     /// IFLA_TAILROOM: how many bytes a packet needs after its data, where the payload has two bytes.
-    Tailroom(u16) IFLA_TAILROOM sized any;
+    Tailroom(u16) IFLA_TAILROOM sized;
 }
 
 members! {
     /// Members of AF_INET in IFLA_AF_SPEC: the keys of [`AfSpecInet`](crate::AfSpecInet).
-    af_spec_inet AfSpecInet link_afspec;
+    af_spec_inet AfSpecInet link_afspec afspec::BorrowedAfSpecInet;
     /// IFLA_INET_CONF: all settings, a record of 136 bytes, as the kernel sends them. A shorter one is filled up with
     /// zeros.
     DevConf(crate::InetDevConf) IFLA_INET_CONF same;
@@ -149,7 +149,7 @@ members! {
 
 members! {
     /// Members of AF_INET6 in IFLA_AF_SPEC: the keys of [`AfSpecInet6`](crate::AfSpecInet6).
-    af_spec_inet6 AfSpecInet6 link_afspec;
+    af_spec_inet6 AfSpecInet6 link_afspec afspec::BorrowedAfSpecInet6;
     /// IFLA_INET6_FLAGS: flags of the interface, four bytes, of which every bit is kept.
     Flags(crate::Inet6IfaceFlags) IFLA_INET6_FLAGS same;
     /// IFLA_INET6_CACHEINFO: times of the neighbour cache, a record of 16 bytes. A shorter one is refused.
@@ -170,7 +170,7 @@ members! {
 
 members! {
     /// Members of AF_MCTP in IFLA_AF_SPEC: the keys of [`AfSpecMctp`](crate::AfSpecMctp).
-    af_spec_mctp AfSpecMctp link_afspec;
+    af_spec_mctp AfSpecMctp link_afspec afspec::BorrowedAfSpecMctp;
     /// IFLA_MCTP_NET: the number of the network, four bytes.
     Net(u32) IFLA_MCTP_NET same;
     /// IFLA_MCTP_PHYS_BINDING: the physical binding, one byte.
@@ -179,12 +179,12 @@ members! {
 
 members! {
     /// Members of IFLA_PROTINFO of the family AF_INET6: the keys of [`LinkProtoInfoInet6`](crate::LinkProtoInfoInet6).
-    link_proto_info_inet6 LinkProtoInfoInet6 link_afspec;
+    link_proto_info_inet6 LinkProtoInfoInet6 link_afspec afspec::BorrowedLinkProtoInfoInet6;
 }
 
 members! {
     /// Members of IFLA_AF_SPEC of the family AF_UNSPEC: the keys of [`AfSpecUnspec`](crate::AfSpecUnspec).
-    af_spec_unspec AfSpecUnspec link_afspec;
+    af_spec_unspec AfSpecUnspec link_afspec afspec::BorrowedAfSpecUnspec;
     /// AF_INET: settings of IPv4.
     Inet(ListView<'a, crate::AfSpecInet>) AF_INET some;
     /// AF_INET6: settings and statistics of IPv6.
@@ -195,7 +195,7 @@ members! {
 
 members! {
     /// Members of IFLA_DEVLINK_PORT: the keys of [`DevlinkPort`](crate::DevlinkPort).
-    devlink_port DevlinkPort link_nest;
+    devlink_port DevlinkPort link_nest nest::BorrowedDevlinkPort;
     /// DEVLINK_ATTR_BUS_NAME: the name of the bus, a text with one NUL.
     BusName(&'a str) DEVLINK_ATTR_BUS_NAME text;
     /// DEVLINK_ATTR_DEV_NAME: the name of the device, a text with one NUL.
@@ -206,7 +206,7 @@ members! {
 
 members! {
     /// Members of IFLA_PROTO_DOWN_REASON: the keys of [`LinkProtocolDownReason`](crate::LinkProtocolDownReason).
-    link_protocol_down_reason LinkProtocolDownReason link_nest;
+    link_protocol_down_reason LinkProtocolDownReason link_nest nest::BorrowedLinkProtocolDownReason;
     /// IFLA_PROTO_DOWN_REASON_MASK: which reasons are meant, four bytes.
     Mask(u32) IFLA_PROTO_DOWN_REASON_MASK same;
     /// IFLA_PROTO_DOWN_REASON_VALUE: the reasons, four bytes.
@@ -215,28 +215,28 @@ members! {
 
 members! {
     /// Members of IFLA_DPLL_PIN: the keys of [`DpllPin`](crate::DpllPin).
-    dpll_pin DpllPin link_nest;
+    dpll_pin DpllPin link_nest nest::BorrowedDpllPin;
     /// DPLL_A_PIN_ID: the number of the pin, four bytes.
     PinId(u32) DPLL_A_PIN_ID same;
 }
 
 members! {
     /// Members of IFLA_LINKINFO: the keys of [`LinkInfo`](crate::LinkInfo).
-    link_info LinkInfo link_nest;
+    link_info LinkInfo link_nest nest::BorrowedLinkInfo;
     /// IFLA_INFO_KIND: the type of the interface, a text with one NUL.
     Kind(&'a str) IFLA_INFO_KIND text;
 }
 
 members! {
     /// Members of IFLA_PROP_LIST: the keys of [`Prop`](crate::Prop).
-    prop Prop link_nest;
+    prop Prop link_nest nest::BorrowedProp;
     /// IFLA_ALT_IFNAME: an alternative name, a text with one NUL.
     AltIfName(&'a str) IFLA_ALT_IFNAME text;
 }
 
 members! {
     /// Members of IFLA_XDP: the keys of [`LinkXdp`](crate::LinkXdp).
-    link_xdp LinkXdp link_nest;
+    link_xdp LinkXdp link_nest nest::BorrowedLinkXdp;
     /// IFLA_XDP_FD: a file descriptor of a program, four bytes, signed.
     Fd(i32) IFLA_XDP_FD same;
     /// IFLA_XDP_ATTACHED: where a program is attached, one byte.
@@ -259,7 +259,7 @@ entries!(LinkVfPort VfPort IFLA_VF_PORT);
 
 members! {
     /// Members of IFLA_VF_STATS: the keys of [`VfStats`](crate::VfStats).
-    vf_stats VfStats link_vf;
+    vf_stats VfStats link_vf vf::BorrowedVfStats;
     /// IFLA_VF_STATS_RX_PACKETS: packets received.
     RxPackets(u64) IFLA_VF_STATS_RX_PACKETS same;
     /// IFLA_VF_STATS_TX_PACKETS: packets sent.
@@ -280,7 +280,7 @@ members! {
 
 members! {
     /// Members of IFLA_VF_INFO: the keys of [`VfInfo`](crate::VfInfo).
-    vf_info VfInfo link_vf;
+    vf_info VfInfo link_vf vf::BorrowedVfInfo;
     /// IFLA_VF_MAC: the hardware address, a record of 36 bytes.
     Mac(crate::VfInfoMac) IFLA_VF_MAC same;
     /// IFLA_VF_VLAN: vlan and priority, a record of 12 bytes.
@@ -313,12 +313,12 @@ entries!(LinkVfInfo VfInfo IFLA_VF_INFO);
 
 members! {
     /// Members of IFLA_VF_PORT: the keys of [`VfPort`](crate::VfPort).
-    vf_port VfPort link_vf;
+    vf_port VfPort link_vf vf::BorrowedVfPort;
 }
 
 members! {
     /// Members of IFLA_VF_VLAN_LIST: the keys of [`VfVlan`](crate::VfVlan).
-    vf_vlan VfVlan link_vf;
+    vf_vlan VfVlan link_vf vf::BorrowedVfVlan;
     /// IFLA_VF_VLAN_INFO: one vlan, a record of 16 bytes.
     Info(crate::VfVlanInfo) IFLA_VF_VLAN_INFO same;
 }

@@ -1,5 +1,6 @@
 //! The list of IFLA_LINKINFO over borrowed bytes: the kind of the link and its data, and those of the port that it is.
 
+use super::link_info::Kind;
 use super::{ListView, read};
 use crate::link_view::message_view::last_in;
 use crate::nla_wire::NlasIterator;
@@ -8,7 +9,6 @@ use crate::typed::{self, CanDeviceStats, parts};
 use crate::{DecodeError, LinkInfo};
 
 /// `IFLA_INFO_DATA` and its neighbours (linux/if_link.h).
-const INFO_KIND: u16 = 1;
 const INFO_DATA: u16 = 2;
 const INFO_XSTATS: u16 = 3;
 const INFO_SLAVE_KIND: u16 = 4;
@@ -128,10 +128,6 @@ impl<'a> ListView<'a, LinkInfo> {
         Ok(last_in(self.list, number)?.map(|frame| frame.value()))
     }
 
-    fn text(&self, number: u16) -> Result<Option<&'a str>, DecodeError> {
-        self.payload(number)?.map_or(Ok(None), read::text)
-    }
-
     /// The kind of the link (IFLA_INFO_KIND).
     ///
     /// # Errors
@@ -140,7 +136,7 @@ impl<'a> ListView<'a, LinkInfo> {
     ///
     /// [`InfoDataView`] has an example, and so has the page of the module.
     pub fn kind(&self) -> Result<Option<&'a str>, DecodeError> {
-        self.text(INFO_KIND)
+        self.get(Kind)
     }
 
     /// The data of that kind (IFLA_INFO_DATA), if both are there.
@@ -165,7 +161,7 @@ impl<'a> ListView<'a, LinkInfo> {
     ///
     /// [`InfoPortDataView`] has an example.
     pub fn port_kind(&self) -> Result<Option<&'a str>, DecodeError> {
-        self.text(INFO_SLAVE_KIND)
+        self.payload(INFO_SLAVE_KIND)?.map_or(Ok(None), read::text)
     }
 
     /// The data of that port (IFLA_INFO_SLAVE_DATA), if both are there.

@@ -1,46 +1,24 @@
 //! The forms of keys: those of a message, of inner lists, and of the data of kinds.
 
-/// A payload, as it is held.
-macro_rules! read {
-    (u8 $value:ty, $payload:ident) => {
-        parse_u8($payload).map(Some)
+/// A value over borrowed bytes as a user has it, by how it is read.
+macro_rules! shown {
+    (list $value:ident) => {
+        ListView::of($value)
     };
-    (u32 $value:ty, $payload:ident) => {
-        parse_u32($payload).map(Some)
+    (some $value:ident) => {
+        ListView::of($value)
     };
-    (i32 $value:ty, $payload:ident) => {
-        parse_i32($payload).map(Some)
+    (kept $value:ident) => {
+        $value.value()
     };
-    (truth $value:ty, $payload:ident) => {
-        parse_u8($payload).map(|it| Some(it != 0))
+    ($how:ident $value:ident) => {
+        $value
     };
-    (named_u8 $value:ty, $payload:ident) => {
-        parse_u8($payload).map(|it| Some(<$value>::from(it)))
-    };
-    (named_u32 $value:ty, $payload:ident) => {
-        parse_u32($payload).map(|it| Some(<$value>::from(it)))
-    };
-    (record $value:ty, $payload:ident) => {
-        <$value>::parse($payload).map(Some)
-    };
-    ($how:ident $value:ty, $payload:ident) => {
-        $crate::view::read::$how($payload)
-    };
-}
-
-/// Whether an attribute is the variant under this family.
-macro_rules! under {
-    (any, $family:ident) => {{
-        let _ = $family;
-        true
-    }};
-    ([$($name:ident)+], $family:ident) => { matches!($family, $(AddressFamily::$name)|+) };
-    ((not $($name:ident)+), $family:ident) => { !matches!($family, $(AddressFamily::$name)|+) };
 }
 
 /// Of each row of `LinkAttribute` the key, and of all of them the enum.
 macro_rules! keys {
-    ($($(#[$docs:meta])+ $name:ident($value:ty) $number:ident $how:ident $under:tt;)+) => {
+    ($($(#[$docs:meta])+ $name:ident($value:ty) $number:ident $how:ident;)+) => {
         $(
             $(#[$docs])+
             #[derive(Clone, Copy, Debug, PartialEq, Eq, Hash)]
@@ -54,13 +32,19 @@ macro_rules! keys {
 
                 #[inline]
                 fn read(attribute: Attribute<'a>, family: AddressFamily) -> Result<Option<$value>, DecodeError> {
-                    if !under!($under, family) {
-                        return Ok(None);
+                    match borrow_frame(numbers::$number, *attribute.frame(), family) {
+                        Ok(BorrowedAttribute::$name(value)) => Ok(Some(shown!($how value))),
+                        Ok(_) => Ok(None),
+                        Err(fault) => Err(fault),
                     }
-                    let payload = attribute.payload();
-                    match read!($how $value, payload) {
-                        Ok(value) => Ok(value),
-                        Err(fault) => Err(fault.within(stringify!($number))),
+                }
+
+                #[inline]
+                fn of_message(view: &LinkView<'a>) -> Result<Option<$value>, DecodeError> {
+                    match view.last_value(numbers::$number) {
+                        Ok(Some(BorrowedAttribute::$name(value))) => Ok(Some(shown!($how value))),
+                        Ok(_) => Ok(None),
+                        Err(fault) => Err(fault),
                     }
                 }
             }
@@ -78,51 +62,44 @@ macro_rules! keys {
             Other(Attribute<'a>),
         }
 
+        /// The same attribute, as a user has it.
+        #[inline]
+        fn shown(attribute: BorrowedAttribute<'_>) -> Option<AttributeView<'_>> {
+            Some(match attribute {
+                $(BorrowedAttribute::$name(value) => AttributeView::$name(shown!($how value)),)+
+                BorrowedAttribute::Other(frame) => AttributeView::Other(Attribute::new(frame)),
+            })
+        }
+
         impl<'a> Place<'a> for LinkAttribute {
             type Member = AttributeView<'a>;
 
             #[inline]
             fn member(attribute: Attribute<'a>, family: AddressFamily) -> Result<Option<Self::Member>, DecodeError> {
-                match attribute.number() {
-                    $(numbers::$number if under!($under, family) => {
-                        if let Some(value) = <$name as Key>::read(attribute, family)? {
-                            return Ok(Some(AttributeView::$name(value)));
-                        }
-                    })+
-                    _ => {}
-                }
-                Ok(Some(AttributeView::Other(attribute)))
+                borrow_frame(attribute.number(), *attribute.frame(), family).map(shown)
+            }
+
+            #[inline]
+            fn next(left: &mut BorrowedAttributes<'a>) -> Option<Result<Option<Self::Member>, DecodeError>> {
+                Some(left.next()?.map(shown))
             }
         }
-    };
-}
-
-/// A member of an inner list: a text and a list are borrowed, and all else is read as `parse` reads it.
-macro_rules! member_value {
-    (same $place:ident $name:ident, $attribute:ident) => {
-        match <$crate::$place as $crate::nla_wire::NlaRead>::parse_frame($attribute.frame()) {
-            Ok($crate::$place::$name(value)) => Ok(Some(value)),
-            Ok(_) => Ok(None),
-            Err(fault) => Err(fault),
-        }
-    };
-    ($how:ident $place:ident $name:ident, $attribute:ident) => {
-        $crate::view::read::$how($attribute.payload())
     };
 }
 
 /// Of each row of an inner list the key, and of all of them the enum.
 macro_rules! members {
     (
-        $(#[$docs:meta])+ $module:ident $place:ident $numbers:ident;
+        $(#[$docs:meta])+ $module:ident $place:ident $numbers:ident $file:ident::$borrowed:ident;
         $($(#[$row_docs:meta])+ $name:ident($value:ty) $number:ident $how:ident;)*
     ) => {
         $(#[$docs])+
         pub mod $module {
             #[allow(unused_imports)]
-            use super::{AddressFamily, Attribute, DecodeError, Key, ListView, Place};
+            use super::{AddressFamily, Attribute, BorrowedAttributes, DecodeError, Key, ListView, Place};
             #[allow(unused_imports)]
             use crate::$numbers::numbers;
+            use crate::link_view::$file::$borrowed as Borrowed;
 
             $(
                 $(#[$row_docs])+
@@ -137,9 +114,19 @@ macro_rules! members {
 
                     #[inline]
                     fn read(attribute: Attribute<'a>, _: AddressFamily) -> Result<Option<$value>, DecodeError> {
-                        match member_value!($how $place $name, attribute) {
-                            Ok(value) => Ok(value),
-                            Err(fault) => Err(DecodeError::within(fault, stringify!($number))),
+                        match Borrowed::borrow(numbers::$number, *attribute.frame()) {
+                            Ok(Borrowed::$name(value)) => Ok(Some(shown!($how value))),
+                            Ok(_) => Ok(None),
+                            Err(fault) => Err(fault),
+                        }
+                    }
+
+                    #[inline]
+                    fn of_list(list: &'a [u8]) -> Result<Option<$value>, DecodeError> {
+                        match Borrowed::last(list, numbers::$number) {
+                            Ok(Some(Borrowed::$name(value))) => Ok(Some(shown!($how value))),
+                            Ok(_) => Ok(None),
+                            Err(fault) => Err(fault),
                         }
                     }
                 }
@@ -160,20 +147,26 @@ macro_rules! members {
                 Other(Attribute<'a>),
             }
 
+            /// The same attribute, as a user has it.
+            #[inline]
+            fn shown(member: Borrowed<'_>) -> Option<Member<'_>> {
+                Some(match member {
+                    $(Borrowed::$name(value) => Member::$name(shown!($how value)),)*
+                    Borrowed::Other(frame) => Member::Other(Attribute::new(frame)),
+                })
+            }
+
             impl<'a> Place<'a> for crate::$place {
                 type Member = Member<'a>;
 
                 #[inline]
-                fn member(attribute: Attribute<'a>, _family: AddressFamily) -> Result<Option<Member<'a>>, DecodeError> {
-                    match attribute.number() {
-                        $(numbers::$number => {
-                            if let Some(value) = <$name as Key>::read(attribute, _family)? {
-                                return Ok(Some(Member::$name(value)));
-                            }
-                        })*
-                        _ => {}
-                    }
-                    Ok(Some(Member::Other(attribute)))
+                fn member(attribute: Attribute<'a>, _: AddressFamily) -> Result<Option<Member<'a>>, DecodeError> {
+                    Borrowed::borrow(attribute.number(), *attribute.frame()).map(shown)
+                }
+
+                #[inline]
+                fn next(left: &mut BorrowedAttributes<'a>) -> Option<Result<Option<Member<'a>>, DecodeError>> {
+                    Some(Borrowed::next(&mut left.frames)?.map(shown))
                 }
             }
         }

@@ -1,11 +1,11 @@
 //! How payloads are read over borrowed bytes.
 
 use super::{ListView, Place};
-use crate::link_nest::numbers::{IWEVASSOCREQIE, IWEVASSOCRESPIE};
 use crate::link_view::LinkView;
-use crate::nla_wire::{NLA_HEADER_SIZE, NlasIterator, empty_list, padded_len, parse_u16};
+use crate::link_view::payload::text_of;
+use crate::nla_wire::{NLA_HEADER_SIZE, NlasIterator, padded_len};
 use crate::typed::parts::Part;
-use crate::{Cause, DecodeError, LinkMessage, WirelessEvent};
+use crate::{DecodeError, LinkMessage};
 use core::fmt;
 use core::iter::FusedIterator;
 use core::marker::PhantomData;
@@ -13,49 +13,12 @@ use core::mem::size_of;
 
 type Read<T> = Result<Option<T>, DecodeError>;
 
-pub(super) fn bytes(payload: &[u8]) -> Read<&[u8]> {
-    Ok(Some(payload))
-}
-
 pub(super) fn text(payload: &[u8]) -> Read<&str> {
-    let text = payload.strip_suffix(&[0]).unwrap_or(payload);
-    core::str::from_utf8(text).map(Some).map_err(|_| DecodeError::from(Cause::NotUtf8))
-}
-
-/// Of another size it is another variant.
-pub(super) fn sized(payload: &[u8]) -> Read<u16> {
-    Ok(parse_u16(payload).ok())
+    text_of(payload).map(Some)
 }
 
 pub(super) fn list<P>(payload: &[u8]) -> Read<ListView<'_, P>> {
     Ok(Some(ListView::of(payload)))
-}
-
-/// A list that is not empty.
-pub(super) fn some<P>(payload: &[u8]) -> Read<ListView<'_, P>> {
-    if payload.is_empty() { Err(empty_list()) } else { list(payload) }
-}
-
-pub(super) fn event(payload: &[u8]) -> Read<WirelessEventView<'_>> {
-    WirelessEvent::check(payload)?;
-    let (header, rest) = payload.split_at(8);
-    Ok(Some(match u16::from_ne_bytes([header[2], header[3]]) {
-        IWEVASSOCREQIE => WirelessEventView::AssociateRequest(rest),
-        IWEVASSOCRESPIE => WirelessEventView::AssociateResponse(rest),
-        _ => WirelessEventView::Other(payload),
-    }))
-}
-
-/// An event of the wireless extensions over borrowed bytes: a variant for each of [`WirelessEvent`].
-#[derive(Clone, Copy, Debug, PartialEq, Eq, Hash)]
-#[non_exhaustive]
-pub enum WirelessEventView<'a> {
-    /// IWEVASSOCREQIE: the information elements of an association request.
-    AssociateRequest(&'a [u8]),
-    /// IWEVASSOCRESPIE: the information elements of an association response.
-    AssociateResponse(&'a [u8]),
-    /// Any other command: the whole payload, header and all.
-    Other(&'a [u8]),
 }
 
 // ** the data of kinds: what is not of the form is `Other`, and so is what would not be written as it was

@@ -3,6 +3,8 @@
 
 use crate::link_msg::header::HEADER_SIZE;
 use crate::link_msg::{LinkHeader, LinkMessage};
+use crate::link_view::attributes::{BorrowedAttributes, borrow_frame};
+use crate::link_view::borrowed::BorrowedAttribute;
 use crate::nla_wire::{DecodeError, NlaBuffer, NlasIterator};
 
 /// A message over borrowed bytes: its header, and the attributes after it, which are not copied.
@@ -88,5 +90,43 @@ impl<'a> LinkView<'a> {
     pub(crate) fn last(&self, number: u16) -> Result<Option<NlaBuffer<'a>>, DecodeError> {
         are_bytes(self.list);
         last_in(self.list, number)
+    }
+
+    /// What `last_value` does.
+    #[cfg_attr(not(debug_assertions), inline(always))]
+    fn read_last(&self, number: u16) -> Result<Option<BorrowedAttribute<'a>>, DecodeError> {
+        let family = self.header.interface_family;
+        match self.last(number) {
+            Ok(Some(frame)) => match borrow_frame(number, frame, family) {
+                Ok(value) => Ok(Some(value)),
+                Err(fault) => Err(fault),
+            },
+            Ok(None) => Ok(None),
+            Err(fault) => Err(fault),
+        }
+    }
+
+    /// The last attribute of this number over borrowed bytes, as the kernel reads a list; `None` where there is none.
+    ///
+    /// Of a message that `parse` reads it is what `parse` gives: the same variant with the same value. Else a fault of
+    /// the frames is refused, or one of the value.
+    #[cfg_attr(not(debug_assertions), inline(always))]
+    pub(crate) fn last_value(&self, number: u16) -> Result<Option<BorrowedAttribute<'a>>, DecodeError> {
+        are_bytes(self.list);
+        self.read_last(number)
+    }
+
+    /// What `values` does.
+    #[cfg_attr(not(debug_assertions), inline(always))]
+    fn read_all(&self) -> BorrowedAttributes<'a> {
+        BorrowedAttributes { family: self.header.interface_family, frames: self.frames() }
+    }
+
+    /// The attributes over borrowed bytes, front to back: of a message that `parse` reads exactly those that it gives,
+    /// in order.
+    #[cfg_attr(not(debug_assertions), inline(always))]
+    pub(crate) fn values(&self) -> BorrowedAttributes<'a> {
+        are_bytes(self.list);
+        self.read_all()
     }
 }

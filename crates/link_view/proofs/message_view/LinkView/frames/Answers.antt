@@ -1,6 +1,6 @@
-use Rattle.std.proofs.Common.{sym, subst, ◌≡◌}
+use Rattle.std.proofs.Common.{sym, subst}
 use Rattle.nla_wire.specs.Frames.{IsBytes}
-use Rattle.nla_wire.specs.Items.{Item, items}
+use Rattle.nla_wire.specs.Items.{items}
 use Rattle.link_view.specs.Views.{Opened, AreFramesOf}
 use Rattle.link_view.proofs.Lasting.{frames_told}
 use Rattle.link_view.proofs.message_view.LinkView.frames.Goals as goal

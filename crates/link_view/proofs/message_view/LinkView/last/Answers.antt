@@ -11,4 +11,4 @@ returns-clause-parsed c = λ m read.
     last_told c.args.self.now m c.args.number c.last_in.result
     (subst (λ (v : Opened). IsBytes v.list) c.self.view_is c.are_bytes.ensures)
     (subst (λ (v : Opened). without_place c.last_in.result ≡ latest c.args.number None (items v.list))
-    c.self.view_is c.last_in.ensures) read
+    c.self.view_is c.last_in.ensures.found) read

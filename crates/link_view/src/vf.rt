@@ -1,0 +1,341 @@
+//! Members of the lists of link_vf over borrowed bytes, made by scripts/erase/borrowed.py of the rows of its
+//! enums: do not edit.
+
+ghost use Rattle.std.specs.Prelude.{◌≡◌, None};
+ghost use Rattle.nla_wire.specs.Frames.{number};
+ghost use Rattle.nla_wire.specs.Items.{items};
+ghost use Rattle.link_vf.specs.Tables.{vf_stats_place, vf_info_place, vf_port_place};
+ghost use Rattle.link_vf.specs.Tables.{vf_vlan_place};
+ghost use Rattle.link_view.specs.Views.{latest};
+ghost use Rattle.link_view.specs.Told.{told, told_found, read_found, IsNext};
+
+use crate::message_view::last_in;
+use crate::payload::{borrow, within};
+use link_vf::numbers::*;
+use link_vf::{VfInfo, VfPort, VfStats, VfVlan};
+use link_vfrec::{
+    VfInfoBroadcast, VfInfoGuid, VfInfoLinkState, VfInfoMac, VfInfoRate, VfInfoRssQueryEn,
+    VfInfoSpoofCheck, VfInfoTrust, VfInfoTxRate, VfInfoVlan, VfVlanInfo,
+};
+use nla_wire::{DecodeError, NlaBuffer, NlasIterator, Record, parse_u64};
+
+/// A member of IFLA_VF_STATS over borrowed bytes: a variant for each of `VfStats`.
+#[derive(Drop)]
+pub enum BorrowedVfStats<'a> {
+    RxPackets(u64),
+    TxPackets(u64),
+    RxBytes(u64),
+    TxBytes(u64),
+    Broadcast(u64),
+    Multicast(u64),
+    RxDropped(u64),
+    TxDropped(u64),
+    Other(NlaBuffer<'a>),
+}
+
+impl<'a> BorrowedVfStats<'a> {
+    ghost use Rattle.link_view.specs.Vf.{owned_vf_stats};
+
+    #[tactic(auto, unfolding(link_vf::specs::Tables::vf_stats_place))]
+    #[inline(always)]
+    fn read(kind: u16, frame: NlaBuffer<'a>) -> Result<BorrowedVfStats<'a>, DecodeError>
+        requires { kind ≡ number frame }
+        ensures { told owned_vf_stats result ≡ vf_stats_place.grammar.reads frame.entry }
+    {
+        let payload = frame.value();
+        match kind {
+            IFLA_VF_STATS_RX_PACKETS => borrow!(BorrowedVfStats::RxPackets, parse_u64(payload)),
+            IFLA_VF_STATS_TX_PACKETS => borrow!(BorrowedVfStats::TxPackets, parse_u64(payload)),
+            IFLA_VF_STATS_RX_BYTES => borrow!(BorrowedVfStats::RxBytes, parse_u64(payload)),
+            IFLA_VF_STATS_TX_BYTES => borrow!(BorrowedVfStats::TxBytes, parse_u64(payload)),
+            IFLA_VF_STATS_BROADCAST => borrow!(BorrowedVfStats::Broadcast, parse_u64(payload)),
+            IFLA_VF_STATS_MULTICAST => borrow!(BorrowedVfStats::Multicast, parse_u64(payload)),
+            IFLA_VF_STATS_RX_DROPPED => borrow!(BorrowedVfStats::RxDropped, parse_u64(payload)),
+            IFLA_VF_STATS_TX_DROPPED => borrow!(BorrowedVfStats::TxDropped, parse_u64(payload)),
+            _ => Ok(BorrowedVfStats::Other(frame)),
+        }
+    }
+
+    /// Reads a frame, whose number is given beside it: the value that `parse` gives, or the same fault. A list is not
+    /// looked at: its payload may be refused by `parse`.
+    #[inline(always)]
+    pub fn borrow(kind: u16, frame: NlaBuffer<'a>) -> Result<BorrowedVfStats<'a>, DecodeError>
+        requires { kind ≡ number frame }
+        ensures { told owned_vf_stats result ≡ vf_stats_place.grammar.reads frame.entry }
+    {
+        match Self::read(kind, frame) {
+            Ok(value) => Ok(value),
+            Err(fault) => Err(within::<VfStats>(fault, kind)),
+        }
+    }
+
+    /// The last member of this number; `None` where there is none. Of a list that `parse` reads it is what `parse`
+    /// gives: the same variant with the same value.
+    #[inline(always)]
+    pub fn last(list: &'a [u8], number: u16) -> Result<Option<BorrowedVfStats<'a>>, DecodeError>
+        ensures { told_found owned_vf_stats result
+            ≡ read_found vf_stats_place.grammar.reads (latest number None (items list.now)) }
+    {
+        match last_in(list, number) {
+            Ok(Some(frame)) => match Self::borrow(number, frame) {
+                Ok(value) => Ok(Some(value)),
+                Err(fault) => Err(fault),
+            },
+            Ok(None) => Ok(None),
+            Err(fault) => Err(fault),
+        }
+    }
+
+    /// The next member of a list, front to back; `None` after the last.
+    #[inline(always)]
+    pub fn next(left: &mut NlasIterator<'a>) -> Option<Result<BorrowedVfStats<'a>, DecodeError>>
+        ensures { IsNext owned_vf_stats vf_stats_place.grammar.reads left.old result left.new }
+    {
+        match left.next() {
+            Some(Ok(frame)) => {
+                let number = frame.kind();
+                Some(Self::borrow(number, frame))
+            }
+            Some(Err(fault)) => Some(Err(fault)),
+            None => None,
+        }
+    }
+}
+
+/// A member of IFLA_VF_INFO over borrowed bytes: a variant for each of `VfInfo`.
+#[derive(Drop)]
+pub enum BorrowedVfInfo<'a> {
+    Mac(VfInfoMac),
+    Vlan(VfInfoVlan),
+    TxRate(VfInfoTxRate),
+    SpoofCheck(VfInfoSpoofCheck),
+    LinkState(VfInfoLinkState),
+    Rate(VfInfoRate),
+    RssQueryEn(VfInfoRssQueryEn),
+    Stats(&'a [u8]),
+    Trust(VfInfoTrust),
+    IbNodeGuid(VfInfoGuid),
+    IbPortGuid(VfInfoGuid),
+    VlanList(&'a [u8]),
+    Broadcast(VfInfoBroadcast),
+    Other(NlaBuffer<'a>),
+}
+
+impl<'a> BorrowedVfInfo<'a> {
+    ghost use Rattle.link_view.specs.Vf.{owned_vf_info};
+
+    #[tactic(auto, unfolding(link_vf::specs::Tables::vf_info_place))]
+    #[inline(always)]
+    fn read(kind: u16, frame: NlaBuffer<'a>) -> Result<BorrowedVfInfo<'a>, DecodeError>
+        requires { kind ≡ number frame }
+        ensures { told owned_vf_info result ≡ vf_info_place.grammar.reads frame.entry }
+    {
+        let payload = frame.value();
+        match kind {
+            IFLA_VF_MAC => borrow!(BorrowedVfInfo::Mac, VfInfoMac::parse(payload)),
+            IFLA_VF_VLAN => borrow!(BorrowedVfInfo::Vlan, VfInfoVlan::parse(payload)),
+            IFLA_VF_TX_RATE => borrow!(BorrowedVfInfo::TxRate, VfInfoTxRate::parse(payload)),
+            IFLA_VF_SPOOFCHK => borrow!(
+                BorrowedVfInfo::SpoofCheck,
+                VfInfoSpoofCheck::parse(payload)
+            ),
+            IFLA_VF_LINK_STATE => borrow!(
+                BorrowedVfInfo::LinkState,
+                VfInfoLinkState::parse(payload)
+            ),
+            IFLA_VF_RATE => borrow!(BorrowedVfInfo::Rate, VfInfoRate::parse(payload)),
+            IFLA_VF_RSS_QUERY_EN => borrow!(
+                BorrowedVfInfo::RssQueryEn,
+                VfInfoRssQueryEn::parse(payload)
+            ),
+            IFLA_VF_STATS => Ok(BorrowedVfInfo::Stats(payload)),
+            IFLA_VF_TRUST => borrow!(BorrowedVfInfo::Trust, VfInfoTrust::parse(payload)),
+            IFLA_VF_IB_NODE_GUID => borrow!(BorrowedVfInfo::IbNodeGuid, VfInfoGuid::parse(payload)),
+            IFLA_VF_IB_PORT_GUID => borrow!(BorrowedVfInfo::IbPortGuid, VfInfoGuid::parse(payload)),
+            IFLA_VF_VLAN_LIST => Ok(BorrowedVfInfo::VlanList(payload)),
+            IFLA_VF_BROADCAST => borrow!(
+                BorrowedVfInfo::Broadcast,
+                VfInfoBroadcast::parse(payload)
+            ),
+            _ => Ok(BorrowedVfInfo::Other(frame)),
+        }
+    }
+
+    /// Reads a frame, whose number is given beside it: the value that `parse` gives, or the same fault. A list is not
+    /// looked at: its payload may be refused by `parse`.
+    #[inline(always)]
+    pub fn borrow(kind: u16, frame: NlaBuffer<'a>) -> Result<BorrowedVfInfo<'a>, DecodeError>
+        requires { kind ≡ number frame }
+        ensures { told owned_vf_info result ≡ vf_info_place.grammar.reads frame.entry }
+    {
+        match Self::read(kind, frame) {
+            Ok(value) => Ok(value),
+            Err(fault) => Err(within::<VfInfo>(fault, kind)),
+        }
+    }
+
+    /// The last member of this number; `None` where there is none. Of a list that `parse` reads it is what `parse`
+    /// gives: the same variant with the same value.
+    #[inline(always)]
+    pub fn last(list: &'a [u8], number: u16) -> Result<Option<BorrowedVfInfo<'a>>, DecodeError>
+        ensures { told_found owned_vf_info result
+            ≡ read_found vf_info_place.grammar.reads (latest number None (items list.now)) }
+    {
+        match last_in(list, number) {
+            Ok(Some(frame)) => match Self::borrow(number, frame) {
+                Ok(value) => Ok(Some(value)),
+                Err(fault) => Err(fault),
+            },
+            Ok(None) => Ok(None),
+            Err(fault) => Err(fault),
+        }
+    }
+
+    /// The next member of a list, front to back; `None` after the last.
+    #[inline(always)]
+    pub fn next(left: &mut NlasIterator<'a>) -> Option<Result<BorrowedVfInfo<'a>, DecodeError>>
+        ensures { IsNext owned_vf_info vf_info_place.grammar.reads left.old result left.new }
+    {
+        match left.next() {
+            Some(Ok(frame)) => {
+                let number = frame.kind();
+                Some(Self::borrow(number, frame))
+            }
+            Some(Err(fault)) => Some(Err(fault)),
+            None => None,
+        }
+    }
+}
+
+/// A member of IFLA_VF_PORT over borrowed bytes: a variant for each of `VfPort`.
+#[derive(Drop)]
+pub enum BorrowedVfPort<'a> {
+    Other(NlaBuffer<'a>),
+}
+
+impl<'a> BorrowedVfPort<'a> {
+    ghost use Rattle.link_view.specs.Vf.{owned_vf_port};
+
+    #[tactic(auto, unfolding(link_vf::specs::Tables::vf_port_place))]
+    #[inline(always)]
+    fn read(_kind: u16, frame: NlaBuffer<'a>) -> Result<BorrowedVfPort<'a>, DecodeError>
+        requires { _kind ≡ number frame }
+        ensures { told owned_vf_port result ≡ vf_port_place.grammar.reads frame.entry }
+    {
+        Ok(BorrowedVfPort::Other(frame))
+    }
+
+    /// Reads a frame, whose number is given beside it: the value that `parse` gives, or the same fault. A list is not
+    /// looked at: its payload may be refused by `parse`.
+    #[inline(always)]
+    pub fn borrow(kind: u16, frame: NlaBuffer<'a>) -> Result<BorrowedVfPort<'a>, DecodeError>
+        requires { kind ≡ number frame }
+        ensures { told owned_vf_port result ≡ vf_port_place.grammar.reads frame.entry }
+    {
+        match Self::read(kind, frame) {
+            Ok(value) => Ok(value),
+            Err(fault) => Err(within::<VfPort>(fault, kind)),
+        }
+    }
+
+    /// The last member of this number; `None` where there is none. Of a list that `parse` reads it is what `parse`
+    /// gives: the same variant with the same value.
+    #[inline(always)]
+    pub fn last(list: &'a [u8], number: u16) -> Result<Option<BorrowedVfPort<'a>>, DecodeError>
+        ensures { told_found owned_vf_port result
+            ≡ read_found vf_port_place.grammar.reads (latest number None (items list.now)) }
+    {
+        match last_in(list, number) {
+            Ok(Some(frame)) => match Self::borrow(number, frame) {
+                Ok(value) => Ok(Some(value)),
+                Err(fault) => Err(fault),
+            },
+            Ok(None) => Ok(None),
+            Err(fault) => Err(fault),
+        }
+    }
+
+    /// The next member of a list, front to back; `None` after the last.
+    #[inline(always)]
+    pub fn next(left: &mut NlasIterator<'a>) -> Option<Result<BorrowedVfPort<'a>, DecodeError>>
+        ensures { IsNext owned_vf_port vf_port_place.grammar.reads left.old result left.new }
+    {
+        match left.next() {
+            Some(Ok(frame)) => {
+                let number = frame.kind();
+                Some(Self::borrow(number, frame))
+            }
+            Some(Err(fault)) => Some(Err(fault)),
+            None => None,
+        }
+    }
+}
+
+/// A member of IFLA_VF_VLAN_LIST over borrowed bytes: a variant for each of `VfVlan`.
+#[derive(Drop)]
+pub enum BorrowedVfVlan<'a> {
+    Info(VfVlanInfo),
+    Other(NlaBuffer<'a>),
+}
+
+impl<'a> BorrowedVfVlan<'a> {
+    ghost use Rattle.link_view.specs.Vf.{owned_vf_vlan};
+
+    #[tactic(auto, unfolding(link_vf::specs::Tables::vf_vlan_place))]
+    #[inline(always)]
+    fn read(kind: u16, frame: NlaBuffer<'a>) -> Result<BorrowedVfVlan<'a>, DecodeError>
+        requires { kind ≡ number frame }
+        ensures { told owned_vf_vlan result ≡ vf_vlan_place.grammar.reads frame.entry }
+    {
+        let payload = frame.value();
+        match kind {
+            IFLA_VF_VLAN_INFO => borrow!(BorrowedVfVlan::Info, VfVlanInfo::parse(payload)),
+            _ => Ok(BorrowedVfVlan::Other(frame)),
+        }
+    }
+
+    /// Reads a frame, whose number is given beside it: the value that `parse` gives, or the same fault. A list is not
+    /// looked at: its payload may be refused by `parse`.
+    #[inline(always)]
+    pub fn borrow(kind: u16, frame: NlaBuffer<'a>) -> Result<BorrowedVfVlan<'a>, DecodeError>
+        requires { kind ≡ number frame }
+        ensures { told owned_vf_vlan result ≡ vf_vlan_place.grammar.reads frame.entry }
+    {
+        match Self::read(kind, frame) {
+            Ok(value) => Ok(value),
+            Err(fault) => Err(within::<VfVlan>(fault, kind)),
+        }
+    }
+
+    /// The last member of this number; `None` where there is none. Of a list that `parse` reads it is what `parse`
+    /// gives: the same variant with the same value.
+    #[inline(always)]
+    pub fn last(list: &'a [u8], number: u16) -> Result<Option<BorrowedVfVlan<'a>>, DecodeError>
+        ensures { told_found owned_vf_vlan result
+            ≡ read_found vf_vlan_place.grammar.reads (latest number None (items list.now)) }
+    {
+        match last_in(list, number) {
+            Ok(Some(frame)) => match Self::borrow(number, frame) {
+                Ok(value) => Ok(Some(value)),
+                Err(fault) => Err(fault),
+            },
+            Ok(None) => Ok(None),
+            Err(fault) => Err(fault),
+        }
+    }
+
+    /// The next member of a list, front to back; `None` after the last.
+    #[inline(always)]
+    pub fn next(left: &mut NlasIterator<'a>) -> Option<Result<BorrowedVfVlan<'a>, DecodeError>>
+        ensures { IsNext owned_vf_vlan vf_vlan_place.grammar.reads left.old result left.new }
+    {
+        match left.next() {
+            Some(Ok(frame)) => {
+                let number = frame.kind();
+                Some(Self::borrow(number, frame))
+            }
+            Some(Err(fault)) => Some(Err(fault)),
+            None => None,
+        }
+    }
+}
