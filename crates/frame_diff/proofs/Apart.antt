@@ -1,7 +1,7 @@
 -- The members of a message stand apart: no two beside each other have one step.
 use Rattle.std.proofs.Common.{◌≡◌, ℕ, zero, suc, ◌+◌, Bool, true, false, List, [], ◌∷◌, ◌++◌, map, refl, ap, ◌∙◌, drop}
 use Rattle.std.proofs.Common.{length}
-use Rattle.std.specs.Prelude.{Option, Some, None, cond, slice_index, ◌==◌}
+use Rattle.std.specs.Prelude.{Option, Some, None, codes, cond, slice_index, ◌==◌}
 use Rattle.std.specs.List.{flat_map}
 use Rattle.json.specs.Token.{Token}
 use Rattle.nla_wire.specs.Frames.{Frame, number}
@@ -15,10 +15,10 @@ use Rattle.shown.specs.Drafts.{Members}
 use Rattle.frame_shown.specs.Kept.{frame_members}
 use Rattle.frame_shown.specs.Messages.{address_len, header_members, with_address_len}
 use Rattle.frame_shown.specs.Tables.{Known, entry_list, is_kept, kind_shown, row_in}
-use Rattle.frame_shown.specs.Values.{behind_settings, count_of, counter_names, counter_width, counters_shown}
-use Rattle.frame_shown.specs.Values.{elements_shown, event_in, fields_in, fields_shown, hexadecimal, info_of}
+use Rattle.frame_shown.specs.Values.{behind_settings, counter_names, counter_width, counters_shown, event_in}
+use Rattle.frame_shown.specs.Values.{fields_in, fields_shown, hexadecimal, info_of}
 use Rattle.frame_shown.specs.Values.{ipv6_named}
-use Rattle.frame_shown.specs.Values.{payloads_shown, record_shown, setting_names, settings_shown}
+use Rattle.frame_shown.specs.Values.{record_shown, setting_names, settings_shown}
 use Rattle.frame_shown.specs.declared.form.Around.{Around}
 use Rattle.frame_shown.specs.declared.form.Form.{Form}
 use Rattle.frame_shown.specs.declared.form.Form.TheVariants as Forms
@@ -29,12 +29,14 @@ use Rattle.frame_shown.specs.declared.form.Order.TheVariants as Orders
 use Rattle.frame_shown.specs.declared.form.Way.{Way}
 use Rattle.frame_shown.specs.declared.form.Way.TheVariants as Ways
 use Rattle.frame_diff.specs.Counters.{action_in, fields_left, is_passed}
-use Rattle.frame_diff.specs.Forests.{AreApart, Forest, Held, Member, Step, comes, find, forest, is_step}
+use Rattle.frame_diff.specs.Forests.{AreApart, Forest, Held, Member, Step, comes, find, forest, is_step, left_of}
+use Rattle.frame_diff.specs.Forests.{rest_step}
 use Rattle.frame_diff.specs.Members.{Inner, Reading, alone, as_object, attributes_in, earlier, entries_in, entry_of}
-use Rattle.frame_diff.specs.Members.{fields, form_inside, frame_member, held_by, ipv6_inside, is_nest}
+use Rattle.frame_diff.specs.Members.{fields, fields_kept, form_inside, frame_member, held_by, ipv6_inside, is_nest}
+use Rattle.frame_diff.specs.Members.{is_some}
 use Rattle.frame_diff.specs.Members.{kept_by, kept_in, list_at, list_members, meaning_inside, members_in}
 use Rattle.frame_diff.specs.Members.{message_forest, message_members, named, named_by, named_in, placed, placed_one}
-use Rattle.frame_diff.specs.Members.{places, plain_places, reading, unless_none, way_inside}
+use Rattle.frame_diff.specs.Members.{places, reading, unless_none, way_inside}
 
 -- ** those of a list of members
 
@@ -77,6 +79,15 @@ named_apart (m ∷ ms) = (tt, named_apart ms)
 fields_apart : (ms : Members) → AreApart (fields ms)
 fields_apart ms = forest_apart (named ms) (named_apart ms)
 
+pub left_apart : (is_any : Bool) (ms : List Member) → AllApart ms → AreApart (left_of is_any ms)
+left_apart true [] h = tt
+left_apart false [] h = tt
+left_apart is_any (m ∷ ms) h = forest_apart (m ∷ ms) h
+
+kept_fields_apart : (action : Action) (sizes : List ℕ) (ms : Members) → AreApart (fields_kept action sizes ms)
+kept_fields_apart action sizes ms =
+    let left = fields_left action 0 sizes ms in left_apart (is_some ms) (named left) (named_apart left)
+
 -- ** those of a list of values
 
 abbrev pub HeldApart : List (Option Held) → Type 0
@@ -110,15 +121,9 @@ placed_apart n (Some held ∷ hs) h =
 places_apart : (hs : List (Option Held)) → HeldApart hs → AreApart (places hs)
 places_apart hs h = forest_apart (placed 0 hs) (placed_apart 0 hs h)
 
-plain_apart : (ms : Members) → AreApart (plain_places ms)
-plain_apart ms = places_apart (map (λ m. Some (m.1, Forest.none)) ms) (all ms)
-  where
-    all : (xs : Members) → HeldApart (map (λ m. Some (m.1, Forest.none)) xs)
-    all [] = tt
-    all (x ∷ xs) = (tt, all xs)
-
 unless_apart : (s : Step) (value : List Token) (f : Forest) → AreApart f → AllApart (unless_none s value f)
 unless_apart s value Forest.none h = tt
+unless_apart s value Forest.passed h = tt
 unless_apart s value (Forest.tree a b c d) h = (h, tt)
 
 list_apart : (s : Step) (hs : List (Option Held)) → HeldApart hs → AllApart (list_at s hs)
@@ -132,10 +137,9 @@ InnerApart inner = (list : Shape) (p : List ℕ) → AreApart (inner list p)
 meaning_apart : (inner : Inner) (action : Action) (meaning : Meaning) → InnerApart inner
     → AreApart (meaning_inside inner action meaning)
 meaning_apart inner action (Fields members p) h =
-    fields_apart (fields_left action 0 (map (λ m. plain_size m.1) members) (record_shown members p))
-meaning_apart inner action (Elements plain p) h =
-    plain_apart (elements_shown plain (count_of (plain_size plain) (length p)) p)
-meaning_apart inner action (Listed plain p) h = plain_apart (payloads_shown plain (items p))
+    kept_fields_apart action (map (λ m. plain_size m.1) members) (record_shown members p)
+meaning_apart inner action (Elements plain p) h = tt
+meaning_apart inner action (Listed plain p) h = tt
 meaning_apart inner action (Nested place p) h = h (Shapes.Of place) p
 meaning_apart inner action (Raw p) h = tt
 meaning_apart inner action Present h = tt
@@ -157,8 +161,8 @@ form_apart inner cx action (Forms.Counters words) p h =
     fields_apart (counters_shown (counter_names words) (counter_width words) p 0)
 form_apart inner cx action Forms.Ipv6Counters p h = ipv6_apart cx.order p
 form_apart inner cx action (Forms.Settings set) p h =
-    fields_apart (fields_left action 0 (map (λ name. 4) (setting_names set))
-    (settings_shown (setting_names set) p 0 ++ behind_settings set p))
+    kept_fields_apart action (map (λ name. 4) (setting_names set))
+    (settings_shown (setting_names set) p 0 ++ behind_settings set p)
 form_apart inner cx action (Forms.Record parts) p h = fields_apart (fields_shown cx (fields_in parts) p)
 form_apart inner cx action Forms.Wireless p h = fields_apart (((event_in p).0, hexadecimal (event_in p).1) ∷ [])
 form_apart inner cx action (Forms.List list) p h = h list p
@@ -200,6 +204,7 @@ named_in_apart r list fs h = each_apart (frame_member r list) fs (λ f. named_by
 
 alone_apart : (s : Step) (held : Held) → AreApart held.1 → HeldApart (alone (s, held) ∷ [])
 alone_apart (Step.name name) held h = ((refl, h, tt), tt)
+alone_apart (Step.part sort text) held h = tt
 alone_apart (Step.place n) held h = tt
 alone_apart Step.repeated held h = tt
 alone_apart Step.other held h = tt
@@ -249,7 +254,7 @@ entries_apart r list fs h = each_held (λ f. cond (number f == 1) (Some (entry_o
   where
     by : (f : Frame) (b : Bool) → HeldApart (cond b (Some (entry_of r list f.payload) ∷ []) [])
     by f true = (
-      forest_apart (members_in r list (frames_in (items f.payload)))
+      left_apart (is_some (frames_in (items f.payload))) (members_in r list (frames_in (items f.payload)))
           (members_apart r list (frames_in (items f.payload)) h),
       tt,
     )
@@ -260,7 +265,8 @@ list_members_apart : (r : Reading) (list : Shape) (fs : List Frame) → InnerApa
 list_members_apart r (Shapes.Listed group table) fs h = (
   places_apart (map (λ (m : Member). Some m.1) (named_in r (Shapes.Listed group table) fs))
       (values_apart (named_in r (Shapes.Listed group table) fs) (named_in_apart r (Shapes.Listed group table) fs h)),
-  list_apart Step.other (kept_in r (Shapes.Listed group table) fs) (kept_in_apart r (Shapes.Listed group table) fs),
+  list_apart (rest_step (codes "other")) (kept_in r (Shapes.Listed group table) fs)
+      (kept_in_apart r (Shapes.Listed group table) fs),
 )
 list_members_apart r (Shapes.Entries group) fs h =
     (places_apart (entries_in r (entry_list group) fs) (entries_apart r (entry_list group) fs h), tt)
@@ -273,7 +279,7 @@ list_members_apart r (Shapes.Info link port) fs h = members_apart r (Shapes.Info
 reading_apart : (n : ℕ) (is_state : Bool) (cx : Around) → InnerApart (reading n is_state cx).inner
 reading_apart zero is_state cx list p = tt
 reading_apart (suc n) is_state cx list p =
-    forest_apart (list_members (reading n is_state cx) list (frames_in (items p)))
+    left_apart (is_some (frames_in (items p))) (list_members (reading n is_state cx) list (frames_in (items p)))
     (list_members_apart (reading n is_state cx) list (frames_in (items p)) (reading_apart n is_state cx))
 
 -- ** those of a message

@@ -19,7 +19,7 @@ use Rattle.frame_shown.specs.declared.form.List.{List as Shape}
 use Rattle.frame_shown.proofs.Items.{on_next}
 use Rattle.frame_diff.specs.Counters.{is_passed}
 use Rattle.frame_diff.specs.Differences.{inside_in, leaf_in}
-use Rattle.frame_diff.specs.Forests.{Forest, Held, Step, comes, find, forest}
+use Rattle.frame_diff.specs.Forests.{Forest, Held, Step, comes, field_step, find, forest}
 use Rattle.frame_diff.specs.Items.{items_told, joined, leaf_items, member_items}
 use Rattle.frame_diff.specs.Members.{as_object, fields, is_nest, kept_by, placed, places}
 use Rattle.frame_diff.specs.Values.{entry_held, entry_items, flags_shown, is_at, kept_among, kept_forest, kept_members}
@@ -63,7 +63,7 @@ module _ (name : List ℕ) (kind : ℕ) (p : List ℕ) where
   number_there : there (codes "number") ≡ Some (number_token (decimal (bit_and kind 0x3fff)) ∷ [])
   number_there = by name
     where
-      by : (s : List ℕ) → leaf_in (find (Step.name (codes "number")) (fields (frame_members s kind p)))
+      by : (s : List ℕ) → leaf_in (find (field_step (codes "number")) (fields (frame_members s kind p)))
           ≡ Some (number_token (decimal (bit_and kind 0x3fff)) ∷ [])
       by [] = refl
       by (x ∷ s) = refl
@@ -71,14 +71,14 @@ module _ (name : List ℕ) (kind : ℕ) (p : List ℕ) where
   name_there : there (codes "name") ≡ text_or_none name
   name_there = by name
     where
-      by : (s : List ℕ) → leaf_in (find (Step.name (codes "name")) (fields (frame_members s kind p))) ≡ text_or_none s
+      by : (s : List ℕ) → leaf_in (find (field_step (codes "name")) (fields (frame_members s kind p))) ≡ text_or_none s
       by [] = refl
       by (x ∷ s) = refl
 
   flags_there : there (codes "flags") ≡ Some (flags_of frame_flags (bit_and kind 0xc000))
   flags_there = by name
     where
-      by : (s : List ℕ) → leaf_in (find (Step.name (codes "flags")) (fields (frame_members s kind p)))
+      by : (s : List ℕ) → leaf_in (find (field_step (codes "flags")) (fields (frame_members s kind p)))
           ≡ Some (flags_of frame_flags (bit_and kind 0xc000))
       by [] = refl
       by (x ∷ s) = refl
@@ -86,24 +86,24 @@ module _ (name : List ℕ) (kind : ℕ) (p : List ℕ) where
   payload_there : there (codes "payload") ≡ Some (hexadecimal p)
   payload_there = by name
     where
-      by : (s : List ℕ) → leaf_in (find (Step.name (codes "payload")) (fields (frame_members s kind p)))
+      by : (s : List ℕ) → leaf_in (find (field_step (codes "payload")) (fields (frame_members s kind p)))
           ≡ Some (hexadecimal p)
       by [] = refl
       by (x ∷ s) = refl
 
-number_beside : (k : Option Kept) → leaf_in (find (Step.name (codes "number")) (kept_forest k)) ≡ number_shown k
+number_beside : (k : Option Kept) → leaf_in (find (field_step (codes "number")) (kept_forest k)) ≡ number_shown k
 number_beside None = refl
 number_beside (Some k) = number_there k.name.now k.kind k.payload.now
 
-name_beside : (k : Option Kept) → leaf_in (find (Step.name (codes "name")) (kept_forest k)) ≡ name_shown k
+name_beside : (k : Option Kept) → leaf_in (find (field_step (codes "name")) (kept_forest k)) ≡ name_shown k
 name_beside None = refl
 name_beside (Some k) = name_there k.name.now k.kind k.payload.now
 
-flags_beside : (k : Option Kept) → leaf_in (find (Step.name (codes "flags")) (kept_forest k)) ≡ flags_shown k
+flags_beside : (k : Option Kept) → leaf_in (find (field_step (codes "flags")) (kept_forest k)) ≡ flags_shown k
 flags_beside None = refl
 flags_beside (Some k) = flags_there k.name.now k.kind k.payload.now
 
-payload_beside : (k : Option Kept) → leaf_in (find (Step.name (codes "payload")) (kept_forest k)) ≡ payload_shown k
+payload_beside : (k : Option Kept) → leaf_in (find (field_step (codes "payload")) (kept_forest k)) ≡ payload_shown k
 payload_beside None = refl
 payload_beside (Some k) = payload_there k.name.now k.kind k.payload.now
 
@@ -122,19 +122,19 @@ module _ (side : Side) (text : List ℕ) where
 
   parts_told : (name : List ℕ) (kind : ℕ) (p : List ℕ) (g : Forest)
       → items_told side text (fields (frame_members name kind p)) g
-      ≡ number_items kind (leaf_in (find (Step.name (codes "number")) g))
-      ++ (name_items side text (text_or_none name) (leaf_in (find (Step.name (codes "name")) g))
-      ++ (flag_items kind (leaf_in (find (Step.name (codes "flags")) g))
-      ++ payload_items p (leaf_in (find (Step.name (codes "payload")) g))))
+      ≡ number_items kind (leaf_in (find (field_step (codes "number")) g))
+      ++ (name_items side text (text_or_none name) (leaf_in (find (field_step (codes "name")) g))
+      ++ (flag_items kind (leaf_in (find (field_step (codes "flags")) g))
+      ++ payload_items p (leaf_in (find (field_step (codes "payload")) g))))
   parts_told [] kind p g =
-      ap (λ l. number_items kind (leaf_in (find (Step.name (codes "number")) g))
-      ++ (flag_items kind (leaf_in (find (Step.name (codes "flags")) g)) ++ l))
-      (append-nil (payload_items p (leaf_in (find (Step.name (codes "payload")) g))))
+      ap (λ l. number_items kind (leaf_in (find (field_step (codes "number")) g))
+      ++ (flag_items kind (leaf_in (find (field_step (codes "flags")) g)) ++ l))
+      (append-nil (payload_items p (leaf_in (find (field_step (codes "payload")) g))))
   parts_told (x ∷ name) kind p g =
-      ap (λ l. number_items kind (leaf_in (find (Step.name (codes "number")) g))
-      ++ (name_items side text (text_or_none (x ∷ name)) (leaf_in (find (Step.name (codes "name")) g))
-      ++ (flag_items kind (leaf_in (find (Step.name (codes "flags")) g)) ++ l)))
-      (append-nil (payload_items p (leaf_in (find (Step.name (codes "payload")) g))))
+      ap (λ l. number_items kind (leaf_in (find (field_step (codes "number")) g))
+      ++ (name_items side text (text_or_none (x ∷ name)) (leaf_in (find (field_step (codes "name")) g))
+      ++ (flag_items kind (leaf_in (find (field_step (codes "flags")) g)) ++ l)))
+      (append-nil (payload_items p (leaf_in (find (field_step (codes "payload")) g))))
 
   pub kept_told : (own : Kept) (beside : Option Kept) (page one two three new : Draft)
       → one ≡ with_members (objects (leaf_items side (joined text (codes "number"))

@@ -36,10 +36,12 @@ member_is : (side : Side) (path : Path) (v : List Token) (i : Forest) (beside : 
     → member_items side (path_text path) v i (items_told side (path_text path) i) beside
     ≡ map change_item (member_told side path v i (told side path i) beside)
 member_is side path v Forest.none beside inner = leaf_is side path v (leaf_in beside)
+member_is side path v Forest.passed beside inner = refl
 member_is side path v (Forest.tree a b c d) beside inner = inner
 
 pub items_are : ItemsAreChanges
 items_are side path Forest.none g = refl
+items_are side path Forest.passed g = refl
 items_are side path (Forest.tree s v i rest) g =
     ap (λ text. member_items side text v i (items_told side text i) (find s g)
     ++ items_told side (path_text path) rest g) (sym (text_further [] path s))

@@ -10,7 +10,7 @@ use Rattle.frame_shown.specs.declared.form.List.{List as Shape}
 use Rattle.frame_diff.specs.Beside.{held_of}
 use Rattle.frame_diff.specs.Counters.{is_passed}
 use Rattle.frame_diff.specs.Forests.{Forest, Held, Member, Step, comes, find, forest, is_step}
-use Rattle.frame_diff.specs.Items.{items_told, joined, step_text}
+use Rattle.frame_diff.specs.Items.{items_told, joined, member_items, step_text}
 use Rattle.frame_diff.specs.Members.{Reading, earlier, kept_in, list_at, members_in, named_in, places, unless_none}
 use Rattle.frame_diff.specs.Walked.{held_items, last_items}
 use Rattle.frame_diff.specs.declared.side.Side.{Side}
@@ -125,6 +125,7 @@ list_lacks t s hs other = by _ (places hs)
   where
     by : (v : List Token) (f : Forest) → comes t (unless_none s v f) ≡ false
     by v Forest.none = refl
+    by v Forest.passed = refl
     by v (Forest.tree a b c d) = ap (λ x. cond x true false) other
 
 pub names_lack : (ms : List Member) (s : Step) (hs : List (Option Held)) → AreNames ms → IsNoName s
@@ -148,6 +149,7 @@ list_lacks_names s hs ms names none = by _ (places hs)
   where
     by : (v : List Token) (f : Forest) → NoneComes (unless_none s v f) ms
     by v Forest.none = tt
+    by v Forest.passed = tt
     by v (Forest.tree a b c d) = (no_names s ms names none, tt)
 
 pub lists_lack : (s t : Step) (hs gs : List (Option Held)) → is_step t s ≡ false
@@ -156,7 +158,17 @@ lists_lack s t hs gs other = by _ (places hs)
   where
     by : (v : List Token) (f : Forest) → NoneComes (unless_none s v f) (list_at t gs)
     by v Forest.none = tt
+    by v Forest.passed = tt
     by v (Forest.tree a b c d) = (list_lacks s t gs other, tt)
+
+-- beside members that are all passed over as beside none
+pub lacking : (side : Side) (text : List ℕ) (f : Forest)
+    → items_told side text f Forest.none ≡ items_told side text f Forest.passed
+lacking side text Forest.none = refl
+lacking side text Forest.passed = refl
+lacking side text (Forest.tree s v i rest) =
+    let path = joined text (step_text s) in
+    ap (λ l. member_items side path v i (items_told side path i) None ++ l) (lacking side text rest)
 
 -- a list of values tells what those in it tell, by their places
 pub list_told : (side : Side) (text : List ℕ) (s : Step) (hs gs : List (Option Held))
@@ -168,7 +180,10 @@ list_told side text s hs gs = by _ (places hs) _ (places gs)
         → items_told side text (forest (unless_none s v f)) (forest (unless_none s w g))
         ≡ items_told side (joined text (step_text s)) f g
     by v Forest.none w g = refl
+    by v Forest.passed w g = refl
     by v (Forest.tree a b c d) w Forest.none = append-nil _
+    by v (Forest.tree a b c d) w Forest.passed =
+        append-nil _ ∙ lacking side (joined text (step_text s)) (Forest.tree a b c d)
     by v (Forest.tree a b c d) w (Forest.tree p q x y) =
         append-nil _
         ∙ ap (λ e. held_items side (joined text (step_text s)) (v, Forest.tree a b c d)

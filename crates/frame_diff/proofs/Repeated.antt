@@ -52,6 +52,7 @@ earlier_nests (m ∷ ms) = by (comes m.0 ms) m.0 (earlier_nests ms)
     by : (b : Bool) (s : Step) → AreNests (earlier ms) → AreNests (cond b (alone (s, m.1) ∷ []) [] ++ earlier ms)
     by false s rest = rest
     by true (Step.name name) rest = (refl, rest)
+    by true (Step.part sort name) rest = rest
     by true (Step.place n) rest = rest
     by true Step.repeated rest = rest
     by true Step.other rest = rest

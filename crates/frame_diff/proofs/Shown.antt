@@ -16,7 +16,7 @@ use Rattle.frame_shown.specs.Tables.{Known, is_kept, kind_shown, row_in}
 use Rattle.frame_shown.specs.declared.form.Around.{Around}
 use Rattle.frame_shown.specs.declared.form.List.{List as Shape}
 use Rattle.frame_diff.specs.Counters.{action_in}
-use Rattle.frame_diff.specs.Forests.{Forest, Held, Member, Step, comes, forest, is_step, is_text}
+use Rattle.frame_diff.specs.Forests.{Forest, Held, Member, Step, comes, field_step, forest, is_step, is_text}
 use Rattle.frame_diff.specs.Items.{step_text}
 use Rattle.frame_shown.specs.Values.{Nesting}
 use Rattle.frame_diff.specs.Members.{Inner, Reading, alone, as_object, earlier, fields, held_by, inner_by, kept_in}
@@ -212,6 +212,7 @@ module _ (nest : Nesting) (inner : Inner) (cx : Around) (list : Shape) (apart : 
   list_lacks : (name : List ℕ) (s : Step) (v : List Token) (i : Forest) → is_step s (Step.name name) ≡ false
       → comes (Step.name name) (unless_none s v i) ≡ false
   list_lacks name s v Forest.none other = refl
+  list_lacks name s v Forest.passed other = refl
   list_lacks name s v (Forest.tree a b c d) other = ap (λ x. cond x true false) other
 
   none_comes : (fs : List Frame) (s : Step) (hs : List (Option Held))
@@ -227,7 +228,9 @@ module _ (nest : Nesting) (inner : Inner) (cx : Around) (list : Shape) (apart : 
   repeated_lacks : (v w : List Token) (i j : Forest)
       → NoneComes (unless_none Step.repeated v i) (unless_none Step.other w j)
   repeated_lacks v w Forest.none j = tt
+  repeated_lacks v w Forest.passed j = tt
   repeated_lacks v w (Forest.tree a b c d) Forest.none = (refl, tt)
+  repeated_lacks v w (Forest.tree a b c d) Forest.passed = (refl, tt)
   repeated_lacks v w (Forest.tree a b c d) (Forest.tree e f g h) = (refl, tt)
 
   both_lack : (xs ys zs : List Member) → NoneComes xs zs → NoneComes ys zs → NoneComes (xs ++ ys) zs
@@ -263,7 +266,7 @@ fields_shown : (ms : Members) → AreNamedApart ms → shown_in (fields ms) ≡ 
 fields_shown ms apart = forest_shows (named ms) ∙ all ms apart
   where
     lacks : (name : List ℕ) (ns : Members) → AllByRecursion (λ n. is_text n.0 name ≡ false) ns
-        → comes (Step.name name) (named ns) ≡ false
+        → comes (field_step name) (named ns) ≡ false
     lacks name [] h = refl
     lacks name (n ∷ ns) h = (λ k. cond (h.0 k) true (lacks name ns h.1 k))
 

@@ -1,6 +1,6 @@
 -- Steps and paths that are the same.
 use Rattle.std.proofs.Common.{◌≡◌, ℕ, Bool, true, false, List, [], ◌∷◌, refl, ap, ◌∙◌, eqb-true, eq-eqb}
-use Rattle.std.specs.Prelude.{◌&&◌}
+use Rattle.std.specs.Prelude.{◌&&◌, ◌==◌}
 use Rattle.std.proofs.lemmas.Slice.Eq.{bytes_eq-Decides}
 use Rattle.frame_diff.specs.Forests.{Path, Step, is_path, is_step, is_text}
 
@@ -10,30 +10,6 @@ text_same a b h = (bytes_eq-Decides a b).0 h
 pub text_is : (a : List ℕ) → is_text a a ≡ true
 text_is a = (bytes_eq-Decides a a).1 refl
 
-pub step_same : (s t : Step) → is_step s t ≡ true → s ≡ t
-step_same (Step.name a) (Step.name b) h = ap Step.name (text_same a b h)
-step_same (Step.name a) (Step.place n) h = absurd cc
-step_same (Step.name a) Step.repeated h = absurd cc
-step_same (Step.name a) Step.other h = absurd cc
-step_same (Step.place m) (Step.name b) h = absurd cc
-step_same (Step.place m) (Step.place n) h = ap Step.place (eqb-true m n h)
-step_same (Step.place m) Step.repeated h = absurd cc
-step_same (Step.place m) Step.other h = absurd cc
-step_same Step.repeated (Step.name b) h = absurd cc
-step_same Step.repeated (Step.place n) h = absurd cc
-step_same Step.repeated Step.repeated h = refl
-step_same Step.repeated Step.other h = absurd cc
-step_same Step.other (Step.name b) h = absurd cc
-step_same Step.other (Step.place n) h = absurd cc
-step_same Step.other Step.repeated h = absurd cc
-step_same Step.other Step.other h = refl
-
-pub step_is : (s : Step) → is_step s s ≡ true
-step_is (Step.name a) = text_is a
-step_is (Step.place m) = eq-eqb m m refl
-step_is Step.repeated = refl
-step_is Step.other = refl
-
 and_left : (a b : Bool) → (a && b) ≡ true → a ≡ true
 and_left true b h = refl
 and_left false b h = h
@@ -41,6 +17,42 @@ and_left false b h = h
 and_right : (a b : Bool) → (a && b) ≡ true → b ≡ true
 and_right true b h = h
 and_right false b h = absurd cc
+
+pub step_same : (s t : Step) → is_step s t ≡ true → s ≡ t
+step_same (Step.name a) (Step.name b) h = ap Step.name (text_same a b h)
+step_same (Step.name a) (Step.part n b) h = absurd cc
+step_same (Step.name a) (Step.place n) h = absurd cc
+step_same (Step.name a) Step.repeated h = absurd cc
+step_same (Step.name a) Step.other h = absurd cc
+step_same (Step.part m a) (Step.name b) h = absurd cc
+step_same (Step.part m a) (Step.part n b) h =
+    (λ k. Step.part (eqb-true m n (and_left (m == n) (is_text a b) h) k)
+    (text_same a b (and_right (m == n) (is_text a b) h) k))
+step_same (Step.part m a) (Step.place n) h = absurd cc
+step_same (Step.part m a) Step.repeated h = absurd cc
+step_same (Step.part m a) Step.other h = absurd cc
+step_same (Step.place m) (Step.name b) h = absurd cc
+step_same (Step.place m) (Step.part n b) h = absurd cc
+step_same (Step.place m) (Step.place n) h = ap Step.place (eqb-true m n h)
+step_same (Step.place m) Step.repeated h = absurd cc
+step_same (Step.place m) Step.other h = absurd cc
+step_same Step.repeated (Step.name b) h = absurd cc
+step_same Step.repeated (Step.part n b) h = absurd cc
+step_same Step.repeated (Step.place n) h = absurd cc
+step_same Step.repeated Step.repeated h = refl
+step_same Step.repeated Step.other h = absurd cc
+step_same Step.other (Step.name b) h = absurd cc
+step_same Step.other (Step.part n b) h = absurd cc
+step_same Step.other (Step.place n) h = absurd cc
+step_same Step.other Step.repeated h = absurd cc
+step_same Step.other Step.other h = refl
+
+pub step_is : (s : Step) → is_step s s ≡ true
+step_is (Step.name a) = text_is a
+step_is (Step.part m a) = (λ k. eq-eqb m m refl k && text_is a k)
+step_is (Step.place m) = eq-eqb m m refl
+step_is Step.repeated = refl
+step_is Step.other = refl
 
 pub path_same : (p q : Path) → is_path p q ≡ true → p ≡ q
 path_same [] [] h = refl

@@ -150,6 +150,7 @@ tree_same side text i apart =
 held_same : (side : Side) (text : List ℕ) (v : List Token) (i : Forest) → AreApart i
     → held_items side text (v, i) (Some (v, i)) ≡ []
 held_same side text v Forest.none apart = leaf_same side text v
+held_same side text v Forest.passed apart = refl
 held_same side text v (Forest.tree a b c d) apart = tree_same side text (Forest.tree a b c d) apart
 
 last_same : (side : Side) (text : List ℕ) (behind : List Member) (m : Member) (beside : Option Held) → AreApart m.1.1
