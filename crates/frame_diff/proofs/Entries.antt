@@ -58,7 +58,7 @@ both_told first more page middle new was is =
 
 module _ (name : List ℕ) (kind : ℕ) (p : List ℕ) where
   abbrev there : List ℕ → Option (List Token)
-  there s = leaf_in (find (Step.name s) (fields (frame_members name kind p)))
+  there s = leaf_in (find (field_step s) (fields (frame_members name kind p)))
 
   number_there : there (codes "number") ≡ Some (number_token (decimal (bit_and kind 0x3fff)) ∷ [])
   number_there = by name

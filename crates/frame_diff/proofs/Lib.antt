@@ -9,6 +9,7 @@ pub mod Beside
 pub mod Shown
 pub mod Texts
 pub mod Walked
+pub mod There
 pub mod Entries
 pub mod Parts
 pub mod Repeated

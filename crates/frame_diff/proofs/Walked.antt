@@ -1,6 +1,6 @@
 -- One attribute further.
 use Rattle.std.proofs.Common.{◌≡◌, ℕ, ◌+◌, Bool, true, false, List, [], ◌∷◌, ◌++◌, length, drop, refl, sym, ap, ◌∙◌}
-use Rattle.std.proofs.Common.{Ok, Err, Option, Some, None, map, eqb-true}
+use Rattle.std.proofs.Common.{Ok, Err, Option, Some, None, map, eqb-true, subst}
 use Rattle.std.specs.Prelude.{◌==◌, ◌&&◌, ◌||◌, IfSome, cond, not, option_map}
 use Rattle.json.specs.Token.{Token}
 use Rattle.std.specs.List.{list_any}
@@ -27,7 +27,8 @@ use Rattle.frame_diff.specs.Forests.{AreApart, Forest, Held, Member, Step, comes
 use Rattle.frame_diff.specs.Differences.{text_of}
 use Rattle.frame_diff.specs.Items.{change_item, items_told, joined, leaf_items, step_text, turned_item}
 use Rattle.frame_diff.specs.Members.{Reading, held_by, named_in}
-use Rattle.frame_diff.specs.Walked.{AreAlike, HasRowOf, Holding, HoldsApart, IsOf, Showing, frame_items, has_number}
+use Rattle.frame_diff.specs.Walked.{AreAlike, HasNames, HasRowOf, Holding, HoldsApart, IsOf, Showing, frame_items}
+use Rattle.frame_diff.specs.Walked.{has_number}
 use Rattle.frame_diff.specs.Walked.{has_payload, held_at, held_items, last_items, reading_at}
 use Rattle.frame_diff.specs.declared.side.Side.{Side}
 use Rattle.frame_diff.specs.declared.side.Side.TheVariants.{Old, New}
@@ -153,7 +154,7 @@ held_same side text v Forest.none apart = leaf_same side text v
 held_same side text v Forest.passed apart = refl
 held_same side text v (Forest.tree a b c d) apart = tree_same side text (Forest.tree a b c d) apart
 
-last_same : (side : Side) (text : List ℕ) (behind : List Member) (m : Member) (beside : Option Held) → AreApart m.1.1
+pub last_same : (side : Side) (text : List ℕ) (behind : List Member) (m : Member) (beside : Option Held) → AreApart m.1.1
     → beside ≡ Some m.1 → last_items side text behind m beside ≡ []
 last_same side text behind m beside apart is = by (comes m.0 behind)
   where
@@ -193,7 +194,7 @@ module _ (nest : Showing) (inner : Holding) (apart : HoldsApart inner) (is_state
 
 -- ** rows of both lists
 
-and_both : (a b : Bool) → (a && b) ≡ true → (a ≡ true) × (b ≡ true)
+pub and_both : (a b : Bool) → (a && b) ≡ true → (a ≡ true) × (b ≡ true)
 and_both true b h = (refl, h)
 and_both false b h = absurd cc
 
@@ -208,4 +209,4 @@ rows_same list others own (Some a) alike of found both h =
     let around : a.around.now ≡ own.around.now = found.0 ∙ sym lists.0 ∙ sym of.0 in
     let shape : a.list ≡ own.list = found.1 ∙ sym lists.1 ∙ sym of.1 in
     let way : a.way ≡ own.way = found.2 ∙ (λ k. (row_in (sym lists.0 k) (sym lists.1 k) (one k)).1) ∙ sym of.2 in
-    (around, shape, one, way)
+    (around, shape, one, way, subst HasNames (sym of.0) lists.2)

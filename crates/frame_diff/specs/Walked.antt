@@ -1,9 +1,10 @@
 -- What is told of attributes as they are gone through, one after another.
-use Rattle.std.specs.Prelude.{◌≡◌, ℕ, ◌==◌, List, [], Bool, true, false, Option, Some, None, cond}
+use Rattle.std.specs.Prelude.{◌≡◌, ℕ, ◌==◌, ◌&&◌, List, [], ◌∷◌, ◌++◌, Bool, true, false, Option, Some, None, cond}
 use Rattle.nla_wire.specs.Frames.{Frame, number}
 use Rattle.nla_wire.specs.Items.{items}
 use Rattle.link_info.specs.Tables.{frames_in}
 use Rattle.shown.specs.Drafts.{Members}
+use Rattle.frame_shown.specs.Frames.{are_twice}
 use Rattle.frame_shown.specs.Tables.{is_kept, row_in}
 use Rattle.frame_shown.specs.Values.{Nesting}
 use Rattle.frame_shown.specs.declared.form.Around.{Around}
@@ -14,6 +15,7 @@ use Rattle.frame_diff.specs.Counters.{action_in, is_passed}
 use Rattle.frame_diff.specs.Forests.{AreApart, Forest, Held, Member, Step, comes, find, is_text}
 use Rattle.frame_diff.specs.Items.{items_told, joined, member_items, step_text}
 use Rattle.frame_diff.specs.Members.{Inner, Reading, held_by, named_in}
+use Rattle.frame_diff.specs.Shown.{HasNamesApart}
 use Rattle.frame_diff.specs.declared.side.Side.{Side}
 use Rattle.frame_diff.specs.declared.walk.Attribute.{Attribute}
 use Rattle.frame_diff.specs.declared.walk.Attributes.{Attributes}
@@ -47,9 +49,14 @@ HoldsApart inner = (is_state : Bool) (cx : Around) (list : Shape) (p : List ℕ)
 
 -- ** rows that are the same
 
+-- no two numbers of a list are shown under one name
+abbrev pub HasNames : Around → Type 0
+HasNames cx = (list : Shape) → HasNamesApart cx list
+
 -- of two lists
 abbrev pub AreAlike : Attributes → Attributes → Type 0
-AreAlike own others = (own.around.now ≡ others.around.now) × (own.list ≡ others.list)
+AreAlike own others =
+    (own.around.now ≡ others.around.now) × (own.list ≡ others.list) × HasNames own.around.now
 
 -- an attribute has its row of this list
 abbrev pub IsOf : Attributes → Attribute → Type 0
@@ -61,6 +68,7 @@ abbrev pub HasRowOf : Attribute → Option Attribute → Type 0
 HasRowOf own None = Unit {0}
 HasRowOf own (Some a) =
     (a.around.now ≡ own.around.now) × (a.list ≡ own.list) × (a.number ≡ own.number) × (a.way ≡ own.way)
+    × HasNames own.around.now
 
 abbrev pub has_number : ℕ → Option Attribute → Bool
 has_number n None = true
@@ -69,6 +77,27 @@ has_number n (Some a) = a.number == n
 abbrev pub has_payload : List ℕ → Option Attribute → Bool
 has_payload p None = false
 has_payload p (Some a) = is_text p a.payload.now
+
+-- ** attributes of the same number
+
+-- the bytes end a list
+abbrev pub IsTail : List ℕ → List ℕ → Type 0
+IsTail all rest = (fs : List Frame) × (frames_in (items all) ≡ fs ++ frames_in (items rest))
+
+-- the first one has this number, and this payload
+abbrev pub is_first : ℕ → List ℕ → List Frame → Bool
+is_first n p [] = false
+is_first n p (g ∷ gs) = number g == n && is_text p g.payload
+
+-- one of them has this number and this payload
+abbrev pub Stands : ℕ → List ℕ → List ℕ → Type 0
+Stands n p all = (fs : List Frame) × (g : Frame) × (gs : List Frame) × (frames_in (items all) ≡ fs ++ g ∷ gs)
+    × (number g ≡ n) × (g.payload ≡ p)
+
+-- and no number stands twice among them, in a list of which the rows are those of another one
+abbrev pub StandsOnce : Attributes → Attributes → ℕ → List ℕ → Type 0
+StandsOnce own others n p =
+    AreAlike own others × (are_twice (items others.bytes.now) ≡ false) × Stands n p others.bytes.now
 
 -- ** what is told
 

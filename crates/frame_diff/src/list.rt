@@ -1,16 +1,20 @@
 //! What differs between the attributes of two lists.
 
-ghost use Rattle.std.specs.Prelude.{◌≡◌, ◌∷◌, ◌&&◌, Bool, IfSome, List as Seq, OnOk, Ok, drop, option_map, true};
+ghost use Rattle.std.specs.Prelude.{◌≡◌, [], ◌∷◌, ◌&&◌, Bool, IfSome, List as Seq, MatchOption, OnOk, Ok, drop};
+ghost use Rattle.std.specs.Prelude.{false, option_map, true, ◌<◌};
 ghost use Rattle.std.specs.List.{list_any};
+ghost use Rattle.nla_wire.specs.Frames.{number};
 ghost use Rattle.nla_wire.specs.Items.{Item, items};
 ghost use Rattle.link_info.specs.Tables.{frames_in};
 ghost use Rattle.shown.specs.Drafts.{with_members};
-ghost use Rattle.frame_shown.specs.Items.{objects};
+ghost use Rattle.frame_shown.specs.Frames.{are_twice, by_number};
+ghost use Rattle.frame_shown.specs.Items.{number_in, objects};
 ghost use Rattle.frame_diff.specs.Beside.{held_of, is_named};
 ghost use Rattle.frame_diff.specs.Forests.{Step, comes, find, forest};
 ghost use Rattle.frame_diff.specs.Items.{items_told};
-ghost use Rattle.frame_diff.specs.Walked.{AreAlike, HasRowOf, Holding, IsOf, Showing, frame_items, has_number};
-ghost use Rattle.frame_diff.specs.Walked.{has_payload, held_at, last_items, named_at, reading_at, row_items};
+ghost use Rattle.frame_diff.specs.Walked.{AreAlike, HasRowOf, Holding, IsOf, IsTail, Showing, Stands, StandsOnce};
+ghost use Rattle.frame_diff.specs.Walked.{frame_items, has_number, has_payload, held_at, is_first, last_items};
+ghost use Rattle.frame_diff.specs.Walked.{named_at, reading_at, row_items};
 
 use crate::counters::is_passed;
 use crate::leaf::{Texts, is_same};
@@ -227,7 +231,141 @@ fn tell_frame<W: Walk>(
     tell_row::<W>(texts, pass, page, path, behind, others, name, own)
 }
 
-/// Tells of the attributes of a list that have a name, each beside that of its name in another list.
+/// The first attribute, if there is one.
+fn first(bytes: &[u8]) -> Option<NlaBuffer<'_>>
+    ensures { MatchOption result (frames_in (items bytes.now) ≡ [])
+        (λ f. (rest : Seq Item) × (items bytes.now ≡ Ok f ∷ rest)) }
+{
+    match NlasIterator::new(bytes).next() {
+        Some(Ok(frame)) => Some(frame),
+        _ => None,
+    }
+}
+
+/// Whether the first attribute has this number, and this payload.
+fn is_first(number: u16, payload: &[u8], bytes: &[u8]) -> bool
+    ensures { result ≡ is_first number payload.now (frames_in (items bytes.now)) }
+{
+    match first(bytes) {
+        Some(frame) => frame.kind() == number && is_same(payload, frame.value()),
+        None => false,
+    }
+}
+
+/// The bytes from the first attribute of this number on; none where there is no such attribute.
+#[tactic(auto, using(crate::proofs::There::all_tail))]
+fn find_number(number: u16, bytes: &[u8]) -> &[u8]
+    ensures { IsTail bytes.now result.now }
+{
+    let mut rest = bytes;
+    for item in NlasIterator::new(bytes) {
+        let Ok(frame) = item else {
+            break;
+        };
+        if frame.kind() == number {
+            return rest;
+        }
+        rest = behind(rest, &frame);
+    }
+    rest
+}
+
+/// Whether these bytes begin with an attribute of this number.
+fn begins_with(number: u16, bytes: &[u8]) -> bool {
+    match first(bytes) {
+        Some(frame) => frame.kind() == number,
+        None => false,
+    }
+}
+
+/// The bytes from an attribute of this number on, which is looked for there, and then from the front.
+fn seek<'a>(number: u16, there: &'a [u8], all: &'a [u8]) -> &'a [u8]
+    requires { IsTail all.now there.now }
+    ensures { IsTail all.now result.now }
+{
+    if begins_with(number, there) {
+        there
+    } else {
+        find_number(number, all)
+    }
+}
+
+/// The bytes behind the first attribute, if there is one.
+fn behind_first<'a>(bytes: &'a [u8], all: &'a [u8]) -> &'a [u8]
+    requires { IsTail all.now bytes.now }
+    ensures { IsTail all.now result.now }
+{
+    match first(bytes) {
+        Some(frame) => behind(bytes, &frame),
+        None => all,
+    }
+}
+
+/// How many numbers can have a row.
+const NUMBERS: usize = 256;
+
+/// Whether an attribute stands in a list with this payload, and where to look for the next one. Where it is not asked
+/// for, or its number can have no row, it is not looked for.
+#[tactic(auto, using(crate::proofs::There::stands_first))]
+fn look_up<'a>(
+    is_asked: bool,
+    frame: &NlaBuffer<'_>,
+    there: &'a [u8],
+    all: &'a [u8],
+) -> (bool, &'a [u8])
+    requires { IsTail all.now there.now }
+    ensures tail { IsTail all.now result.1.now }
+    ensures found { result.0 ≡ true
+        → (is_asked ≡ true) × Stands (number frame.now) frame.now.payload all.now }
+{
+    if !is_asked || frame.kind() as usize >= NUMBERS {
+        return (false, there);
+    }
+    let found = seek(frame.kind(), there, all);
+    (
+        is_first(frame.kind(), frame.value(), found),
+        behind_first(found, all),
+    )
+}
+
+/// Tells of an attribute by its row, unless it is known to stand in the other list as it is.
+fn tell_unless_there<W: Walk>(
+    texts: &mut Texts,
+    pass: Pass,
+    page: &mut Page,
+    path: &str,
+    behind: Attributes<'_>,
+    others: Attributes<'_>,
+    frame: &NlaBuffer<'_>,
+    is_there: bool,
+) -> Result<(), AllocError>
+    requires rows { pass.is_alike ≡ true → AreAlike behind others }
+    requires same { is_there ≡ true
+        → StandsOnce behind others (number frame.now) frame.now.payload }
+    ensures { OnOk result (page.new ≡ with_members (objects (frame_items pass.side path.now
+        (reading_at W.nest W.inner pass.is_state behind.entry.around.now) behind.entry.list
+        (forest (named_at W.nest W.inner pass.is_state others.entry))
+        (named_at W.nest W.inner pass.is_state behind.entry) frame.now)) page.old) }
+{
+    if is_there {
+        return Ok(());
+    }
+    tell_frame::<W>(texts, pass, page, path, behind, others, frame)
+}
+
+/// Whether the rows of two lists are known to be the same, and no number stands twice in one of them.
+fn is_once(pass: Pass, own: Attributes<'_>, others: Attributes<'_>) -> bool
+    ensures { result ≡ true
+        → (pass.is_alike ≡ true) × (are_twice (items others.entry.bytes.now) ≡ false) }
+{
+    if !pass.is_alike || has_twice(own.bytes) {
+        return false;
+    }
+    !has_twice(others.bytes)
+}
+
+/// Tells of the attributes of a list that have a name, each beside that of its name in another list. Where the rows of
+/// both are the same and no number stands twice in the other one, those that stand there as they are cost a look.
 pub fn tell_named<W: Walk>(
     texts: &mut Texts,
     pass: Pass,
@@ -241,14 +379,47 @@ pub fn tell_named<W: Walk>(
         (forest (named_at W.nest W.inner pass.is_state own.entry))
         (forest (named_at W.nest W.inner pass.is_state others.entry)))) page.old) }
 {
+    let is_once = is_once(pass, own, others);
     let mut rest = own.bytes;
+    let mut there = others.bytes;
     for item in NlasIterator::new(own.bytes) {
         let Ok(frame) = item else {
             break;
         };
         rest = behind(rest, &frame);
         let left = Attributes { bytes: rest, ..own };
-        tell_frame::<W>(texts, pass, page, path, left, others, &frame)?;
+        let (is_there, next) = look_up(is_once, &frame, there, others.bytes);
+        there = next;
+        tell_unless_there::<W>(texts, pass, page, path, left, others, &frame, is_there)?;
     }
     Ok(())
+}
+
+/// The number of an attribute, where that can have a row.
+#[inline(always)]
+fn small_number(frame: &NlaBuffer<'_>) -> Option<usize>
+    ensures value { result ≡ number_in (by_number frame.now) }
+    ensures small { IfSome result (λ n. n < 256) }
+{
+    let number = frame.kind() as usize;
+    if number < NUMBERS { Some(number) } else { None }
+}
+
+/// Whether a number that can have a row stands twice in a list. Where none does, no attribute comes again.
+fn has_twice(bytes: &[u8]) -> bool
+    ensures { result ≡ are_twice (items bytes.now) }
+{
+    let mut seen = [0u8; NUMBERS];
+    for item in NlasIterator::new(bytes) {
+        let Ok(frame) = item else {
+            break;
+        };
+        if let Some(number) = small_number(&frame) {
+            if seen[number] != 0 {
+                return true;
+            }
+            seen[number] = 1;
+        }
+    }
+    false
 }

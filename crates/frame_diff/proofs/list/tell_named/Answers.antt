@@ -22,8 +22,9 @@ loop-item-preserved g c =
     (forest (named_at nest inner c.args.pass.is_state c.args.others)))) c.args.page.now in
     record {
       left = left;
+      tail = c.look_up-is_there.ensures.tail;
       told = named_next c.args.pass.side c.args.path.now (reading_at nest inner c.args.pass.is_state own.around.now)
           own.list (forest (named_at nest inner c.args.pass.is_state c.args.others)) c.in-Ok.frame
           c.loop-item.item-iterator c.next.new.self here c.behind-rest.result.now c.loop-item.page
-          c.tell_frame.new.page all left c.in_ok-tell_frame.ensures c.loop-item.invariant.told;
+          c.tell_unless_there.new.page all left c.in_ok-tell_unless_there.ensures c.loop-item.invariant.told;
     }

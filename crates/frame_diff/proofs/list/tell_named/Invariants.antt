@@ -6,7 +6,7 @@ use Rattle.frame_shown.specs.Items.{objects}
 use Rattle.frame_diff.specs.Forests.{forest}
 use Rattle.frame_diff.specs.Items.{items_told}
 use Rattle.frame_diff.specs.Members.{named_in}
-use Rattle.frame_diff.specs.Walked.{named_at, reading_at}
+use Rattle.frame_diff.specs.Walked.{IsTail, named_at, reading_at}
 use Rattle.frame_diff.proofs.list.tell_named.Given as goal
 
 abbrev pub invariant-loop-item : goal.invariant-loop-item
@@ -17,6 +17,7 @@ invariant-loop-item g l =
     let others = forest (named_at nest inner l.pass.is_state l.others) in
     record {
       left : items l.rest ≡ l.item-iterator;
+      tail : IsTail l.others.bytes.now l.there;
       told : with_members (objects (items_told l.pass.side l.path
           (forest (named_in r l.own.list (frames_in l.item-iterator))) others)) l.page
           ≡ with_members (objects (items_told l.pass.side l.path
