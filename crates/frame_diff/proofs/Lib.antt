@@ -14,3 +14,5 @@ pub mod Entries
 pub mod Parts
 pub mod Repeated
 pub mod Names
+pub mod Cleared
+pub mod Records

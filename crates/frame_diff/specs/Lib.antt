@@ -10,4 +10,5 @@ pub mod Names
 pub mod Walked
 pub mod Values
 pub mod Repeated
+pub mod Rows
 pub mod Laws

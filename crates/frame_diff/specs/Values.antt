@@ -11,7 +11,7 @@ use Rattle.shown.specs.Values.{flags_of}
 use Rattle.frame_shown.specs.Frames.{way_shown}
 use Rattle.frame_shown.specs.Kept.{frame_flags, frame_members}
 use Rattle.frame_shown.specs.Tables.{row_in}
-use Rattle.frame_shown.specs.Values.{Nesting, hexadecimal}
+use Rattle.frame_shown.specs.Values.{Nesting, field_shown, hexadecimal, number_tokens, signed_value, spelled}
 use Rattle.frame_shown.specs.declared.form.Around.{Around}
 use Rattle.frame_shown.specs.declared.form.List.{List as Shape}
 use Rattle.frame_diff.specs.Counters.{is_passed}
@@ -32,6 +32,11 @@ value_shown nest cx (Values.Payload way payload) = way_shown nest cx way payload
 value_shown nest cx (Values.Number kind) = number_token (decimal (bit_and kind 0x3fff)) ∷ []
 value_shown nest cx (Values.Name name) = string name.now ∷ []
 value_shown nest cx (Values.Flags kind) = flags_of frame_flags (bit_and kind 0xc000)
+value_shown nest cx (Values.Unsigned n) = number_tokens n
+value_shown nest cx (Values.Signed z) = signed_value z
+value_shown nest cx (Values.Spelled plain bytes) = spelled plain bytes.now
+value_shown nest cx (Values.Field field bytes place) = field_shown cx field bytes.now place
+value_shown nest cx (Values.Octets bytes) = hexadecimal bytes.now
 
 -- ** an attribute that is kept as it is
 

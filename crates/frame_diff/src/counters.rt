@@ -1,14 +1,16 @@
 //! What a state passes over: the attributes that `link_state` clears, since they move by themselves.
 
-ghost use Rattle.std.specs.Prelude.{◌≡◌};
+ghost use Rattle.std.specs.Prelude.{◌≡◌, ℕ};
 ghost use Rattle.link_state.specs.declared.level.Level.TheVariants.{Message, Inet6, FunctionStats, Bridge, Querier};
 ghost use Rattle.link_state.specs.declared.level.Level.TheVariants.{BridgePort};
 ghost use Rattle.link_state.specs.Table.{action_of};
 ghost use Rattle.link_vals.specs.AddressFamilyTable.{address_family_of};
-ghost use Rattle.frame_diff.specs.Counters.{action_at, is_clear, is_passed, level_in, place_level, table_level};
+ghost use Rattle.frame_diff.specs.Counters.{action_at, action_in, clears_at, is_clear, is_passed, level_in};
+ghost use Rattle.frame_diff.specs.Counters.{place_level, table_level};
+ghost use Rattle.frame_diff.specs.Rows.{clearing, is_inet6};
 
 use frame_shown::form::{List, Table};
-use link_afspec::numbers::{IFLA_INET6_ICMP6STATS, IFLA_INET6_STATS};
+use link_afspec::numbers::{IFLA_INET6_CACHEINFO, IFLA_INET6_ICMP6STATS, IFLA_INET6_STATS};
 use link_info::Place;
 use link_msg::numbers::{
     IFLA_CARRIER_CHANGES, IFLA_CARRIER_DOWN_COUNT, IFLA_CARRIER_UP_COUNT, IFLA_EVENT, IFLA_STATS,
@@ -144,4 +146,63 @@ pub fn is_passed(is_state: bool, list: List, number: u16) -> bool
     ensures { result ≡ is_passed is_state list number }
 {
     is_state && moves(list, number)
+}
+
+/// The part of a payload that moves by itself.
+#[derive(Clone, Copy, Drop)]
+pub struct Cleared {
+    /// The place of its first byte.
+    pub from: usize,
+    /// The place behind its last one.
+    pub to: usize,
+}
+
+/// The part of `IFLA_INET6_CACHEINFO` that does: its second field and its third.
+const CACHE_PART: Cleared = Cleared { from: 4, to: 12 };
+
+/// The part that moves by itself of a payload of what IPv6 says.
+fn inet6_part(number: u16) -> Option<Cleared>
+    ensures { (place : ℕ) → clears_at (action_of Inet6 number) place
+        ≡ clears_at (clearing result) place }
+{
+    match number {
+        IFLA_INET6_CACHEINFO => Some(CACHE_PART),
+        _ => None,
+    }
+}
+
+/// Whether a list is of what IPv6 says.
+fn is_inet6(list: List) -> bool
+    ensures { result ≡ is_inet6 (level_in list) }
+{
+    match list {
+        List::Own(Table::Inet6) => true,
+        List::Of(Place::Inet6) => true,
+        List::ProtoInet6 => true,
+        _ => false,
+    }
+}
+
+/// The part that moves by itself of the payload of an attribute.
+fn moving_part(list: List, number: u16) -> Option<Cleared>
+    ensures { (place : ℕ) → clears_at (action_at (level_in list) number) place
+        ≡ clears_at (clearing result) place }
+{
+    if is_inet6(list) {
+        inet6_part(number)
+    } else {
+        None
+    }
+}
+
+/// The part of the payload of an attribute that is passed over: in a state, what moves by itself.
+pub fn cleared_part(is_state: bool, list: List, number: u16) -> Option<Cleared>
+    ensures { (place : ℕ) → clears_at (action_in is_state list number) place
+        ≡ clears_at (clearing result) place }
+{
+    if is_state {
+        moving_part(list, number)
+    } else {
+        None
+    }
 }

@@ -15,8 +15,10 @@ ghost use Rattle.frame_diff.specs.declared.side.Side.TheVariants as Sides;
 use crate::path::join;
 use crate::side::Side;
 use frame_shown::depth::Depth;
-use frame_shown::form::{Around, Way};
+use frame_shown::form::{Around, Field, Way};
 use frame_shown::list::show_way;
+use frame_shown::value::{show_field, show_spelled};
+use link_info::Plain;
 use nla_wire::{NLA_F_NESTED, NLA_F_NET_BYTEORDER, NLA_TYPE_MASK};
 use shown::{Nest, Page, Room};
 use std::alloc::{AllocError, Global};
@@ -32,6 +34,16 @@ pub enum Value<'a> {
     Name(&'a str),
     /// The flags of such an attribute, by its kind.
     Flags(u16),
+    /// A number.
+    Unsigned(u64),
+    /// A number that may be below zero.
+    Signed(i64),
+    /// A value of a fixed size, and the bytes that spell it.
+    Spelled(Plain, &'a [u8]),
+    /// A field of a record, the record's bytes, and the place in them at which it stands.
+    Field(Field, &'a [u8], u8),
+    /// Bytes, as digits.
+    Octets(&'a [u8]),
 }
 
 /// Room for the texts that are compared.
@@ -74,6 +86,11 @@ fn show_value<D: Depth>(
         Value::Number(kind) => page.number(name, (kind & NLA_TYPE_MASK).into()),
         Value::Name(text) => page.string(name, text),
         Value::Flags(kind) => show_flags(page, name, kind),
+        Value::Unsigned(number) => page.number(name, number),
+        Value::Signed(number) => page.signed(name, number),
+        Value::Spelled(plain, bytes) => show_spelled(page, name, plain, bytes),
+        Value::Field(field, bytes, place) => show_field(cx, page, name, field, bytes, place),
+        Value::Octets(bytes) => page.hex(name, bytes),
     }
 }
 

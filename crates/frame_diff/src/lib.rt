@@ -3,6 +3,7 @@
 
 pub mod again;
 pub mod counters;
+pub mod fields;
 pub mod kept;
 pub mod laws;
 pub mod leaf;
@@ -10,5 +11,6 @@ pub mod list;
 pub mod members;
 pub mod named;
 pub mod path;
+pub mod rows;
 pub mod side;
 pub mod walk;
