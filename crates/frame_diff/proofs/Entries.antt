@@ -1,52 +1,34 @@
 -- Attributes that are kept as they are: what they tell at their places.
 use Rattle.std.proofs.Common.{◌≡◌, ℕ, zero, suc, ◌+◌, ◌*◌, ◌<◌, ◌≤◌, Bool, true, false, List, [], ◌∷◌, ◌++◌, refl}
-use Rattle.std.proofs.Common.{sym, ap, ◌∙◌, Ok, append-nil, arith, eqb-true, eq-eqb, map, length}
-use Rattle.std.specs.Prelude.{Option, Some, None, ◌==◌, bit_and, codes, cond, decimal, option_map}
+use Rattle.std.proofs.Common.{sym, ap, ◌∙◌, Ok, arith, eqb-true, eq-eqb}
+use Rattle.std.specs.Prelude.{Option, Some, None, ◌==◌, cond, decimal, option_map}
 use Rattle.std.proofs.lemmas.List.{map-append}
 use Rattle.std.proofs.lemmas.List.Sums.{fold-append}
-use Rattle.json.specs.Token.{Token, number as number_token}
+use Rattle.json.specs.Token.{Token}
 use Rattle.nla_wire.specs.Frames.{Frame, number}
-use Rattle.nla_wire.specs.Items.{Item, frame_count, items}
+use Rattle.nla_wire.specs.Items.{Item, frame_count}
 use Rattle.link_info.specs.Tables.{frames_in}
 use Rattle.shown.specs.Drafts.{Draft, Members, object_of, with_members, with_value}
-use Rattle.shown.specs.Values.{flags_of}
 use Rattle.frame_shown.specs.Items.{objects}
-use Rattle.frame_shown.specs.Kept.{frame_flags, frame_members}
+use Rattle.frame_shown.specs.Kept.{frame_members}
 use Rattle.frame_shown.specs.Tables.{is_kept, kind_shown, row_in}
-use Rattle.frame_shown.specs.Values.{hexadecimal}
 use Rattle.frame_shown.specs.declared.form.Around.{Around}
 use Rattle.frame_shown.specs.declared.form.List.{List as Shape}
 use Rattle.frame_shown.proofs.Items.{on_next}
 use Rattle.frame_diff.specs.Counters.{is_passed}
-use Rattle.frame_diff.specs.Differences.{inside_in, leaf_in}
-use Rattle.frame_diff.specs.Forests.{Forest, Held, Step, comes, field_step, find, forest}
-use Rattle.frame_diff.specs.Items.{items_told, joined, leaf_items, member_items}
+use Rattle.frame_diff.specs.Differences.{inside_in}
+use Rattle.frame_diff.specs.Forests.{Forest, Held, Step, comes, find, forest}
+use Rattle.frame_diff.specs.Items.{items_told, joined}
 use Rattle.frame_diff.specs.Members.{as_object, fields, is_nest, kept_by, placed, places}
-use Rattle.frame_diff.specs.Values.{entry_held, entry_items, flags_shown, is_at, kept_among, kept_forest, kept_members}
-use Rattle.frame_diff.specs.Values.{kept_of, less_by, maybe_items, more_by, name_items, name_shown, nth, number_shown}
-use Rattle.frame_diff.specs.Values.{payload_shown, text_or_none}
-use Rattle.frame_diff.specs.Walked.{held_items, last_items}
+use Rattle.frame_diff.specs.Values.{entry_held, entry_items, is_at, kept_among, kept_members}
+use Rattle.frame_diff.specs.Values.{kept_of, less_by, more_by, nth}
+use Rattle.frame_diff.specs.Walked.{held_items}
 use Rattle.frame_diff.specs.declared.kept.Entry.{Entry}
 use Rattle.frame_diff.specs.declared.kept.Entry.TheVariants as Entries
 use Rattle.frame_diff.specs.declared.kept.Kept.{Kept}
 use Rattle.frame_diff.specs.declared.side.Side.{Side}
 use Rattle.frame_diff.proofs.Apart.{find_none}
 use Rattle.frame_diff.proofs.Walked.{last_further}
-
--- ** one that is kept, beside another one
-
--- beside what is the same
-pub step_told : (side : Side) (path : List ℕ) (v : List Token) (o p : Option (List Token)) (page new : Draft) → o ≡ p
-    → new ≡ with_members (objects (leaf_items side path v o)) page
-    → new ≡ with_members (objects (leaf_items side path v p)) page
-step_told side path v o p page new same is =
-    is ∙ ap (λ w. with_members (objects (leaf_items side path v w)) page) same
-
-pub name_told : (side : Side) (path : List ℕ) (m n o p : Option (List Token)) (page new : Draft) → m ≡ n → o ≡ p
-    → new ≡ with_members (objects (maybe_items side path m o)) page
-    → new ≡ with_members (objects (maybe_items side path n p)) page
-name_told side path m n o p page new same both is =
-    is ∙ (λ k. with_members (objects (maybe_items side path (same k) (both k))) page)
 
 -- what was told, and then more
 pub both_told : (first more : List Members) (page middle new : Draft) → middle ≡ with_members (objects first) page
@@ -55,109 +37,6 @@ both_told first more page middle new was is =
     is ∙ ap (with_members (objects more)) was
     ∙ sym (fold-append (λ (p : Draft) m. with_value m.0 m.1 p) page (objects first) (objects more))
     ∙ ap (λ ms. with_members ms page) (sym (map-append (λ o. ([], object_of o)) first more))
-
-module _ (name : List ℕ) (kind : ℕ) (p : List ℕ) where
-  abbrev there : List ℕ → Option (List Token)
-  there s = leaf_in (find (field_step s) (fields (frame_members name kind p)))
-
-  number_there : there (codes "number") ≡ Some (number_token (decimal (bit_and kind 0x3fff)) ∷ [])
-  number_there = by name
-    where
-      by : (s : List ℕ) → leaf_in (find (field_step (codes "number")) (fields (frame_members s kind p)))
-          ≡ Some (number_token (decimal (bit_and kind 0x3fff)) ∷ [])
-      by [] = refl
-      by (x ∷ s) = refl
-
-  name_there : there (codes "name") ≡ text_or_none name
-  name_there = by name
-    where
-      by : (s : List ℕ) → leaf_in (find (field_step (codes "name")) (fields (frame_members s kind p))) ≡ text_or_none s
-      by [] = refl
-      by (x ∷ s) = refl
-
-  flags_there : there (codes "flags") ≡ Some (flags_of frame_flags (bit_and kind 0xc000))
-  flags_there = by name
-    where
-      by : (s : List ℕ) → leaf_in (find (field_step (codes "flags")) (fields (frame_members s kind p)))
-          ≡ Some (flags_of frame_flags (bit_and kind 0xc000))
-      by [] = refl
-      by (x ∷ s) = refl
-
-  payload_there : there (codes "payload") ≡ Some (hexadecimal p)
-  payload_there = by name
-    where
-      by : (s : List ℕ) → leaf_in (find (field_step (codes "payload")) (fields (frame_members s kind p)))
-          ≡ Some (hexadecimal p)
-      by [] = refl
-      by (x ∷ s) = refl
-
-number_beside : (k : Option Kept) → leaf_in (find (field_step (codes "number")) (kept_forest k)) ≡ number_shown k
-number_beside None = refl
-number_beside (Some k) = number_there k.name.now k.kind k.payload.now
-
-name_beside : (k : Option Kept) → leaf_in (find (field_step (codes "name")) (kept_forest k)) ≡ name_shown k
-name_beside None = refl
-name_beside (Some k) = name_there k.name.now k.kind k.payload.now
-
-flags_beside : (k : Option Kept) → leaf_in (find (field_step (codes "flags")) (kept_forest k)) ≡ flags_shown k
-flags_beside None = refl
-flags_beside (Some k) = flags_there k.name.now k.kind k.payload.now
-
-payload_beside : (k : Option Kept) → leaf_in (find (field_step (codes "payload")) (kept_forest k)) ≡ payload_shown k
-payload_beside None = refl
-payload_beside (Some k) = payload_there k.name.now k.kind k.payload.now
-
-module _ (side : Side) (text : List ℕ) where
-  -- the four values, beside those that stand in a forest
-  abbrev number_items : ℕ → Option (List Token) → List Members
-  number_items kind beside =
-      leaf_items side (joined text (codes "number")) (number_token (decimal (bit_and kind 0x3fff)) ∷ []) beside
-
-  abbrev flag_items : ℕ → Option (List Token) → List Members
-  flag_items kind beside =
-      leaf_items side (joined text (codes "flags")) (flags_of frame_flags (bit_and kind 0xc000)) beside
-
-  abbrev payload_items : List ℕ → Option (List Token) → List Members
-  payload_items p beside = leaf_items side (joined text (codes "payload")) (hexadecimal p) beside
-
-  parts_told : (name : List ℕ) (kind : ℕ) (p : List ℕ) (g : Forest)
-      → items_told side text (fields (frame_members name kind p)) g
-      ≡ number_items kind (leaf_in (find (field_step (codes "number")) g))
-      ++ (name_items side text (text_or_none name) (leaf_in (find (field_step (codes "name")) g))
-      ++ (flag_items kind (leaf_in (find (field_step (codes "flags")) g))
-      ++ payload_items p (leaf_in (find (field_step (codes "payload")) g))))
-  parts_told [] kind p g =
-      ap (λ l. number_items kind (leaf_in (find (field_step (codes "number")) g))
-      ++ (flag_items kind (leaf_in (find (field_step (codes "flags")) g)) ++ l))
-      (append-nil (payload_items p (leaf_in (find (field_step (codes "payload")) g))))
-  parts_told (x ∷ name) kind p g =
-      ap (λ l. number_items kind (leaf_in (find (field_step (codes "number")) g))
-      ++ (name_items side text (text_or_none (x ∷ name)) (leaf_in (find (field_step (codes "name")) g))
-      ++ (flag_items kind (leaf_in (find (field_step (codes "flags")) g)) ++ l)))
-      (append-nil (payload_items p (leaf_in (find (field_step (codes "payload")) g))))
-
-  pub kept_told : (own : Kept) (beside : Option Kept) (page one two three new : Draft)
-      → one ≡ with_members (objects (leaf_items side (joined text (codes "number"))
-      (number_token (decimal (bit_and own.kind 0x3fff)) ∷ []) (number_shown beside))) page
-      → two ≡ with_members (objects (name_items side text (text_or_none own.name.now) (name_shown beside))) one
-      → three ≡ with_members (objects (leaf_items side (joined text (codes "flags"))
-      (flags_of frame_flags (bit_and own.kind 0xc000)) (flags_shown beside))) two
-      → new ≡ with_members (objects (leaf_items side (joined text (codes "payload"))
-      (hexadecimal own.payload.now) (payload_shown beside))) three
-      → new ≡ with_members (objects (items_told side text (fields (kept_members own)) (kept_forest beside))) page
-  kept_told own beside page one two three new first second third last =
-      let n = number_items own.kind (number_shown beside) in
-      let m = name_items side text (text_or_none own.name.now) (name_shown beside) in
-      let f = flag_items own.kind (flags_shown beside) in
-      let p = payload_items own.payload.now (payload_shown beside) in
-      let after_flags = both_told f p two three new third last in
-      let after_name = both_told m (f ++ p) one two new second after_flags in
-      both_told n (m ++ (f ++ p)) page one new first after_name
-      ∙ ap (λ os. with_members (objects os) page)
-      (sym (parts_told own.name.now own.kind own.payload.now (kept_forest beside)
-      ∙ (λ k. number_items own.kind (number_beside beside k)
-      ++ (name_items side text (text_or_none own.name.now) (name_beside beside k)
-      ++ (flag_items own.kind (flags_beside beside k) ++ payload_items own.payload.now (payload_beside beside k))))))
 
 -- ** the one at a place
 

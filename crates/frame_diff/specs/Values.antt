@@ -1,5 +1,5 @@
 -- What values that hold no others are shown as, and attributes that are kept as they are.
-use Rattle.std.specs.Prelude.{ℕ, zero, suc, ◌+◌, List, [], ◌∷◌, Bool, true, false, Option, None, Some, bit_and, codes}
+use Rattle.std.specs.Prelude.{ℕ, zero, suc, ◌+◌, List, [], ◌∷◌, Bool, true, false, Option, None, Some, bit_and}
 use Rattle.std.specs.Prelude.{decimal}
 use Rattle.std.specs.List.{flat_map}
 use Rattle.json.specs.Token.{Token, number as number_token, string}
@@ -17,7 +17,7 @@ use Rattle.frame_shown.specs.declared.form.List.{List as Shape}
 use Rattle.frame_diff.specs.Counters.{is_passed}
 use Rattle.frame_diff.specs.Differences.{inside_in}
 use Rattle.frame_diff.specs.Forests.{Forest, Held}
-use Rattle.frame_diff.specs.Items.{items_told, joined, leaf_items}
+use Rattle.frame_diff.specs.Items.{items_told, joined}
 use Rattle.frame_diff.specs.Members.{as_object, fields, kept_by}
 use Rattle.frame_diff.specs.declared.kept.Entry.{Entry}
 use Rattle.frame_diff.specs.declared.kept.Entry.TheVariants as Entries
@@ -46,38 +46,6 @@ kept_members k = frame_members k.name.now k.kind k.payload.now
 abbrev pub kept_forest : Option Kept → Forest
 kept_forest None = Forest.none
 kept_forest (Some k) = fields (kept_members k)
-
--- what it says, where there is one
-abbrev pub number_shown : Option Kept → Option (List Token)
-number_shown None = None
-number_shown (Some k) = Some (number_token (decimal (bit_and k.kind 0x3fff)) ∷ [])
-
-abbrev pub text_or_none : List ℕ → Option (List Token)
-text_or_none [] = None
-text_or_none (x ∷ text) = Some (string (x ∷ text) ∷ [])
-
-abbrev pub name_now : Option Kept → List ℕ
-name_now None = []
-name_now (Some k) = k.name.now
-
-abbrev pub name_shown : Option Kept → Option (List Token)
-name_shown k = text_or_none (name_now k)
-
-abbrev pub flags_shown : Option Kept → Option (List Token)
-flags_shown None = None
-flags_shown (Some k) = Some (flags_of frame_flags (bit_and k.kind 0xc000))
-
-abbrev pub payload_shown : Option Kept → Option (List Token)
-payload_shown None = None
-payload_shown (Some k) = Some (hexadecimal k.payload.now)
-
--- what a value tells, where there is one
-abbrev pub maybe_items : Side → List ℕ → Option (List Token) → Option (List Token) → List Members
-maybe_items side text None beside = []
-maybe_items side text (Some v) beside = leaf_items side text v beside
-
-abbrev pub name_items : Side → List ℕ → Option (List Token) → Option (List Token) → List Members
-name_items side text own beside = maybe_items side (joined text (codes "name")) own beside
 
 -- ** the list of those that are kept
 

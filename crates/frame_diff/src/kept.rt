@@ -1,32 +1,30 @@
 //! What attributes tell that are kept as they are.
 
-ghost use Rattle.std.specs.Prelude.{◌≡◌, ◌<◌, ◌+◌, ◌^◌, [], ◌∷◌, OnOk, bit_and, codes, decimal, option_map};
-ghost use Rattle.json.specs.Token.{number as number_token};
+ghost use Rattle.std.specs.Prelude.{◌≡◌, ◌<◌, ◌+◌, ◌++◌, ◌^◌, [], ◌∷◌, IfOk, OnOk, codes, map, option_map};
 ghost use Rattle.nla_wire.specs.Frames.{number};
 ghost use Rattle.shown.specs.Drafts.{with_members};
-ghost use Rattle.shown.specs.Values.{flags_of};
 ghost use Rattle.frame_shown.specs.Items.{objects};
-ghost use Rattle.frame_shown.specs.Kept.{frame_flags};
+ghost use Rattle.frame_shown.specs.Kept.{text_unless_empty};
 ghost use Rattle.frame_shown.specs.Tables.{kind_shown, row_in};
-ghost use Rattle.frame_shown.specs.Values.{Nesting, hexadecimal};
+ghost use Rattle.frame_shown.specs.Values.{hexadecimal};
 ghost use Rattle.frame_shown.specs.declared.form.Around.{Around as Beside};
 ghost use Rattle.frame_diff.specs.Counters.{is_passed};
-ghost use Rattle.frame_diff.specs.Items.{items_told, joined, leaf_items};
+ghost use Rattle.frame_diff.specs.Items.{items_told};
 ghost use Rattle.frame_diff.specs.Members.{as_object, fields, kept_by, places};
-ghost use Rattle.frame_diff.specs.Values.{entry_held, entry_items, flags_shown, is_at, kept_at, kept_forest};
-ghost use Rattle.frame_diff.specs.Values.{kept_members, kept_of, less_by, maybe_items, more_by, name_items, name_now};
-ghost use Rattle.frame_diff.specs.Values.{name_shown, nth, number_shown, payload_shown, text_or_none, value_shown};
+ghost use Rattle.frame_diff.specs.Rows.{row_shown};
+ghost use Rattle.frame_diff.specs.Values.{entry_held, entry_items, is_at, kept_at, kept_forest, kept_members, kept_of};
+ghost use Rattle.frame_diff.specs.Values.{less_by, more_by, nth, value_shown};
 
 use crate::counters::is_passed;
-use crate::leaf::{Texts, Value, tell_step};
+use crate::leaf::{Texts, Value};
 use crate::path::join_place;
+use crate::rows::{Row, tell_rows};
 use crate::side::Side;
 use crate::walk::{Attributes, Pass};
-use frame_shown::depth::{Bottom, Depth};
 use frame_shown::form::{Around, Form, Way, is_kept, row_in};
 use nla_wire::{NLA_TYPE_MASK, NlaBuffer, NlasIterator};
 use shown::Page;
-use std::alloc::AllocError;
+use std::alloc::{AllocError, Global};
 
 /// An attribute that is kept as it is.
 #[derive(Clone, Copy, Drop)]
@@ -50,192 +48,53 @@ pub enum Entry<'a> {
     Kept(Kept<'a>),
 }
 
-/// Its number.
-fn number_of<'a>(kept: Option<Kept<'a>>) -> Option<Value<'a>>
-    ensures { (nest : Nesting) (cx : Beside) → option_map (value_shown nest cx) result
-        ≡ number_shown kept.entry }
-{
-    match kept {
-        Some(kept) => Some(Value::Number(kept.kind)),
-        None => None,
-    }
-}
-
-/// A name, where it is not empty.
-fn unless_empty(name: &str) -> Option<Value<'_>>
-    ensures { (nest : Nesting) (cx : Beside) → option_map (value_shown nest cx) result
-        ≡ text_or_none name.now }
+/// Adds the name of one, where it is not empty.
+fn push_name<'a>(rows: &mut Vec<Row<'a>>, name: &'a str) -> Result<(), AllocError>
+    ensures { OnOk result ((cx : Beside) → map (row_shown cx) rows.new.items
+        ≡ map (row_shown cx) rows.old.items ++ text_unless_empty (codes "name") name.now) }
 {
     if name.is_empty() {
-        None
-    } else {
-        Some(Value::Name(name))
+        return Ok(());
     }
+    rows.push(Row {
+        name: "name",
+        value: Value::Name(name),
+    })?;
+    Ok(())
 }
 
-/// Its name; empty where there is none.
-fn name_of<'a>(kept: Option<Kept<'a>>) -> &'a str
-    ensures { result.now ≡ name_now kept.entry }
+/// Adds a field.
+fn push<'a>(rows: &mut Vec<Row<'a>>, name: &'static str, value: Value<'a>) -> Result<(), AllocError>
+    ensures { OnOk result ((cx : Beside) → map (row_shown cx) rows.new.items
+        ≡ map (row_shown cx) rows.old.items
+        ++ (name.now, value_shown (λ list p. hexadecimal p) cx value.entry) ∷ []) }
+{
+    rows.push(Row { name, value })?;
+    Ok(())
+}
+
+/// What one says, as the fields of a record.
+fn rows_of<'a>(alloc: Global, kept: Kept<'a>) -> Result<Vec<Row<'a>>, AllocError>
+    ensures { IfOk result (λ rows. (cx : Beside) → map (row_shown cx) rows.items
+        ≡ kept_members kept.entry) }
+{
+    let mut rows = Vec::new(alloc);
+    push(&mut rows, "number", Value::Number(kept.kind))?;
+    push_name(&mut rows, kept.name)?;
+    push(&mut rows, "flags", Value::Flags(kept.kind))?;
+    push(&mut rows, "payload", Value::Octets(kept.payload))?;
+    Ok(rows)
+}
+
+/// What one says, if there is one.
+fn rows_beside<'a>(alloc: Global, kept: Option<Kept<'a>>) -> Result<Vec<Row<'a>>, AllocError>
+    ensures { IfOk result (λ rows. (cx : Beside) → fields (map (row_shown cx) rows.items)
+        ≡ kept_forest kept.entry) }
 {
     match kept {
-        Some(kept) => kept.name,
-        None => "",
+        Some(kept) => rows_of(alloc, kept),
+        None => Ok(Vec::new(alloc)),
     }
-}
-
-/// Its flags.
-fn flags_of<'a>(kept: Option<Kept<'a>>) -> Option<Value<'a>>
-    ensures { (nest : Nesting) (cx : Beside) → option_map (value_shown nest cx) result
-        ≡ flags_shown kept.entry }
-{
-    match kept {
-        Some(kept) => Some(Value::Flags(kept.kind)),
-        None => None,
-    }
-}
-
-/// Its payload.
-fn payload_of<'a>(kept: Option<Kept<'a>>) -> Option<Value<'a>>
-    ensures { (nest : Nesting) (cx : Beside) → option_map (value_shown nest cx) result
-        ≡ payload_shown kept.entry }
-{
-    match kept {
-        Some(kept) => Some(Value::Payload(Way::Own(Form::Kept), kept.payload)),
-        None => None,
-    }
-}
-
-/// Tells of the number of one beside another one.
-fn tell_number(
-    texts: &mut Texts,
-    cx: &Around<'_>,
-    theirs: &Around<'_>,
-    page: &mut Page,
-    path: &str,
-    side: Side,
-    own: Kept<'_>,
-    beside: Option<Kept<'_>>,
-) -> Result<(), AllocError>
-    ensures { OnOk result (page.new
-        ≡ with_members (objects (leaf_items side (joined path.now (codes "number"))
-        (number_token (decimal (bit_and own.entry.kind 0x3fff)) ∷ []) (number_shown beside.entry)))
-        page.old) }
-{
-    let there = number_of(beside);
-    tell_step::<Bottom>(
-        texts,
-        cx,
-        theirs,
-        page,
-        path,
-        "number",
-        side,
-        Value::Number(own.kind),
-        there,
-    )
-}
-
-/// Tells of a value, if there is one, beside another one.
-fn tell_maybe(
-    texts: &mut Texts,
-    cx: &Around<'_>,
-    theirs: &Around<'_>,
-    page: &mut Page,
-    path: &str,
-    step: &str,
-    side: Side,
-    own: Option<Value<'_>>,
-    beside: Option<Value<'_>>,
-) -> Result<(), AllocError>
-    ensures { OnOk result (page.new
-        ≡ with_members (objects (maybe_items side (joined path.now step.now)
-        (option_map (value_shown (⟦<Bottom as Depth>⟧.nest cx.now) cx.now) own.entry)
-        (option_map (value_shown (⟦<Bottom as Depth>⟧.nest theirs.now) theirs.now) beside.entry)))
-        page.old) }
-{
-    match own {
-        Some(own) => tell_step::<Bottom>(texts, cx, theirs, page, path, step, side, own, beside),
-        None => Ok(()),
-    }
-}
-
-/// Tells of the name of one beside another one.
-fn tell_name(
-    texts: &mut Texts,
-    cx: &Around<'_>,
-    theirs: &Around<'_>,
-    page: &mut Page,
-    path: &str,
-    side: Side,
-    own: Kept<'_>,
-    beside: Option<Kept<'_>>,
-) -> Result<(), AllocError>
-    ensures { OnOk result (page.new ≡ with_members (objects (name_items side path.now
-        (text_or_none own.entry.name.now) (name_shown beside.entry))) page.old) }
-{
-    let own = unless_empty(own.name);
-    let there = unless_empty(name_of(beside));
-    tell_maybe(texts, cx, theirs, page, path, "name", side, own, there)
-}
-
-/// Tells of the flags of one beside another one.
-fn tell_flags(
-    texts: &mut Texts,
-    cx: &Around<'_>,
-    theirs: &Around<'_>,
-    page: &mut Page,
-    path: &str,
-    side: Side,
-    own: Kept<'_>,
-    beside: Option<Kept<'_>>,
-) -> Result<(), AllocError>
-    ensures { OnOk result (page.new
-        ≡ with_members (objects (leaf_items side (joined path.now (codes "flags"))
-        (flags_of frame_flags (bit_and own.entry.kind 0xc000)) (flags_shown beside.entry)))
-        page.old) }
-{
-    let there = flags_of(beside);
-    tell_step::<Bottom>(
-        texts,
-        cx,
-        theirs,
-        page,
-        path,
-        "flags",
-        side,
-        Value::Flags(own.kind),
-        there,
-    )
-}
-
-/// Tells of the payload of one beside another one.
-fn tell_payload(
-    texts: &mut Texts,
-    cx: &Around<'_>,
-    theirs: &Around<'_>,
-    page: &mut Page,
-    path: &str,
-    side: Side,
-    own: Kept<'_>,
-    beside: Option<Kept<'_>>,
-) -> Result<(), AllocError>
-    ensures { OnOk result (page.new
-        ≡ with_members (objects (leaf_items side (joined path.now (codes "payload"))
-        (hexadecimal own.entry.payload.now) (payload_shown beside.entry))) page.old) }
-{
-    let there = payload_of(beside);
-    let way = Way::Own(Form::Kept);
-    tell_step::<Bottom>(
-        texts,
-        cx,
-        theirs,
-        page,
-        path,
-        "payload",
-        side,
-        Value::Payload(way, own.payload),
-        there,
-    )
 }
 
 /// Tells of an attribute that is kept beside another one, if there is one.
@@ -252,10 +111,9 @@ fn tell_kept(
     ensures { OnOk result (page.new ≡ with_members (objects (items_told side path.now
         (fields (kept_members own.entry)) (kept_forest beside.entry))) page.old) }
 {
-    tell_number(texts, cx, theirs, page, path, side, own, beside)?;
-    tell_name(texts, cx, theirs, page, path, side, own, beside)?;
-    tell_flags(texts, cx, theirs, page, path, side, own, beside)?;
-    tell_payload(texts, cx, theirs, page, path, side, own, beside)
+    let own = rows_of(texts.alloc, own)?;
+    let there = rows_beside(texts.alloc, beside)?;
+    tell_rows(texts, cx, theirs, page, path, side, &own, &there)
 }
 
 /// The kind that is shown of one that is kept.
