@@ -175,22 +175,21 @@ module _ (nest : Showing) (inner : Holding) (apart : HoldsApart inner) (is_state
   held_apart own = way_apart (inner is_state own.around.now) own.around.now
       (action_in is_state own.list own.number) own.way own.payload.now (apart is_state own.around.now)
 
-  pub same_untold : (side : Side) (text : List ℕ) (behind : List Member) (name : List ℕ) (own : Attribute)
-      (beside : Option Attribute) → HasRowOf own beside → has_payload own.payload.now beside ≡ true
-      → last_items side text behind (Step.name name, held_at nest inner is_state own)
-      (option_map (held_at nest inner is_state) beside) ≡ []
-  same_untold side text behind name own None row h = absurd cc
-  same_untold side text behind name own (Some a) row h =
-      last_same side text behind (Step.name name, held_at nest inner is_state own)
-      (Some (held_at nest inner is_state a)) (held_apart own)
-      (ap Some (one_held own a row (text_same own.payload.now a.payload.now h)))
+  same_untold : (side : Side) (text : List ℕ) (own : Attribute) (beside : Option Attribute) → HasRowOf own beside
+      → has_payload own.payload.now beside ≡ true
+      → held_items side text (held_at nest inner is_state own) (option_map (held_at nest inner is_state) beside) ≡ []
+  same_untold side text own None row h = absurd cc
+  same_untold side text own (Some a) row h =
+      let held = held_at nest inner is_state own in
+      ap (λ it. held_items side text held (Some it)) (one_held own a row (text_same own.payload.now a.payload.now h))
+      ∙ held_same side text held.0 held.1 (held_apart own)
 
-  pub silent_page : (side : Side) (text : List ℕ) (behind : List Member) (name : List ℕ) (own : Attribute)
-      (beside : Option Attribute) (page : Draft) → HasRowOf own beside → has_payload own.payload.now beside ≡ true
-      → page ≡ with_members (objects (last_items side text behind (Step.name name, held_at nest inner is_state own)
+  pub silent_page : (side : Side) (text : List ℕ) (own : Attribute) (beside : Option Attribute) (page : Draft)
+      → HasRowOf own beside → has_payload own.payload.now beside ≡ true
+      → page ≡ with_members (objects (held_items side text (held_at nest inner is_state own)
       (option_map (held_at nest inner is_state) beside))) page
-  silent_page side text behind name own beside page row h =
-      sym (ap (λ os. with_members (objects os) page) (same_untold side text behind name own beside row h))
+  silent_page side text own beside page row h =
+      sym (ap (λ os. with_members (objects os) page) (same_untold side text own beside row h))
 
 -- ** rows of both lists
 

@@ -11,9 +11,9 @@ ghost use Rattle.frame_shown.specs.Frames.{are_twice, by_number};
 ghost use Rattle.frame_shown.specs.Items.{number_in, objects};
 ghost use Rattle.frame_diff.specs.Beside.{held_of, is_named};
 ghost use Rattle.frame_diff.specs.Forests.{Step, comes, find, forest};
-ghost use Rattle.frame_diff.specs.Items.{items_told};
+ghost use Rattle.frame_diff.specs.Items.{items_told, joined};
 ghost use Rattle.frame_diff.specs.Walked.{AreAlike, HasRowOf, Holding, IsOf, IsTail, Showing, Stands, StandsOnce};
-ghost use Rattle.frame_diff.specs.Walked.{frame_items, has_number, has_payload, held_at, is_first, last_items};
+ghost use Rattle.frame_diff.specs.Walked.{frame_items, has_number, has_payload, held_at, held_items, is_first};
 ghost use Rattle.frame_diff.specs.Walked.{named_at, reading_at, row_items};
 
 use crate::counters::is_passed;
@@ -123,45 +123,20 @@ fn is_alike(pass: Pass, number: u16, beside: Option<Attribute<'_>>) -> bool
     pass.is_alike && has_number(number, beside)
 }
 
-/// Tells of an attribute beside another one, unless one of its name comes behind it.
-fn tell_last<W: Walk>(
-    texts: &mut Texts,
-    pass: Pass,
-    page: &mut Page,
-    path: &str,
-    behind: Attributes<'_>,
-    name: &str,
-    own: Attribute<'_>,
-    beside: Option<Attribute<'_>>,
-) -> Result<(), AllocError>
-    requires { pass.is_alike ≡ true → HasRowOf own beside }
-    ensures { OnOk result (page.new ≡ with_members (objects (last_items pass.side path.now
-        (named_at W.nest W.inner pass.is_state behind.entry)
-        (Step.name name.now, held_at W.nest W.inner pass.is_state own.entry)
-        (option_map (held_at W.nest W.inner pass.is_state) beside.entry))) page.old) }
-{
-    if comes(pass.is_state, behind, name) {
-        return Ok(());
-    }
-    let text = join(texts.alloc, path, name)?;
-    W::tell_value(texts, pass, page, text.as_str(), own, beside)
-}
-
 /// Tells of an attribute beside another one. Those that are the same are passed over at once.
 fn tell_unless_same<W: Walk>(
     texts: &mut Texts,
     pass: Pass,
     page: &mut Page,
     path: &str,
-    behind: Attributes<'_>,
     name: &str,
     own: Attribute<'_>,
     beside: Option<Attribute<'_>>,
 ) -> Result<(), AllocError>
     requires { pass.is_alike ≡ true → HasRowOf own beside }
-    ensures { OnOk result (page.new ≡ with_members (objects (last_items pass.side path.now
-        (named_at W.nest W.inner pass.is_state behind.entry)
-        (Step.name name.now, held_at W.nest W.inner pass.is_state own.entry)
+    ensures { OnOk result (page.new
+        ≡ with_members (objects (held_items pass.side (joined path.now name.now)
+        (held_at W.nest W.inner pass.is_state own.entry)
         (option_map (held_at W.nest W.inner pass.is_state) beside.entry))) page.old) }
 {
     if pass.is_alike {
@@ -169,10 +144,36 @@ fn tell_unless_same<W: Walk>(
             return Ok(());
         }
     }
-    tell_last::<W>(texts, pass, page, path, behind, name, own, beside)
+    let text = join(texts.alloc, path, name)?;
+    W::tell_value(texts, pass, page, text.as_str(), own, beside)
 }
 
-/// Tells of an attribute, unless it is kept as it is.
+/// Tells of the last attribute of a name beside that of another list.
+fn tell_last<W: Walk>(
+    texts: &mut Texts,
+    pass: Pass,
+    page: &mut Page,
+    path: &str,
+    behind: Attributes<'_>,
+    others: Attributes<'_>,
+    name: &str,
+    own: Attribute<'_>,
+) -> Result<(), AllocError>
+    requires rows { pass.is_alike ≡ true → AreAlike behind others }
+    requires row { IsOf behind own }
+    ensures { OnOk result (page.new
+        ≡ with_members (objects (held_items pass.side (joined path.now name.now)
+        (held_at W.nest W.inner pass.is_state own.entry)
+        (find (Step.name name.now) (forest (named_at W.nest W.inner pass.is_state others.entry)))))
+        page.old) }
+{
+    let beside = find_attribute(pass.is_state, others, name);
+    let is_alike = is_alike(pass, own.number, beside);
+    let pass = Pass { is_alike, ..pass };
+    tell_unless_same::<W>(texts, pass, page, path, name, own, beside)
+}
+
+/// Tells of an attribute, unless it is kept as it is, or another one of its name comes behind it.
 fn tell_row<W: Walk>(
     texts: &mut Texts,
     pass: Pass,
@@ -191,13 +192,10 @@ fn tell_row<W: Walk>(
         name.now own.entry.way own.entry.payload.now
         (held_at W.nest W.inner pass.is_state own.entry))) page.old) }
 {
-    if is_kept(own.way, own.payload) {
+    if is_kept(own.way, own.payload) || comes(pass.is_state, behind, name) {
         return Ok(());
     }
-    let beside = find_attribute(pass.is_state, others, name);
-    let is_alike = is_alike(pass, own.number, beside);
-    let pass = Pass { is_alike, ..pass };
-    tell_unless_same::<W>(texts, pass, page, path, behind, name, own, beside)
+    tell_last::<W>(texts, pass, page, path, behind, others, name, own)
 }
 
 /// Tells of an attribute by its row.

@@ -1,6 +1,6 @@
 use Rattle.std.proofs.Common.{◌∙◌, sym}
 use Rattle.frame_diff.proofs.Walked.{rows_same}
-use Rattle.frame_diff.proofs.list.tell_row.Goals as goal
+use Rattle.frame_diff.proofs.list.tell_last.Goals as goal
 
 pub tell_unless_same-requires : goal.tell_unless_same-requires
 tell_unless_same-requires g c h =
