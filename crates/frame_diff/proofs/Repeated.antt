@@ -1,9 +1,10 @@
 -- Attributes behind which another one of their name stands: what they tell at their places.
 use Rattle.std.proofs.Common.{◌≡◌, ℕ, zero, suc, ◌+◌, ◌*◌, ◌<◌, ◌≤◌, Bool, true, false, List, [], ◌∷◌, ◌++◌, refl}
 use Rattle.std.proofs.Common.{sym, ap, ◌∙◌, Ok, append-nil, arith}
-use Rattle.std.specs.Prelude.{Option, Some, None, cond, decimal, option_map}
+use Rattle.std.specs.Prelude.{Option, Some, None, cond, decimal, is_some, option_map}
 use Rattle.std.proofs.lemmas.List.{map-append}
 use Rattle.nla_wire.specs.Frames.{Frame, number}
+use Rattle.nla_wire.proofs.Items.{items_nil}
 use Rattle.nla_wire.specs.Items.{Item, frame_count, items}
 use Rattle.link_info.specs.Tables.{frames_in}
 use Rattle.shown.specs.Drafts.{Draft, object_of, with_members}
@@ -17,11 +18,13 @@ use Rattle.frame_diff.specs.Differences.{inside_in}
 use Rattle.frame_diff.specs.Forests.{Forest, Held, Member, Step, comes, find, forest}
 use Rattle.frame_diff.specs.Items.{items_told, joined}
 use Rattle.frame_diff.specs.Members.{Reading, alone, earlier, named_in, placed, places}
-use Rattle.frame_diff.specs.Repeated.{again_held, again_in, again_items, alone_at, is_next, left_by, place_by}
+use Rattle.frame_diff.specs.Repeated.{GoesOnAt, IsBeside, again_held, again_in, again_items, alone_at, earlier_at}
+use Rattle.frame_diff.specs.Repeated.{earlier_in, place_by}
 use Rattle.frame_diff.specs.Values.{nth}
 use Rattle.frame_diff.specs.Walked.{Holding, Showing, held_at, held_items, reading_at}
 use Rattle.frame_diff.specs.declared.again.Named.{Named}
 use Rattle.frame_diff.specs.declared.side.Side.{Side}
+use Rattle.frame_diff.specs.declared.walk.Attributes.{Attributes}
 use Rattle.frame_diff.proofs.Entries.{AreNests, found_place, later}
 use Rattle.frame_diff.proofs.Walked.{last_further}
 
@@ -57,43 +60,68 @@ earlier_nests (m ∷ ms) = by (comes m.0 ms) m.0 (earlier_nests ms)
     by true Step.repeated rest = rest
     by true Step.other rest = rest
 
--- ** the one at a place
+-- ** one after another
 
 module _ (nest : Showing) (inner : Holding) (is_state : Bool) where
-  nth_here : (e : Option Named) (n : ℕ) (hs : List (Option Held)) → is_next e n ≡ true
-      → nth n (again_held nest inner is_state e ++ hs) ≡ option_map (alone_at nest inner is_state) e
-  nth_here None n hs h = absurd cc
-  nth_here (Some own) zero hs h = refl
-  nth_here (Some own) (suc n) hs h = absurd cc
-
-  nth_later : (e : Option Named) (n : ℕ) (hs : List (Option Held)) → is_next e n ≡ false
-      → nth n (again_held nest inner is_state e ++ hs) ≡ nth (left_by e n) hs
-  nth_later None n hs h = refl
-  nth_later (Some own) zero hs h = absurd cc
-  nth_later (Some own) (suc n) hs h = refl
-
   module _ (list : Shape) (f : Frame) (r : Reading) (e : Option Named) (it next : List Item)
       (here : it ≡ Ok f ∷ next)
       (looked : again_held nest inner is_state e ≡ again_in r list (named_in r list (frames_in next)) f) where
-    split : earlier (named_in r list (frames_in it))
+    pub split : earlier (named_in r list (frames_in it))
         ≡ again_held nest inner is_state e ++ earlier (named_in r list (frames_in next))
     split =
         ap (λ xs. earlier (named_in r list (frames_in xs))) here
         ∙ further r list f (frames_in next)
         ∙ ap (λ hs. hs ++ earlier (named_in r list (frames_in next))) (sym looked)
 
-    pub again_here : (n : ℕ) (all : Option Held) → is_next e n ≡ true
-        → nth n (earlier (named_in r list (frames_in it))) ≡ all → all ≡ option_map (alone_at nest inner is_state) e
-    again_here n all at was =
-        sym was ∙ ap (nth n) split ∙ nth_here e n (earlier (named_in r list (frames_in next))) at
+    -- one that is none of them is passed over
+    pub not_again : (all : List (Option Held)) → is_some e ≡ false → earlier (named_in r list (frames_in it)) ≡ all
+        → earlier (named_in r list (frames_in next)) ≡ all
+    not_again all none was = ap (λ hs. hs ++ earlier (named_in r list (frames_in next))) (sym (holds e none))
+        ∙ sym split ∙ was
+      where
+        holds : (o : Option Named) → is_some o ≡ false → again_held nest inner is_state o ≡ []
+        holds None h = refl
+        holds (Some own) h = absurd cc
 
-    pub again_later : (n m : ℕ) (all : Option Held) → is_next e n ≡ false → m ≡ left_by e n
-        → nth n (earlier (named_in r list (frames_in it))) ≡ all
-        → nth m (earlier (named_in r list (frames_in next))) ≡ all
-    again_later n m all at less was =
-        ap (λ k. nth k (earlier (named_in r list (frames_in next)))) less
-        ∙ sym (nth_later e n (earlier (named_in r list (frames_in next))) at)
-        ∙ ap (nth n) (sym split) ∙ was
+  pub none_in : (list : Attributes) → earlier_in nest inner is_state list [] ≡ []
+  none_in list = ap (λ xs. earlier (named_in (reading_at nest inner is_state list.around.now) list.list
+      (frames_in xs))) items_nil
+
+  nth_none : (k : ℕ) → nth k [] ≡ None
+  nth_none zero = refl
+  nth_none (suc k) = refl
+
+  pub stands_beside : (others : Attributes) (n : ℕ) (there next : List ℕ) (own : Named) (beside : Option Named)
+      → GoesOnAt nest inner is_state others n there
+      → earlier_in nest inner is_state others there
+      ≡ again_held nest inner is_state beside ++ earlier_in nest inner is_state others next
+      → (beside ≡ None → earlier_in nest inner is_state others next ≡ [])
+      → IsBeside nest inner is_state others n (Some own) beside
+      × GoesOnAt nest inner is_state others (n + 1) next
+  stands_beside others n there next own beside goes cut ends = (by beside cut ends, λ k. behind k beside cut ends)
+    where
+      all : List (Option Held)
+      all = earlier_at nest inner is_state others
+
+      rest : List (Option Held)
+      rest = earlier_in nest inner is_state others next
+
+      first : nth n all ≡ nth 0 (earlier_in nest inner is_state others there)
+      first = ap (λ k. nth k all) (omega arith) ∙ goes 0
+
+      by : (e : Option Named)
+          → earlier_in nest inner is_state others there ≡ again_held nest inner is_state e ++ rest
+          → (e ≡ None → rest ≡ []) → nth n all ≡ option_map (alone_at nest inner is_state) e
+      by None split empty = first ∙ ap (nth 0) (split ∙ empty refl)
+      by (Some a) split empty = first ∙ ap (nth 0) split
+
+      behind : (k : ℕ) (e : Option Named)
+          → earlier_in nest inner is_state others there ≡ again_held nest inner is_state e ++ rest
+          → (e ≡ None → rest ≡ []) → nth (n + 1 + k) all ≡ nth k rest
+      behind k None split empty =
+          ap (λ j. nth j all) (omega arith) ∙ goes (suc k) ∙ ap (nth (suc k)) (split ∙ empty refl)
+          ∙ sym (ap (nth k) (empty refl) ∙ nth_none k)
+      behind k (Some a) split empty = ap (λ j. nth j all) (omega arith) ∙ goes (suc k) ∙ ap (nth (suc k)) split
 
   -- ** what one tells at its place, and those behind it
 

@@ -1,5 +1,5 @@
 -- What is told of attributes behind which another one of their name stands: each by its place among those.
-use Rattle.std.specs.Prelude.{ℕ, zero, suc, ◌+◌, List, [], ◌∷◌, Bool, true, false, Option, None, Some, cond, decimal}
+use Rattle.std.specs.Prelude.{◌≡◌, ℕ, ◌+◌, List, [], ◌∷◌, Bool, true, false, Option, None, Some, cond, decimal, option_map}
 use Rattle.nla_wire.specs.Frames.{Frame, number}
 use Rattle.nla_wire.specs.Items.{items}
 use Rattle.link_info.specs.Tables.{frames_in}
@@ -11,7 +11,7 @@ use Rattle.frame_diff.specs.Counters.{is_passed}
 use Rattle.frame_diff.specs.Differences.{inside_in}
 use Rattle.frame_diff.specs.Forests.{Forest, Held, Member, Step, comes, find}
 use Rattle.frame_diff.specs.Items.{joined}
-use Rattle.frame_diff.specs.Members.{Reading, alone, earlier, members_in}
+use Rattle.frame_diff.specs.Members.{Reading, alone, earlier, members_in, named_in}
 use Rattle.frame_diff.specs.Values.{nth}
 use Rattle.frame_diff.specs.Walked.{Holding, Showing, held_at, held_items, named_at, reading_at}
 use Rattle.frame_diff.specs.declared.again.Named.{Named}
@@ -49,15 +49,21 @@ again_items nest inner is_state side text n others (Some own) =
 
 -- ** for the calls that go over them
 
-abbrev pub is_next : Option Named → ℕ → Bool
-is_next None n = false
-is_next (Some own) zero = true
-is_next (Some own) (suc n) = false
+-- those of these bytes, by the rows of a list
+abbrev pub earlier_in : Showing → Holding → Bool → Attributes → List ℕ → List (Option Held)
+earlier_in nest inner is_state list bytes =
+    earlier (named_in (reading_at nest inner is_state list.around.now) list.list (frames_in (items bytes)))
 
-abbrev pub left_by : Option Named → ℕ → ℕ
-left_by None n = n
-left_by (Some own) zero = zero
-left_by (Some own) (suc n) = n
+-- from this place on they are those of these bytes
+abbrev pub GoesOnAt : Showing → Holding → Bool → Attributes → ℕ → List ℕ → Type 0
+GoesOnAt nest inner is_state list n bytes = (k : ℕ)
+    → nth (n + k) (earlier_at nest inner is_state list) ≡ nth k (earlier_in nest inner is_state list bytes)
+
+-- where there is one, this stands at that place of the other list
+abbrev pub IsBeside : Showing → Holding → Bool → Attributes → ℕ → Option Named → Option Named → Type 0
+IsBeside nest inner is_state others n None beside = Unit {0}
+IsBeside nest inner is_state others n (Some own) beside =
+    nth n (earlier_at nest inner is_state others) ≡ option_map (alone_at nest inner is_state) beside
 
 abbrev pub place_by : Option Named → ℕ → ℕ
 place_by None n = n

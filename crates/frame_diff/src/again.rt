@@ -1,15 +1,14 @@
 //! What attributes tell behind which another one of their name stands.
 
-ghost use Rattle.std.specs.Prelude.{◌≡◌, ◌<◌, ◌+◌, ◌^◌, Bool, OnOk, option_map};
+ghost use Rattle.std.specs.Prelude.{◌≡◌, ◌<◌, ◌+◌, ◌++◌, ◌^◌, [], ℕ, Bool, OnOk, option_map};
 ghost use Rattle.shown.specs.Drafts.{with_members};
 ghost use Rattle.frame_shown.specs.Items.{objects};
 ghost use Rattle.frame_diff.specs.Differences.{inside_in};
 ghost use Rattle.frame_diff.specs.Forests.{Step, find};
 ghost use Rattle.frame_diff.specs.Items.{items_told, joined};
 ghost use Rattle.frame_diff.specs.Members.{places};
-ghost use Rattle.frame_diff.specs.Repeated.{again_held, again_in, again_items, alone_at, earlier_at, is_next, left_by};
-ghost use Rattle.frame_diff.specs.Repeated.{place_by};
-ghost use Rattle.frame_diff.specs.Values.{nth};
+ghost use Rattle.frame_diff.specs.Repeated.{GoesOnAt, IsBeside, again_held, again_in, again_items, alone_at};
+ghost use Rattle.frame_diff.specs.Repeated.{earlier_at, earlier_in, place_by};
 ghost use Rattle.frame_diff.specs.Walked.{Holding, Showing, held_at, held_items, named_at, reading_at};
 
 use crate::counters::is_passed;
@@ -58,26 +57,6 @@ fn again<'a>(is_state: bool, behind: Attributes<'a>, frame: &NlaBuffer<'a>) -> O
     Some(Named { name, attribute })
 }
 
-/// Whether it is the one that so many stand before.
-fn is_next(own: Option<Named<'_>>, left: usize) -> bool
-    ensures { result ≡ is_next own.entry left }
-{
-    match own {
-        Some(_) => left == 0,
-        None => false,
-    }
-}
-
-/// How many stand before the next one.
-fn left_by(own: Option<Named<'_>>, left: usize) -> usize
-    ensures { result ≡ left_by own.entry left }
-{
-    match own {
-        Some(_) => left.saturating_sub(1),
-        None => left,
-    }
-}
-
 /// The place of the next one.
 fn place_by(own: Option<Named<'_>>, place: usize) -> usize
     requires { place + 1 < 2 ^ 64 }
@@ -89,33 +68,54 @@ fn place_by(own: Option<Named<'_>>, place: usize) -> usize
     }
 }
 
-/// The one at a place.
-fn find_again<'a>(is_state: bool, list: Attributes<'a>, place: usize) -> Option<Named<'a>>
-    ensures { (nest : Showing) (inner : Holding)
-        → nth place (earlier_at nest inner is_state list.entry)
-        ≡ option_map (alone_at nest inner is_state) result }
+/// The first of them, and the bytes behind it.
+fn next_again<'a>(is_state: bool, list: Attributes<'a>) -> (Option<Named<'a>>, &'a [u8])
+    ensures cut { (nest : Showing) (inner : Holding) → earlier_at nest inner is_state list.entry
+        ≡ again_held nest inner is_state result.0
+        ++ earlier_in nest inner is_state list.entry result.1.now }
+    ensures last { (nest : Showing) (inner : Holding) → result.0 ≡ None
+        → earlier_in nest inner is_state list.entry result.1.now ≡ [] }
 {
-    let mut left = place;
     let mut rest = list.bytes;
     for item in NlasIterator::new(list.bytes) {
         let Ok(frame) = item else {
             break;
         };
         rest = behind(rest, &frame);
-        let own = again(
+        let left = Attributes {
+            bytes: rest,
+            ..list
+        };
+        let own = again(is_state, left, &frame);
+        if own.is_some() {
+            return (own, rest);
+        }
+    }
+    (None, b"")
+}
+
+/// What stands beside one of them at its place in another list, where that goes on, and where it goes on behind it.
+fn beside_again<'a>(
+    is_state: bool,
+    own: Option<Named<'_>>,
+    others: Attributes<'a>,
+    there: &'a [u8],
+) -> (Option<Named<'a>>, &'a [u8])
+    ensures { (nest : Showing) (inner : Holding) (place : ℕ)
+        → GoesOnAt nest inner is_state others.entry place there.entry.now
+        → IsBeside nest inner is_state others.entry place own.entry result.0
+        × GoesOnAt nest inner is_state others.entry (place_by own.entry place) result.1.now }
+{
+    match own {
+        Some(_) => next_again(
             is_state,
             Attributes {
-                bytes: rest,
-                ..list
+                bytes: there,
+                ..others
             },
-            &frame,
-        );
-        if is_next(own, left) {
-            return own;
-        }
-        left = left_by(own, left);
+        ),
+        None => (None, there),
     }
-    None
 }
 
 /// The attribute, where it has this name.
@@ -170,7 +170,9 @@ fn tell_again<W: Walk>(
     place: usize,
     others: Attributes<'_>,
     own: Option<Named<'_>>,
+    beside: Option<Named<'_>>,
 ) -> Result<(), AllocError>
+    requires { IsBeside W.nest W.inner pass.is_state others place own beside }
     ensures { OnOk result (page.new
         ≡ with_members (objects (again_items W.nest W.inner pass.is_state pass.side path.now place
         (earlier_at W.nest W.inner pass.is_state others.entry) own.entry)) page.old) }
@@ -179,7 +181,6 @@ fn tell_again<W: Walk>(
         return Ok(());
     };
     let text = join_place(texts.alloc, path, place)?;
-    let beside = find_again(pass.is_state, others, place);
     tell_alone::<W>(texts, pass, page, text.as_str(), own, beside)
 }
 
@@ -199,13 +200,16 @@ pub fn tell_repeated<W: Walk>(
 {
     let mut place = 0;
     let mut rest = own.bytes;
+    let mut there = others.bytes;
     for item in NlasIterator::new(own.bytes) {
         let Ok(frame) = item else {
             break;
         };
         rest = behind(rest, &frame);
         let again = again(pass.is_state, Attributes { bytes: rest, ..own }, &frame);
-        tell_again::<W>(texts, pass, page, path, place, others, again)?;
+        let (beside, next) = beside_again(pass.is_state, again, others, there);
+        there = next;
+        tell_again::<W>(texts, pass, page, path, place, others, again, beside)?;
         place = place_by(again, place);
     }
     Ok(())

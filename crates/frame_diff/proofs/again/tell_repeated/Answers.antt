@@ -1,11 +1,11 @@
-use Rattle.std.proofs.Common.{◌≡◌, ◌≤◌, ◌*◌, ◌+◌, ◌∷◌, ◌∙◌, Ok, ap, arith, length}
+use Rattle.std.proofs.Common.{◌≡◌, ◌≤◌, ◌*◌, ◌+◌, ◌∷◌, ◌∙◌, Ok, ap, arith, length, subst, sym}
 use Rattle.nla_wire.specs.Items.{frame_count, items}
 use Rattle.link_info.specs.Tables.{frames_in}
 use Rattle.shown.specs.Drafts.{Draft, with_members}
 use Rattle.frame_shown.specs.Items.{objects}
 use Rattle.frame_diff.specs.Items.{items_told}
 use Rattle.frame_diff.specs.Members.{named_in, places}
-use Rattle.frame_diff.specs.Repeated.{again_in, earlier_at}
+use Rattle.frame_diff.specs.Repeated.{GoesOnAt, again_in, earlier_at}
 use Rattle.frame_diff.specs.Walked.{named_at, reading_at}
 use Rattle.frame_diff.proofs.Repeated.{again_fits, again_next}
 use Rattle.frame_diff.proofs.Entries.{place_small}
@@ -39,6 +39,9 @@ loop-item-preserved g c =
     c.args.page.now in
     record {
       behind = left;
+      goes = subst (λ n. GoesOnAt nest inner is_state others n c.beside_again.result.1.now)
+          (sym c.place_by-place.ensures)
+          (c.beside_again.ensures nest inner c.loop-item.place c.loop-item.invariant.goes).1;
       few = again_fits c.in-Ok.frame c.again-again.result c.loop-item.item-iterator c.next.new.self here
           c.loop-item.place c.place_by-place.result (frame_count (items own.bytes.now)) c.place_by-place.ensures
           c.loop-item.invariant.few;
@@ -50,3 +53,7 @@ loop-item-preserved g c =
           c.place_by-place.result c.loop-item.page c.tell_again.new.page all c.place_by-place.ensures
           c.in_ok-tell_again.ensures c.loop-item.invariant.told;
     }
+
+pub tell_again-requires : goal.tell_again-requires
+tell_again-requires g c =
+    (c.beside_again.ensures g.W.Depth.nest g.W.Walk.inner c.loop-item.place c.loop-item.invariant.goes).0

@@ -6,7 +6,7 @@ use Rattle.frame_shown.specs.Items.{objects}
 use Rattle.frame_diff.specs.Forests.{forest}
 use Rattle.frame_diff.specs.Items.{items_told}
 use Rattle.frame_diff.specs.Members.{earlier, named_in, placed, places}
-use Rattle.frame_diff.specs.Repeated.{earlier_at}
+use Rattle.frame_diff.specs.Repeated.{GoesOnAt, earlier_at}
 use Rattle.frame_diff.specs.Walked.{reading_at}
 use Rattle.frame_diff.proofs.again.tell_repeated.Given as goal
 
@@ -18,6 +18,7 @@ invariant-loop-item g l =
     let others = places (earlier_at nest inner l.pass.is_state l.others) in
     record {
       behind : items l.rest ≡ l.item-iterator;
+      goes : GoesOnAt nest inner l.pass.is_state l.others l.place l.there;
       few : l.place + frame_count l.item-iterator ≤ frame_count (items l.own.bytes.now);
       told : with_members (objects (items_told l.pass.side l.path
           (forest (placed l.place (earlier (named_in r l.own.list (frames_in l.item-iterator))))) others)) l.page

@@ -3,15 +3,14 @@ use Rattle.nla_wire.specs.Items.{items}
 use Rattle.link_info.specs.Tables.{frames_in}
 use Rattle.frame_diff.specs.Members.{earlier, named_in}
 use Rattle.frame_diff.specs.Repeated.{earlier_at}
-use Rattle.frame_diff.specs.Values.{nth}
 use Rattle.frame_diff.specs.Walked.{Holding, Showing, reading_at}
-use Rattle.frame_diff.proofs.again.find_again.Given as goal
+use Rattle.frame_diff.proofs.again.next_again.Given as goal
 
 abbrev pub invariant-loop-item : goal.invariant-loop-item
 invariant-loop-item l = record {
   behind : items l.rest ≡ l.item-iterator;
-  found : (nest : Showing) (inner : Holding)
-      → nth l.left (earlier (named_in (reading_at nest inner l.is_state l.list.around.now) l.list.list
-      (frames_in l.item-iterator)))
-      ≡ nth l.place (earlier_at nest inner l.is_state l.list);
+  left : (nest : Showing) (inner : Holding)
+      → earlier (named_in (reading_at nest inner l.is_state l.list.around.now) l.list.list
+      (frames_in l.item-iterator))
+      ≡ earlier_at nest inner l.is_state l.list;
 }
