@@ -20,13 +20,14 @@ use Rattle.frame_diff.specs.Differences.{inside_in}
 use Rattle.frame_diff.specs.Forests.{Forest, Held, Step, comes, find, forest}
 use Rattle.frame_diff.specs.Items.{items_told, joined}
 use Rattle.frame_diff.specs.Members.{as_object, fields, is_nest, kept_by, placed, places}
-use Rattle.frame_diff.specs.Values.{entry_held, entry_items, is_at, kept_among, kept_members}
-use Rattle.frame_diff.specs.Values.{kept_of, less_by, more_by, nth}
+use Rattle.frame_diff.specs.Values.{IsKeptBeside, KeepsOnAt, entry_held, entry_items, has_place, kept_among, kept_at}
+use Rattle.frame_diff.specs.Values.{kept_from, kept_members, kept_of, more_by, nth}
 use Rattle.frame_diff.specs.Walked.{held_items}
 use Rattle.frame_diff.specs.declared.kept.Entry.{Entry}
 use Rattle.frame_diff.specs.declared.kept.Entry.TheVariants as Entries
 use Rattle.frame_diff.specs.declared.kept.Kept.{Kept}
 use Rattle.frame_diff.specs.declared.side.Side.{Side}
+use Rattle.frame_diff.specs.declared.walk.Attributes.{Attributes}
 use Rattle.frame_diff.proofs.Apart.{find_none}
 use Rattle.frame_diff.proofs.Walked.{last_further}
 
@@ -40,44 +41,59 @@ both_told first more page middle new was is =
 
 -- ** the one at a place
 
-nth_here : (e : Entry) (n : ℕ) (hs : List (Option Held)) → is_at e n ≡ true
-    → nth n (entry_held e ++ hs) ≡ option_map (λ k. as_object (kept_members k)) (kept_of e)
-nth_here Entries.Named n hs h = absurd cc
-nth_here Entries.Passed zero hs h = refl
-nth_here Entries.Passed (suc n) hs h = absurd cc
-nth_here (Entries.Kept k) zero hs h = refl
-nth_here (Entries.Kept k) (suc n) hs h = absurd cc
+nth_none : (k : ℕ) → nth k [] ≡ None
+nth_none zero = refl
+nth_none (suc k) = refl
 
-nth_later : (e : Entry) (n : ℕ) (hs : List (Option Held)) → is_at e n ≡ false
-    → nth n (entry_held e ++ hs) ≡ nth (less_by e n) hs
-nth_later Entries.Named n hs h = refl
-nth_later Entries.Passed zero hs h = absurd cc
-nth_later Entries.Passed (suc n) hs h = refl
-nth_later (Entries.Kept k) zero hs h = absurd cc
-nth_later (Entries.Kept k) (suc n) hs h = refl
+first_held : (e : Entry) (hs : List (Option Held)) → (e ≡ Entries.Named → hs ≡ [])
+    → nth 0 (entry_held e ++ hs) ≡ option_map (λ k. as_object (kept_members k)) (kept_of e)
+first_held Entries.Named hs empty = ap (nth 0) (empty refl)
+first_held Entries.Passed hs empty = refl
+first_held (Entries.Kept k) hs empty = refl
+
+later_held : (e : Entry) (k : ℕ) (hs : List (Option Held)) → (e ≡ Entries.Named → hs ≡ [])
+    → nth (suc k) (entry_held e ++ hs) ≡ nth k hs
+later_held Entries.Named k hs empty = ap (nth (suc k)) (empty refl) ∙ sym (ap (nth k) (empty refl) ∙ nth_none k)
+later_held Entries.Passed k hs empty = refl
+later_held (Entries.Kept j) k hs empty = refl
+
+more_place : (own : Entry) (n k : ℕ) → has_place own ≡ true → more_by own n + k ≡ n + suc k
+more_place Entries.Named n k h = absurd cc
+more_place Entries.Passed n k h = omega arith
+more_place (Entries.Kept j) n k h = omega arith
+
+pub kept_beside : (is_state : Bool) (others : Attributes) (n : ℕ) (there next : List ℕ) (own beside : Entry)
+    → has_place own ≡ true → KeepsOnAt is_state others n there
+    → kept_from is_state others there ≡ entry_held beside ++ kept_from is_state others next
+    → (beside ≡ Entries.Named → kept_from is_state others next ≡ [])
+    → IsKeptBeside is_state others n own beside × KeepsOnAt is_state others (more_by own n) next
+kept_beside is_state others n there next own beside placed goes cut ends =
+    let all = kept_at is_state others in
+    let rest = kept_from is_state others next in (
+      λ h. ap (λ k. nth k all) (omega arith) ∙ goes 0 ∙ ap (nth 0) cut ∙ first_held beside rest ends,
+      λ k. ap (λ j. nth j all) (more_place own n k placed) ∙ goes (suc k) ∙ ap (nth (suc k)) cut
+          ∙ later_held beside k rest ends,
+    )
 
 module _ (is_state : Bool) (cx : Around) (list : Shape) (f : Frame) (e : Entry) (it next : List Item)
     (here : it ≡ Ok f ∷ next)
     (looked : entry_held e ≡ kept_by (is_passed is_state list (number f)) cx (row_in cx list (number f)) f) where
-  kept_split : kept_among is_state cx list (frames_in it)
+  pub kept_split : kept_among is_state cx list (frames_in it)
       ≡ entry_held e ++ kept_among is_state cx list (frames_in next)
   kept_split =
       ap (λ xs. kept_among is_state cx list (frames_in xs)) here
       ∙ ap (λ hs. hs ++ kept_among is_state cx list (frames_in next)) (sym looked)
 
-  pub found_here : (n : ℕ) (all r : Option Held) → is_at e n ≡ true
-      → nth n (kept_among is_state cx list (frames_in it)) ≡ all
-      → r ≡ option_map (λ k. as_object (kept_members k)) (kept_of e) → all ≡ r
-  found_here n all r at was is =
-      sym was ∙ ap (nth n) kept_split ∙ nth_here e n (kept_among is_state cx list (frames_in next)) at ∙ sym is
-
-  pub found_later : (n m : ℕ) (all : Option Held) → is_at e n ≡ false → m ≡ less_by e n
-      → nth n (kept_among is_state cx list (frames_in it)) ≡ all
-      → nth m (kept_among is_state cx list (frames_in next)) ≡ all
-  found_later n m all at less was =
-      ap (λ k. nth k (kept_among is_state cx list (frames_in next))) less
-      ∙ sym (nth_later e n (kept_among is_state cx list (frames_in next)) at)
-      ∙ ap (nth n) (sym kept_split) ∙ was
+  -- one that has no place is passed over
+  pub no_place : (all : List (Option Held)) → has_place e ≡ false → kept_among is_state cx list (frames_in it) ≡ all
+      → kept_among is_state cx list (frames_in next) ≡ all
+  no_place all none was = ap (λ hs. hs ++ kept_among is_state cx list (frames_in next)) (sym (holds e none))
+      ∙ sym kept_split ∙ was
+    where
+      holds : (o : Entry) → has_place o ≡ false → entry_held o ≡ []
+      holds Entries.Named h = refl
+      holds Entries.Passed h = absurd cc
+      holds (Entries.Kept k) h = absurd cc
 
 -- ** places
 

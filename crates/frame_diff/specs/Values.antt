@@ -1,6 +1,6 @@
 -- What values that hold no others are shown as, and attributes that are kept as they are.
-use Rattle.std.specs.Prelude.{ℕ, zero, suc, ◌+◌, List, [], ◌∷◌, Bool, true, false, Option, None, Some, bit_and}
-use Rattle.std.specs.Prelude.{decimal}
+use Rattle.std.specs.Prelude.{◌≡◌, ℕ, zero, suc, ◌+◌, List, [], ◌∷◌, Bool, true, false, Option, None, Some, bit_and}
+use Rattle.std.specs.Prelude.{decimal, option_map}
 use Rattle.std.specs.List.{flat_map}
 use Rattle.json.specs.Token.{Token, number as number_token, string}
 use Rattle.nla_wire.specs.Frames.{Frame, number}
@@ -77,24 +77,29 @@ entry_items side text n others (Entries.Kept k) =
 
 -- ** for the calls that go over them
 
--- it is the one that so many stand before
-abbrev pub is_at : Entry → ℕ → Bool
-is_at Entries.Named n = false
-is_at Entries.Passed zero = true
-is_at Entries.Passed (suc n) = false
-is_at (Entries.Kept k) zero = true
-is_at (Entries.Kept k) (suc n) = false
+abbrev pub has_place : Entry → Bool
+has_place Entries.Named = false
+has_place Entries.Passed = true
+has_place (Entries.Kept k) = true
 
 abbrev pub kept_of : Entry → Option Kept
 kept_of Entries.Named = None
 kept_of Entries.Passed = None
 kept_of (Entries.Kept k) = Some k
 
--- how many stand before the next one
-abbrev pub less_by : Entry → ℕ → ℕ
-less_by Entries.Named n = n
-less_by _ zero = zero
-less_by _ (suc n) = n
+-- those of these bytes, by the rows of a list
+abbrev pub kept_from : Bool → Attributes → List ℕ → List (Option Held)
+kept_from is_state list bytes = kept_among is_state list.around.now list.list (frames_in (items bytes))
+
+-- from this place on they are those of these bytes
+abbrev pub KeepsOnAt : Bool → Attributes → ℕ → List ℕ → Type 0
+KeepsOnAt is_state list n bytes =
+    (k : ℕ) → nth (n + k) (kept_at is_state list) ≡ nth k (kept_from is_state list bytes)
+
+-- where one has a place, this stands at that place of the other list
+abbrev pub IsKeptBeside : Bool → Attributes → ℕ → Entry → Entry → Type 0
+IsKeptBeside is_state others n own beside = has_place own ≡ true
+    → nth n (kept_at is_state others) ≡ option_map (λ k. as_object (kept_members k)) (kept_of beside)
 
 abbrev pub more_by : Entry → ℕ → ℕ
 more_by Entries.Named n = n

@@ -1,6 +1,6 @@
 //! What attributes tell that are kept as they are.
 
-ghost use Rattle.std.specs.Prelude.{◌≡◌, ◌<◌, ◌+◌, ◌++◌, ◌^◌, [], ◌∷◌, IfOk, OnOk, codes, map, option_map};
+ghost use Rattle.std.specs.Prelude.{◌≡◌, ◌<◌, ◌+◌, ◌++◌, ◌^◌, ℕ, [], ◌∷◌, IfOk, OnOk, codes, map, option_map};
 ghost use Rattle.nla_wire.specs.Frames.{number};
 ghost use Rattle.shown.specs.Drafts.{with_members};
 ghost use Rattle.frame_shown.specs.Items.{objects};
@@ -12,11 +12,13 @@ ghost use Rattle.frame_diff.specs.Counters.{is_passed};
 ghost use Rattle.frame_diff.specs.Items.{items_told};
 ghost use Rattle.frame_diff.specs.Members.{as_object, fields, kept_by, places};
 ghost use Rattle.frame_diff.specs.Rows.{row_shown};
-ghost use Rattle.frame_diff.specs.Values.{entry_held, entry_items, is_at, kept_at, kept_forest, kept_members, kept_of};
-ghost use Rattle.frame_diff.specs.Values.{less_by, more_by, nth, value_shown};
+ghost use Rattle.frame_diff.specs.Values.{IsKeptBeside, KeepsOnAt, entry_held, entry_items, has_place, kept_at};
+ghost use Rattle.frame_diff.specs.Values.{kept_forest, kept_from, kept_members, kept_of, more_by, value_shown};
+ghost use Rattle.frame_diff.specs.declared.kept.Entry.TheVariants as Entries;
 
 use crate::counters::is_passed;
 use crate::leaf::{Texts, Value};
+use crate::list::behind;
 use crate::path::join_place;
 use crate::rows::{Row, tell_rows};
 use crate::side::Side;
@@ -147,13 +149,13 @@ fn look_at<'a>(is_state: bool, list: Attributes<'a>, frame: &NlaBuffer<'a>) -> E
     })
 }
 
-/// Whether it is the one that so many stand before.
-fn is_at(entry: Entry<'_>, left: usize) -> bool
-    ensures { result ≡ is_at entry.entry left }
+/// Whether it has a place.
+fn has_place(entry: Entry<'_>) -> bool
+    ensures { result ≡ has_place entry.entry }
 {
     match entry {
         Entry::Named => false,
-        Entry::Passed | Entry::Kept(_) => left == 0,
+        Entry::Passed | Entry::Kept(_) => true,
     }
 }
 
@@ -168,33 +170,47 @@ fn kept_of<'a>(entry: Entry<'a>) -> Option<Kept<'a>>
     }
 }
 
-/// How many stand before the next one.
-fn less_by(entry: Entry<'_>, left: usize) -> usize
-    ensures { result ≡ less_by entry.entry left }
+/// The first one that has a place, and the bytes behind it; one with a name where there is none.
+fn next_entry<'a>(is_state: bool, list: Attributes<'a>) -> (Entry<'a>, &'a [u8])
+    ensures cut { kept_at is_state list.entry
+        ≡ entry_held result.0 ++ kept_from is_state list.entry result.1.now }
+    ensures last { result.0 ≡ Entries.Named → kept_from is_state list.entry result.1.now ≡ [] }
 {
-    match entry {
-        Entry::Named => left,
-        Entry::Passed | Entry::Kept(_) => left.saturating_sub(1),
-    }
-}
-
-/// The one at a place, unless it is passed over.
-fn find_kept<'a>(is_state: bool, list: Attributes<'a>, place: usize) -> Option<Kept<'a>>
-    ensures { nth place (kept_at is_state list.entry)
-        ≡ option_map (λ k. as_object (kept_members k)) result }
-{
-    let mut left = place;
+    let mut rest = list.bytes;
     for item in NlasIterator::new(list.bytes) {
         let Ok(frame) = item else {
             break;
         };
+        rest = behind(rest, &frame);
         let entry = look_at(is_state, list, &frame);
-        if is_at(entry, left) {
-            return kept_of(entry);
+        if has_place(entry) {
+            return (entry, rest);
         }
-        left = less_by(entry, left);
     }
-    None
+    (Entry::Named, b"")
+}
+
+/// What stands beside one of them at its place in another list, where that goes on, and where it goes on behind it.
+fn beside_entry<'a>(
+    is_state: bool,
+    own: Entry<'_>,
+    others: Attributes<'a>,
+    there: &'a [u8],
+) -> (Entry<'a>, &'a [u8])
+    ensures { (place : ℕ) → KeepsOnAt is_state others.entry place there.entry.now
+        → IsKeptBeside is_state others.entry place own.entry result.0
+        × KeepsOnAt is_state others.entry (more_by own.entry place) result.1.now }
+{
+    if !has_place(own) {
+        return (Entry::Named, there);
+    }
+    next_entry(
+        is_state,
+        Attributes {
+            bytes: there,
+            ..others
+        },
+    )
 }
 
 /// Tells of one in the list of those that are kept, beside the one at its place.
@@ -207,7 +223,9 @@ fn tell_entry(
     place: usize,
     others: Attributes<'_>,
     entry: Entry<'_>,
+    beside: Entry<'_>,
 ) -> Result<(), AllocError>
+    requires { IsKeptBeside pass.is_state others place entry beside }
     ensures { OnOk result (page.new ≡ with_members (objects (entry_items pass.side path.now place
         (kept_at pass.is_state others.entry) entry.entry)) page.old) }
 {
@@ -215,7 +233,7 @@ fn tell_entry(
         return Ok(());
     };
     let text = join_place(texts.alloc, path, place)?;
-    let beside = find_kept(pass.is_state, others, place);
+    let beside = kept_of(beside);
     tell_kept(
         texts,
         cx,
@@ -253,12 +271,17 @@ pub fn tell_others(
         page.old) }
 {
     let mut place = 0;
+    let mut there = others.bytes;
     for item in NlasIterator::new(own.bytes) {
         let Ok(frame) = item else {
             break;
         };
         let entry = look_at(pass.is_state, own, &frame);
-        tell_entry(texts, pass, page, path, own.around, place, others, entry)?;
+        let (beside, next) = beside_entry(pass.is_state, entry, others, there);
+        there = next;
+        tell_entry(
+            texts, pass, page, path, own.around, place, others, entry, beside,
+        )?;
         place = more_by(entry, place);
     }
     Ok(())

@@ -1,11 +1,11 @@
-use Rattle.std.proofs.Common.{◌≡◌, ◌≤◌, ◌*◌, ◌+◌, ◌∷◌, Ok, arith, length}
+use Rattle.std.proofs.Common.{◌≡◌, ◌≤◌, ◌*◌, ◌+◌, ◌∷◌, Ok, arith, length, subst, sym}
 use Rattle.nla_wire.specs.Items.{frame_count, items}
 use Rattle.link_info.specs.Tables.{frames_in}
 use Rattle.shown.specs.Drafts.{Draft, with_members}
 use Rattle.frame_shown.specs.Items.{objects}
 use Rattle.frame_diff.specs.Items.{items_told}
 use Rattle.frame_diff.specs.Members.{places}
-use Rattle.frame_diff.specs.Values.{kept_at}
+use Rattle.frame_diff.specs.Values.{KeepsOnAt, kept_at}
 use Rattle.frame_diff.proofs.Entries.{entry_next, place_fits, place_small}
 use Rattle.frame_diff.proofs.kept.tell_others.Goals as goal
 
@@ -29,6 +29,9 @@ loop-item-preserved c =
     let all : Draft = with_members (objects (items_told c.args.pass.side c.args.path.now
     (places (kept_at c.args.pass.is_state own)) (places (kept_at c.args.pass.is_state others)))) c.args.page.now in
     record {
+      goes = subst (λ n. KeepsOnAt c.args.pass.is_state others n c.beside_entry.result.1.now)
+          (sym c.more_by-place.ensures)
+          (c.beside_entry.ensures c.loop-item.place c.loop-item.invariant.goes).1;
       few = place_fits c.in-Ok.frame c.look_at-entry.result c.loop-item.item-iterator c.next.new.self here
           c.loop-item.place c.more_by-place.result (frame_count (items own.bytes.now)) c.more_by-place.ensures
           c.loop-item.invariant.few;
@@ -38,3 +41,6 @@ loop-item-preserved c =
           c.more_by-place.result c.loop-item.page c.tell_entry.new.page all c.more_by-place.ensures
           c.in_ok-tell_entry.ensures c.loop-item.invariant.told;
     }
+
+pub tell_entry-requires : goal.tell_entry-requires
+tell_entry-requires c = (c.beside_entry.ensures c.loop-item.place c.loop-item.invariant.goes).0

@@ -6,11 +6,12 @@ use Rattle.frame_shown.specs.Items.{objects}
 use Rattle.frame_diff.specs.Forests.{forest}
 use Rattle.frame_diff.specs.Items.{items_told}
 use Rattle.frame_diff.specs.Members.{placed, places}
-use Rattle.frame_diff.specs.Values.{kept_among, kept_at}
+use Rattle.frame_diff.specs.Values.{KeepsOnAt, kept_among, kept_at}
 use Rattle.frame_diff.proofs.kept.tell_others.Given as goal
 
 abbrev pub invariant-loop-item : goal.invariant-loop-item
 invariant-loop-item l = record {
+  goes : KeepsOnAt l.pass.is_state l.others l.place l.there;
   few : l.place + frame_count l.item-iterator ≤ frame_count (items l.own.bytes.now);
   told : with_members (objects (items_told l.pass.side l.path
       (forest (placed l.place (kept_among l.pass.is_state l.own.around.now l.own.list (frames_in l.item-iterator))))
