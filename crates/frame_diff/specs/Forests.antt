@@ -6,10 +6,11 @@ use Rattle.json.specs.Token.{Token}
 
 -- ** paths
 
--- a step of a path: a member with this name, the value at this place of a list, or one of the two lists that stand
--- beside the attributes of a place
+-- a step of a path: an attribute with this name, a member of another sort with this text, the value at this place of a
+-- list, or one of the two lists that stand beside the attributes of a place
 pub data Step : Type 0 where
   name : List ℕ → Step
+  part : (sort : ℕ) (text : List ℕ) → Step
   place : ℕ → Step
   repeated : Step
   other : Step
@@ -20,8 +21,24 @@ Path = List Step
 abbrev pub is_text : List ℕ → List ℕ → Bool
 is_text = pointwise ◌==◌
 
+-- a field of a record
+abbrev pub field_step : List ℕ → Step
+field_step text = Step.part 0 text
+
+-- a list of entries
+abbrev pub entries_step : List ℕ → Step
+entries_step text = Step.part 1 text
+
+-- a list of the attributes that have a name, and the list of the others beside it
+abbrev pub values_step : List ℕ → Step
+values_step text = Step.part 2 text
+
+abbrev pub rest_step : List ℕ → Step
+rest_step text = Step.part 3 text
+
 abbrev pub is_step : Step → Step → Bool
 is_step (Step.name a) (Step.name b) = is_text a b
+is_step (Step.part m a) (Step.part n b) = m == n && is_text a b
 is_step (Step.place m) (Step.place n) = m == n
 is_step Step.repeated Step.repeated = true
 is_step Step.other Step.other = true
@@ -35,9 +52,11 @@ is_path (s ∷ p) (t ∷ q) = is_step s t && is_path p q
 
 -- ** members
 
--- members beside each other: the step to each, its value as it is shown, and those inside it
+-- members beside each other: the step to each, its value as it is shown, and those inside it; a value inside which
+-- there are none is a leaf, unless it has some that are all passed over
 pub data Forest : Type 0 where
   none : Forest
+  passed : Forest
   tree : (step : Step) (value : List Token) (inside rest : Forest) → Forest
 
 -- a value, and the members inside it
@@ -47,11 +66,13 @@ Held = List Token × Forest
 -- the first one at a step
 abbrev pub find : Step → Forest → Option Held
 find t Forest.none = None
+find t Forest.passed = None
 find t (Forest.tree s v i rest) = cond (is_step s t) (Some (v, i)) (find t rest)
 
 -- no two members beside each other have one step
 abbrev pub AreApart : Forest → Type 0
 AreApart Forest.none = Unit {0}
+AreApart Forest.passed = Unit {0}
 AreApart (Forest.tree s v i rest) = (find s rest ≡ None) × AreApart i × AreApart rest
 
 -- members, of which those are left out behind which another one of their step stands
@@ -66,6 +87,11 @@ abbrev pub forest : List Member → Forest
 forest [] = Forest.none
 forest (m ∷ ms) = cond (comes m.0 ms) (forest ms) (Forest.tree m.0 m.1.0 m.1.1 (forest ms))
 
+-- those that are left of some, or of none
+abbrev pub left_of : Bool → List Member → Forest
+left_of is_any [] = cond is_any Forest.passed Forest.none
+left_of is_any (m ∷ ms) = forest (m ∷ ms)
+
 -- ** leaves
 
 abbrev pub Leaf : Type 0
@@ -77,10 +103,12 @@ under s ls = map (λ l. (s ∷ l.0, l.1)) ls
 -- of one member, by those of the members inside it
 abbrev pub leaves_at : Step → List Token → Forest → List Leaf → List Leaf
 leaves_at s v Forest.none ls = (s ∷ [], v) ∷ []
+leaves_at s v Forest.passed ls = []
 leaves_at s v (Forest.tree a b c d) ls = under s ls
 
 abbrev pub leaves : Forest → List Leaf
 leaves Forest.none = []
+leaves Forest.passed = []
 leaves (Forest.tree s v i rest) = leaves_at s v i (leaves i) ++ leaves rest
 
 -- the first value at a path

@@ -12,6 +12,7 @@ use Rattle.frame_diff.specs.declared.side.Side.TheVariants.{Old, New}
 
 abbrev pub step_text : Step → List ℕ
 step_text (Step.name text) = text
+step_text (Step.part sort text) = text
 step_text (Step.place n) = decimal n
 step_text Step.repeated = codes "repeated"
 step_text Step.other = codes "other"
@@ -51,10 +52,12 @@ leaf_items New text v (Some w) = []
 
 abbrev pub member_items : Side → List ℕ → List Token → Forest → (Forest → List Members) → Option Held → List Members
 member_items side text v Forest.none items beside = leaf_items side text v (leaf_in beside)
+member_items side text v Forest.passed items beside = []
 member_items side text v (Forest.tree a b c d) items beside = items (inside_in beside)
 
 abbrev pub items_told : Side → List ℕ → Forest → Forest → List Members
 items_told side text Forest.none others = []
+items_told side text Forest.passed others = []
 items_told side text (Forest.tree s v i rest) others =
     member_items side (joined text (step_text s)) v i (items_told side (joined text (step_text s)) i) (find s others)
     ++ items_told side text rest others

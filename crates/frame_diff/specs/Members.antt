@@ -1,7 +1,7 @@
 -- The members of what is shown of a message, by the rows of its frames: the step to each, its value as it is shown, and
 -- those inside it. What a state clears is no member, where states are compared.
 use Rattle.std.specs.Prelude.{ℕ, zero, suc, ◌+◌, ◌==◌, List, [], ◌∷◌, ◌++◌, Bool, true, false, Option, Some, None, cond}
-use Rattle.std.specs.Prelude.{drop, length, map, slice_index}
+use Rattle.std.specs.Prelude.{codes, drop, length, map, slice_index}
 use Rattle.std.specs.List.{flat_map}
 use Rattle.json.specs.Token.{Token, begin_array, begin_object, end_array, end_object, key, string}
 use Rattle.json.specs.Token.{number as number_token}
@@ -34,7 +34,8 @@ use Rattle.frame_shown.specs.declared.form.Order.TheVariants as Orders
 use Rattle.frame_shown.specs.declared.form.Way.{Way}
 use Rattle.frame_shown.specs.declared.form.Way.TheVariants as Ways
 use Rattle.frame_diff.specs.Counters.{action_in, fields_left, is_passed}
-use Rattle.frame_diff.specs.Forests.{Forest, Held, Member, Step, comes, forest}
+use Rattle.frame_diff.specs.Forests.{Forest, Held, Member, Step, comes, entries_step, field_step, forest, left_of}
+use Rattle.frame_diff.specs.Forests.{rest_step, values_step}
 
 -- the members inside a list of attributes
 abbrev pub Inner : Type 0
@@ -43,10 +44,18 @@ Inner = Shape → List ℕ → Forest
 -- ** values with names, and values in a list
 
 abbrev pub named : Members → List Member
-named ms = map (λ m. (Step.name m.0, (m.1, Forest.none))) ms
+named ms = map (λ m. (field_step m.0, (m.1, Forest.none))) ms
 
 abbrev pub fields : Members → Forest
 fields ms = forest (named ms)
+
+abbrev pub is_some : {X : Type 0} → List X → Bool
+is_some [] = false
+is_some (x ∷ xs) = true
+
+-- those of a record that a state does not clear, by the sizes of its fields
+abbrev pub fields_kept : Action → List ℕ → Members → Forest
+fields_kept action sizes ms = left_of (is_some ms) (named (fields_left action 0 sizes ms))
 
 -- in a list objects and lists alone are members
 abbrev pub is_nest : List Token → Bool
@@ -74,19 +83,14 @@ placed n (h ∷ hs) = placed_one n h ++ placed (n + 1) hs
 abbrev pub places : List (Option Held) → Forest
 places hs = forest (placed 0 hs)
 
--- values that stand in a list, with nothing inside them
-abbrev pub plain_places : Members → Forest
-plain_places ms = places (map (λ m. Some (m.1, Forest.none)) ms)
-
--- ** those of a payload, by its row and by what a state clears of it
+-- ** those of a payload, by its row and by what a state clears of it; a list of values is a leaf
 
 abbrev pub meaning_inside : Inner → Action → Meaning → Forest
 meaning_inside inner action (Fields members p) =
-    fields (fields_left action 0 (map (λ m. plain_size m.1) members) (record_shown members p))
-meaning_inside inner action (Elements plain p) =
-    plain_places (elements_shown plain (count_of (plain_size plain) (length p)) p)
-meaning_inside inner action (Listed plain p) = plain_places (payloads_shown plain (items p))
+    fields_kept action (map (λ m. plain_size m.1) members) (record_shown members p)
 meaning_inside inner action (Nested place p) = inner (Shapes.Of place) p
+meaning_inside inner action (Elements plain p) = Forest.none
+meaning_inside inner action (Listed plain p) = Forest.none
 meaning_inside inner action (Raw p) = Forest.none
 meaning_inside inner action Present = Forest.none
 meaning_inside inner action (Number n) = Forest.none
@@ -106,8 +110,8 @@ form_inside inner cx action (Forms.Counters words) p =
     fields (counters_shown (counter_names words) (counter_width words) p 0)
 form_inside inner cx action Forms.Ipv6Counters p = ipv6_inside cx.order p
 form_inside inner cx action (Forms.Settings set) p =
-    fields (fields_left action 0 (map (λ name. 4) (setting_names set))
-    (settings_shown (setting_names set) p 0 ++ behind_settings set p))
+    fields_kept action (map (λ name. 4) (setting_names set))
+    (settings_shown (setting_names set) p 0 ++ behind_settings set p)
 form_inside inner cx action (Forms.Record parts) p = fields (fields_shown cx (fields_in parts) p)
 form_inside inner cx action Forms.Wireless p = fields (((event_in p).0, hexadecimal (event_in p).1) ∷ [])
 form_inside inner cx action (Forms.List list) p = inner list p
@@ -161,6 +165,7 @@ named_in r list fs = flat_map (frame_member r list) fs
 abbrev pub alone : Member → Option Held
 alone (Step.name name, held) =
     Some (object_of ((name, held.0) ∷ []), Forest.tree (Step.name name) held.0 held.1 Forest.none)
+alone (Step.part sort text, held) = None
 alone (Step.place n, held) = None
 alone (Step.repeated, held) = None
 alone (Step.other, held) = None
@@ -190,6 +195,7 @@ value_in (Some held) = held.0
 
 abbrev pub unless_none : Step → List Token → Forest → List Member
 unless_none s value Forest.none = []
+unless_none s value Forest.passed = []
 unless_none s value (Forest.tree a b c d) = (s, (value, Forest.tree a b c d)) ∷ []
 
 -- at a step, where there are any
@@ -203,20 +209,21 @@ abbrev pub members_in : Reading → Shape → List Frame → List Member
 members_in r list fs =
     named_in r list fs ++ list_at Step.repeated (earlier (named_in r list fs)) ++ list_at Step.other (kept_in r list fs)
 
--- one list of values, at its name
-abbrev pub group_of : Group → List (Option Held) → Member
-group_of group hs = (Step.name (group_name group), (list_of (flat_map value_in hs), places hs))
+-- one list of values, at a step
+abbrev pub group_of : Step → List (Option Held) → Member
+group_of s hs = (s, (list_of (flat_map value_in hs), places hs))
 
 -- those that have a name in one list
 abbrev pub listed_in : Reading → Group → Shape → List Frame → List Member
 listed_in r group list fs =
-    group_of group (map (λ (m : Member). Some m.1) (named_in r list fs)) ∷ list_at Step.other (kept_in r list fs)
+    group_of (values_step (group_name group)) (map (λ (m : Member). Some m.1) (named_in r list fs))
+    ∷ list_at (rest_step (codes "other")) (kept_in r list fs)
 
 -- the objects in the attributes of number 1
 abbrev pub entry_of : Reading → Shape → List ℕ → Held
 entry_of r list p = (
   object_of (members_of (items_in r.nest r.around list (items p))),
-  forest (members_in r list (frames_in (items p))),
+  left_of (is_some (frames_in (items p))) (members_in r list (frames_in (items p))),
 )
 
 abbrev pub entries_in : Reading → Shape → List Frame → List (Option Held)
@@ -224,7 +231,8 @@ entries_in r list fs = flat_map (λ f. cond (number f == 1) (Some (entry_of r li
 
 abbrev pub list_members : Reading → Shape → List Frame → List Member
 list_members r (Shapes.Listed group table) fs = listed_in r group (Shapes.Listed group table) fs
-list_members r (Shapes.Entries group) fs = group_of group (entries_in r (entry_list group) fs) ∷ []
+list_members r (Shapes.Entries group) fs =
+    group_of (entries_step (group_name group)) (entries_in r (entry_list group) fs) ∷ []
 list_members r (Shapes.Message family) fs = members_in r (Shapes.Message family) fs
 list_members r (Shapes.Own table) fs = members_in r (Shapes.Own table) fs
 list_members r (Shapes.Of place) fs = members_in r (Shapes.Of place) fs
@@ -232,7 +240,7 @@ list_members r Shapes.ProtoInet6 fs = members_in r Shapes.ProtoInet6 fs
 list_members r (Shapes.Info link port) fs = members_in r (Shapes.Info link port) fs
 
 abbrev pub inner_by : Reading → Inner
-inner_by r list p = forest (list_members r list (frames_in (items p)))
+inner_by r list p = left_of (is_some (frames_in (items p))) (list_members r list (frames_in (items p)))
 
 -- so many levels deep
 abbrev pub reading : ℕ → Bool → Around → Reading

@@ -16,6 +16,7 @@ use Rattle.frame_diff.specs.Members.{fields, members_in, reading}
 -- as they stand in an object
 abbrev pub shown_in : Forest → Members
 shown_in Forest.none = []
+shown_in Forest.passed = []
 shown_in (Forest.tree s v i rest) = (step_text s, v) ∷ shown_in rest
 
 -- no two numbers of a list are shown under one name
