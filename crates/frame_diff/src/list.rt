@@ -1,14 +1,14 @@
 //! What differs between the attributes of two lists.
 
 ghost use Rattle.std.specs.Prelude.{◌≡◌, [], ◌∷◌, ◌&&◌, Bool, IfSome, List as Seq, MatchOption, OnOk, Ok, drop};
-ghost use Rattle.std.specs.Prelude.{false, option_map, true, ◌<◌};
+ghost use Rattle.std.specs.Prelude.{false, option_map, true};
 ghost use Rattle.std.specs.List.{list_any};
 ghost use Rattle.nla_wire.specs.Frames.{number};
 ghost use Rattle.nla_wire.specs.Items.{Item, items};
 ghost use Rattle.link_info.specs.Tables.{frames_in};
 ghost use Rattle.shown.specs.Drafts.{with_members};
-ghost use Rattle.frame_shown.specs.Frames.{are_twice, by_number};
-ghost use Rattle.frame_shown.specs.Items.{number_in, objects};
+ghost use Rattle.frame_shown.specs.Frames.{are_twice};
+ghost use Rattle.frame_shown.specs.Items.{objects};
 ghost use Rattle.frame_diff.specs.Beside.{held_of, is_named};
 ghost use Rattle.frame_diff.specs.Forests.{Step, comes, find, forest};
 ghost use Rattle.frame_diff.specs.Items.{items_told, joined};
@@ -22,6 +22,7 @@ use crate::named::{find_named, is_named};
 use crate::path::join;
 use crate::walk::{Attribute, Attributes, Pass, Walk};
 use frame_shown::form::{Around, List, is_kept, row_in};
+use frame_shown::list::has_twice;
 use nla_wire::{NlaBuffer, NlasIterator, padded_len};
 use shown::Page;
 use std::alloc::AllocError;
@@ -391,33 +392,4 @@ pub fn tell_named<W: Walk>(
         tell_unless_there::<W>(texts, pass, page, path, left, others, &frame, is_there)?;
     }
     Ok(())
-}
-
-/// The number of an attribute, where that can have a row.
-#[inline(always)]
-fn small_number(frame: &NlaBuffer<'_>) -> Option<usize>
-    ensures value { result ≡ number_in (by_number frame.now) }
-    ensures small { IfSome result (λ n. n < 256) }
-{
-    let number = frame.kind() as usize;
-    if number < NUMBERS { Some(number) } else { None }
-}
-
-/// Whether a number that can have a row stands twice in a list. Where none does, no attribute comes again.
-fn has_twice(bytes: &[u8]) -> bool
-    ensures { result ≡ are_twice (items bytes.now) }
-{
-    let mut seen = [0u8; NUMBERS];
-    for item in NlasIterator::new(bytes) {
-        let Ok(frame) = item else {
-            break;
-        };
-        if let Some(number) = small_number(&frame) {
-            if seen[number] != 0 {
-                return true;
-            }
-            seen[number] = 1;
-        }
-    }
-    false
 }

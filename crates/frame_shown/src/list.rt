@@ -164,7 +164,7 @@ fn small_number(frame: &NlaBuffer<'_>) -> Option<usize>
 }
 
 /// Whether a number that can have a row stands twice in a list. Where none does, no attribute comes again.
-fn has_twice(bytes: &[u8]) -> bool
+pub fn has_twice(bytes: &[u8]) -> bool
     ensures { result ≡ are_twice (items bytes.now) }
 {
     let mut seen = [0u8; NUMBERS];
