@@ -260,7 +260,7 @@ entries_apart r list fs h = each_held (λ f. cond (number f == 1) (Some (entry_o
     )
     by f false = tt
 
-list_members_apart : (r : Reading) (list : Shape) (fs : List Frame) → InnerApart r.inner
+pub list_members_apart : (r : Reading) (list : Shape) (fs : List Frame) → InnerApart r.inner
     → AllApart (list_members r list fs)
 list_members_apart r (Shapes.Listed group table) fs h = (
   places_apart (map (λ (m : Member). Some m.1) (named_in r (Shapes.Listed group table) fs))

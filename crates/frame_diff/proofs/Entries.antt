@@ -104,7 +104,7 @@ not_same k n less = by (k == n) refl
     by true h = absurd (omega (arith, eqb-true k n h))
     by false h = refl
 
-below : (k n : ℕ) → k < n → (k == n) ≡ false
+pub below : (k n : ℕ) → k < n → (k == n) ≡ false
 below k n less = by (k == n) refl
   where
     by : (b : Bool) → (k == n) ≡ b → b ≡ false

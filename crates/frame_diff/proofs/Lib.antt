@@ -13,6 +13,11 @@ pub mod There
 pub mod Entries
 pub mod Parts
 pub mod Repeated
+pub mod Inside
+pub mod Classes
+pub mod Nested
+pub mod Grouped
+pub mod Told
 pub mod Names
 pub mod Cleared
 pub mod Records

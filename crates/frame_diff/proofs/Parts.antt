@@ -40,7 +40,7 @@ find_front : (s : Step) (ms more : List Member) → comes s more ≡ false
     → find s (forest (ms ++ more)) ≡ find s (forest ms)
 find_front s ms more none = found_last s (ms ++ more) ∙ last_front s ms more none ∙ sym (found_last s ms)
 
-find_back : (s : Step) (ms more : List Member) → comes s ms ≡ false
+pub find_back : (s : Step) (ms more : List Member) → comes s ms ≡ false
     → find s (forest (ms ++ more)) ≡ find s (forest more)
 find_back s ms more none = found_last s (ms ++ more) ∙ last_back s ms more none ∙ sym (found_last s more)
 
@@ -120,7 +120,7 @@ named_names r list (f ∷ fs) =
     by false true later = later
     by false false later = (((row_in r.around list (number f)).0, refl), later)
 
-list_lacks : (t s : Step) (hs : List (Option Held)) → is_step s t ≡ false → comes t (list_at s hs) ≡ false
+pub list_lacks : (t s : Step) (hs : List (Option Held)) → is_step s t ≡ false → comes t (list_at s hs) ≡ false
 list_lacks t s hs other = by _ (places hs)
   where
     by : (v : List Token) (f : Forest) → comes t (unless_none s v f) ≡ false

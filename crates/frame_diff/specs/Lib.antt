@@ -11,4 +11,8 @@ pub mod Walked
 pub mod Values
 pub mod Repeated
 pub mod Rows
+pub mod Inside
+pub mod Groups
+pub mod Nests
+pub mod Messages
 pub mod Laws

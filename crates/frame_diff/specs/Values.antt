@@ -6,10 +6,12 @@ use Rattle.json.specs.Token.{Token, number as number_token, string}
 use Rattle.nla_wire.specs.Frames.{Frame, number}
 use Rattle.nla_wire.specs.Items.{items}
 use Rattle.link_info.specs.Tables.{frames_in}
-use Rattle.shown.specs.Drafts.{Members}
+use Rattle.shown.specs.Drafts.{Members, list_of}
 use Rattle.shown.specs.Values.{flags_of}
-use Rattle.frame_shown.specs.Frames.{way_shown}
+use Rattle.frame_shown.specs.Frames.{items_in, way_shown}
+use Rattle.frame_shown.specs.Items.{named_ones, values_of}
 use Rattle.frame_shown.specs.Kept.{frame_flags, frame_members}
+use Rattle.frame_shown.specs.Messages.{link_flag_names}
 use Rattle.frame_shown.specs.Tables.{row_in}
 use Rattle.frame_shown.specs.Values.{Nesting, field_shown, hexadecimal, number_tokens, signed_value, spelled}
 use Rattle.frame_shown.specs.declared.form.Around.{Around}
@@ -27,6 +29,10 @@ use Rattle.frame_diff.specs.declared.leaf.Value.TheVariants as Values
 use Rattle.frame_diff.specs.declared.side.Side.{Side}
 use Rattle.frame_diff.specs.declared.walk.Attributes.{Attributes}
 
+-- the values of the attributes of a list that have a name
+abbrev pub listed_shown : Nesting → Around → Shape → List ℕ → List Token
+listed_shown nest cx list p = list_of (flat_map values_of (named_ones (items_in nest cx list (items p))))
+
 abbrev pub value_shown : Nesting → Around → Value → List Token
 value_shown nest cx (Values.Payload way payload) = way_shown nest cx way payload.now
 value_shown nest cx (Values.Number kind) = number_token (decimal (bit_and kind 0x3fff)) ∷ []
@@ -37,6 +43,8 @@ value_shown nest cx (Values.Signed z) = signed_value z
 value_shown nest cx (Values.Spelled plain bytes) = spelled plain bytes.now
 value_shown nest cx (Values.Field field bytes place) = field_shown cx field bytes.now place
 value_shown nest cx (Values.Octets bytes) = hexadecimal bytes.now
+value_shown nest cx (Values.LinkFlags bits) = flags_of link_flag_names bits
+value_shown nest cx (Values.Listed list p) = listed_shown nest cx list p.now
 
 -- ** an attribute that is kept as it is
 

@@ -15,6 +15,7 @@ use crate::counters::is_passed;
 use crate::leaf::Texts;
 use crate::list::{behind, comes};
 use crate::path::{join, join_place};
+use crate::value::tell_value;
 use crate::walk::{Attribute, Attributes, Pass, Walk};
 use frame_shown::form::{is_kept, row_in};
 use nla_wire::{NlaBuffer, NlasIterator};
@@ -158,7 +159,7 @@ fn tell_alone<W: Walk>(
         is_alike: false,
         ..pass
     };
-    W::tell_value(texts, pass, page, text.as_str(), own.attribute, there)
+    tell_value::<W>(texts, pass, page, text.as_str(), own.attribute, there)
 }
 
 /// Tells of one of them, beside the one at its place.

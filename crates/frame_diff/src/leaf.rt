@@ -6,17 +6,19 @@ ghost use Rattle.shown.specs.Keys.{IsKey};
 ghost use Rattle.shown.specs.Values.{flags_of};
 ghost use Rattle.frame_shown.specs.Items.{objects};
 ghost use Rattle.frame_shown.specs.Kept.{frame_flags};
+ghost use Rattle.frame_shown.specs.Messages.{link_flag_names};
 ghost use Rattle.frame_diff.specs.Differences.{is_shown_same, text_of};
 ghost use Rattle.frame_diff.specs.Forests.{is_text};
 ghost use Rattle.frame_diff.specs.Items.{alone_item, joined, leaf_items, turned_item};
-ghost use Rattle.frame_diff.specs.Values.{value_shown};
+ghost use Rattle.frame_diff.specs.Values.{listed_shown, value_shown};
 ghost use Rattle.frame_diff.specs.declared.side.Side.TheVariants as Sides;
 
 use crate::path::join;
 use crate::side::Side;
 use frame_shown::depth::Depth;
-use frame_shown::form::{Around, Field, Way};
-use frame_shown::list::show_way;
+use frame_shown::form::{Around, Field, List, Way};
+use frame_shown::list::{show_one_list, show_way};
+use frame_shown::tables::LINK_FLAGS;
 use frame_shown::value::{show_field, show_spelled};
 use link_info::Plain;
 use nla_wire::{NLA_F_NESTED, NLA_F_NET_BYTEORDER, NLA_TYPE_MASK};
@@ -44,6 +46,10 @@ pub enum Value<'a> {
     Field(Field, &'a [u8], u8),
     /// Bytes, as digits.
     Octets(&'a [u8]),
+    /// The flags of a link.
+    LinkFlags(u64),
+    /// The attributes of a list that have a name, as a list of values.
+    Listed(List, &'a [u8]),
 }
 
 /// Room for the texts that are compared.
@@ -70,6 +76,29 @@ fn show_flags(page: &mut Page, name: &str, kind: u16) -> Result<(), AllocError>
     page.flags(name, flags.into(), &FRAME_FLAGS)
 }
 
+/// Adds the flags of a link.
+fn show_link_flags(page: &mut Page, name: &str, bits: u64) -> Result<(), AllocError>
+    ensures { OnOk result (page.new
+        ≡ with_value name.now (flags_of link_flag_names bits) page.old) }
+{
+    page.flags(name, bits, &LINK_FLAGS)
+}
+
+/// Adds the attributes of a list that have a name as a list of values.
+fn show_listed<D: Depth>(
+    cx: &Around<'_>,
+    page: &mut Page,
+    name: &str,
+    list: List,
+    bytes: &[u8],
+) -> Result<(), AllocError>
+    ensures { OnOk result (page.new ≡ with_value name.now
+        (listed_shown (D.nest cx.now) cx.now list bytes.now) page.old) }
+{
+    show_one_list::<D>(cx, page, name, list, bytes)?;
+    Ok(())
+}
+
 /// Adds a value.
 fn show_value<D: Depth>(
     cx: &Around<'_>,
@@ -91,6 +120,8 @@ fn show_value<D: Depth>(
         Value::Spelled(plain, bytes) => show_spelled(page, name, plain, bytes),
         Value::Field(field, bytes, place) => show_field(cx, page, name, field, bytes, place),
         Value::Octets(bytes) => page.hex(name, bytes),
+        Value::LinkFlags(bits) => show_link_flags(page, name, bits),
+        Value::Listed(list, bytes) => show_listed::<D>(cx, page, name, list, bytes),
     }
 }
 

@@ -3,14 +3,20 @@
 
 pub mod again;
 pub mod counters;
+pub mod depth;
 pub mod fields;
+pub mod groups;
 pub mod kept;
 pub mod laws;
 pub mod leaf;
 pub mod list;
+pub mod lists;
 pub mod members;
+pub mod message;
 pub mod named;
+pub mod nests;
 pub mod path;
 pub mod rows;
 pub mod side;
+pub mod value;
 pub mod walk;

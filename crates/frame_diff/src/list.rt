@@ -20,6 +20,7 @@ use crate::counters::is_passed;
 use crate::leaf::{Texts, is_same};
 use crate::named::{find_named, is_named};
 use crate::path::join;
+use crate::value::tell_value;
 use crate::walk::{Attribute, Attributes, Pass, Walk};
 use frame_shown::form::{Around, List, is_kept, row_in};
 use frame_shown::list::has_twice;
@@ -141,12 +142,13 @@ fn tell_unless_same<W: Walk>(
         (option_map (held_at W.nest W.inner pass.is_state) beside.entry))) page.old) }
 {
     if pass.is_alike {
+        W::laws();
         if has_payload(own.payload, beside) {
             return Ok(());
         }
     }
     let text = join(texts.alloc, path, name)?;
-    W::tell_value(texts, pass, page, text.as_str(), own, beside)
+    tell_value::<W>(texts, pass, page, text.as_str(), own, beside)
 }
 
 /// Tells of the last attribute of a name beside that of another list.
@@ -347,6 +349,7 @@ fn tell_unless_there<W: Walk>(
         (named_at W.nest W.inner pass.is_state behind.entry) frame.now)) page.old) }
 {
     if is_there {
+        W::laws();
         return Ok(());
     }
     tell_frame::<W>(texts, pass, page, path, behind, others, frame)

@@ -38,7 +38,7 @@ fn tell_again<W: Walk>(
 }
 
 /// Tells of the attributes that are kept as they are.
-fn tell_kept(
+pub(crate) fn tell_kept(
     texts: &mut Texts,
     pass: Pass,
     page: &mut Page,

@@ -1,9 +1,14 @@
 //! What is gone through, and how deep.
 
-ghost use Rattle.std.specs.Prelude.{◌≡◌, OnOk, option_map, true};
+ghost use Rattle.std.specs.Prelude.{◌≡◌, ℕ, Bool, List as Seq, OnOk, Some};
 ghost use Rattle.shown.specs.Drafts.{with_members};
 ghost use Rattle.frame_shown.specs.Items.{objects};
-ghost use Rattle.frame_diff.specs.Walked.{HasRowOf, Holding, HoldsApart, held_at, held_items};
+ghost use Rattle.frame_shown.specs.declared.form.Around.{Around as Beside};
+ghost use Rattle.frame_shown.specs.declared.form.List.{List as Shape};
+ghost use Rattle.frame_diff.specs.Inside.{HoldsNoField, has_none, inside_list};
+ghost use Rattle.frame_diff.specs.Items.{items_told};
+ghost use Rattle.frame_diff.specs.Members.{is_nest};
+ghost use Rattle.frame_diff.specs.Walked.{Holding, HoldsApart};
 
 use crate::leaf::Texts;
 use crate::side::Side;
@@ -53,19 +58,30 @@ pub struct Attribute<'a> {
 pub trait Walk: Depth {
     ghost inner: { Holding };
 
-    /// Tells of an attribute beside another one, if there is one.
-    fn tell_value(
+    /// Whether a list holds no member at all, so that it is a value.
+    fn is_bare(own: Attributes<'_>) -> bool
+        ensures { (is_state : Bool) → has_none
+            (inner is_state own.entry.around.now own.entry.list own.entry.bytes.now) ≡ result };
+
+    /// Whether lists are shown as objects, and not as their bytes.
+    fn has_objects() -> bool
+        ensures { (cx : Beside) (list : Shape) (p : Seq ℕ) → is_nest (Self.nest cx list p) ≡ result };
+
+    /// Tells of the members of a list beside those of another one, if there is one.
+    fn tell_list(
         texts: &mut Texts,
         pass: Pass,
         page: &mut Page,
         path: &str,
-        own: Attribute<'_>,
-        beside: Option<Attribute<'_>>,
+        own: Attributes<'_>,
+        beside: Option<Attributes<'_>>,
     ) -> Result<(), AllocError>
-        requires { pass.is_alike ≡ true → HasRowOf own beside }
-        ensures { OnOk result (page.new ≡ with_members (objects (held_items pass.side path.now
-            (held_at Self.nest inner pass.is_state own.entry)
-            (option_map (held_at Self.nest inner pass.is_state) beside.entry))) page.old) };
+        ensures { OnOk result (page.new ≡ with_members (objects (items_told pass.side path.now
+            (inside_list inner pass.is_state (Some own.entry)) (inside_list inner pass.is_state beside.entry)))
+            page.old) };
 
-    ghost apart: { HoldsApart inner };
+    /// No two members of a list have one step, and none is a field.
+    fn laws()
+        ensures apart { HoldsApart inner }
+        ensures fieldless { HoldsNoField inner };
 }

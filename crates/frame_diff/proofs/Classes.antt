@@ -1,0 +1,255 @@
+-- Lists of one class hold no member of another one.
+use Rattle.std.proofs.Common.{◌≡◌, ℕ, Bool, true, false, List, [], ◌∷◌, ◌++◌, refl, sym, ap, ◌∙◌}
+use Rattle.std.specs.Prelude.{Option, Some, None, ◌&&◌, codes, map, not}
+use Rattle.json.specs.Token.{Token}
+use Rattle.nla_wire.specs.Frames.{Frame}
+use Rattle.nla_wire.specs.Items.{items}
+use Rattle.link_info.specs.Tables.{frames_in}
+use Rattle.shown.specs.Drafts.{Members}
+use Rattle.frame_shown.specs.Tables.{group_name}
+use Rattle.frame_shown.specs.declared.form.Around.{Around}
+use Rattle.frame_shown.specs.declared.form.List.{List as Shape}
+use Rattle.frame_shown.specs.declared.form.List.TheVariants as Shapes
+use Rattle.frame_diff.specs.Forests.{Forest, Held, Member, Step, comes, field_step, find}
+use Rattle.frame_diff.specs.Forests.{forest, is_step, left_of, rest_step, values_step}
+use Rattle.frame_diff.specs.Groups.{is_group}
+use Rattle.frame_diff.specs.Inside.{HoldsNoField, above, has_none, inside_list, is_field, is_of_object}
+use Rattle.frame_diff.specs.Items.{items_told}
+use Rattle.frame_diff.specs.Members.{Reading, earlier, group_of, is_some, kept_in, list_at, list_members}
+use Rattle.frame_diff.specs.Members.{members_in, named, named_in, places, unless_none}
+use Rattle.frame_diff.specs.Repeated.{members_at}
+use Rattle.frame_diff.specs.Walked.{Holding, HoldsApart, Showing, reading_at}
+use Rattle.frame_diff.specs.declared.side.Side.{Side}
+use Rattle.frame_diff.specs.declared.walk.Attributes.{Attributes}
+use Rattle.frame_diff.proofs.Apart.{find_none, left_apart, list_members_apart}
+use Rattle.frame_diff.proofs.Inside.{AreAt, append_at, at_weaker, fields_lack, find_left, forest_all, forest_some, left_some}
+use Rattle.frame_diff.proofs.Inside.{left_told, none_at, same_told}
+use Rattle.frame_diff.proofs.Parts.{AreNames, NoneComes, named_names}
+
+-- ** steps
+
+-- of a member by its name, and of no other sort
+abbrev pub IsOfObject : Step → Type 0
+IsOfObject s = is_of_object s ≡ true
+
+abbrev pub IsPart : Step → Type 0
+IsPart s = is_of_object s ≡ false
+
+object_not_part : (s t : Step) → is_of_object s ≡ true → is_of_object t ≡ false → is_step s t ≡ false
+object_not_part (Step.name a) (Step.part n b) h k = refl
+object_not_part (Step.place m) (Step.part n b) h k = refl
+object_not_part Step.repeated (Step.part n b) h k = refl
+object_not_part Step.other (Step.part n b) h k = refl
+object_not_part (Step.part m a) (Step.part n b) h k = absurd cc
+object_not_part s (Step.name b) h k = absurd cc
+object_not_part s (Step.place n) h k = absurd cc
+object_not_part s Step.repeated h k = absurd cc
+object_not_part s Step.other h k = absurd cc
+
+part_not_object : (s t : Step) → is_of_object s ≡ false → is_of_object t ≡ true → is_step s t ≡ false
+part_not_object (Step.part n b) (Step.name a) h k = refl
+part_not_object (Step.part n b) (Step.place m) h k = refl
+part_not_object (Step.part n b) Step.repeated h k = refl
+part_not_object (Step.part n b) Step.other h k = refl
+part_not_object (Step.part n b) (Step.part m a) h k = absurd cc
+part_not_object (Step.name b) t h k = absurd cc
+part_not_object (Step.place n) t h k = absurd cc
+part_not_object Step.repeated t h k = absurd cc
+part_not_object Step.other t h k = absurd cc
+
+-- ** members of a list
+
+pub list_steps : (P : Step → Type 0) (s : Step) (hs : List (Option Held)) → P s → AreAt P (list_at s hs)
+list_steps P s hs is = by _ (places hs)
+  where
+    by : (v : List Token) (f : Forest) → AreAt P (unless_none s v f)
+    by v Forest.none = tt
+    by v Forest.passed = tt
+    by v (Forest.tree a b c d) = (is, tt)
+
+names_of_object : (ms : List Member) → AreNames ms → AreAt IsOfObject ms
+names_of_object [] names = tt
+names_of_object (m ∷ ms) names = (ap is_of_object names.0.1, names_of_object ms names.1)
+
+members_of_object : (r : Reading) (list : Shape) (fs : List Frame) → AreAt IsOfObject (members_in r list fs)
+members_of_object r list fs =
+    let ms = named_in r list fs in
+    append_at IsOfObject (ms ++ list_at Step.repeated (earlier ms)) (list_at Step.other (kept_in r list fs))
+    (append_at IsOfObject ms (list_at Step.repeated (earlier ms)) (names_of_object ms (named_names r list fs))
+    (list_steps IsOfObject Step.repeated (earlier ms) refl))
+    (list_steps IsOfObject Step.other (kept_in r list fs) refl)
+
+pub object_members : (r : Reading) (list : Shape) (fs : List Frame) → is_group list ≡ false
+    → list_members r list fs ≡ members_in r list fs
+object_members r (Shapes.Listed group table) fs h = absurd cc
+object_members r (Shapes.Entries group) fs h = absurd cc
+object_members r (Shapes.Message family) fs h = refl
+object_members r (Shapes.Own table) fs h = refl
+object_members r (Shapes.Of place) fs h = refl
+object_members r Shapes.ProtoInet6 fs h = refl
+object_members r (Shapes.Info link port) fs h = refl
+
+object_steps : (r : Reading) (list : Shape) (fs : List Frame) → is_group list ≡ false
+    → AreAt IsOfObject (list_members r list fs)
+object_steps r (Shapes.Listed group table) fs h = absurd cc
+object_steps r (Shapes.Entries group) fs h = absurd cc
+object_steps r (Shapes.Message family) fs h = members_of_object r (Shapes.Message family) fs
+object_steps r (Shapes.Own table) fs h = members_of_object r (Shapes.Own table) fs
+object_steps r (Shapes.Of place) fs h = members_of_object r (Shapes.Of place) fs
+object_steps r Shapes.ProtoInet6 fs h = members_of_object r Shapes.ProtoInet6 fs
+object_steps r (Shapes.Info link port) fs h = members_of_object r (Shapes.Info link port) fs
+
+group_steps : (r : Reading) (list : Shape) (fs : List Frame) → is_group list ≡ true
+    → AreAt IsPart (list_members r list fs)
+group_steps r (Shapes.Listed group table) fs h =
+    (refl, list_steps IsPart (rest_step (codes "other")) (kept_in r (Shapes.Listed group table) fs) refl)
+group_steps r (Shapes.Entries group) fs h = (refl, tt)
+group_steps r (Shapes.Message family) fs h = absurd cc
+group_steps r (Shapes.Own table) fs h = absurd cc
+group_steps r (Shapes.Of place) fs h = absurd cc
+group_steps r Shapes.ProtoInet6 fs h = absurd cc
+group_steps r (Shapes.Info link port) fs h = absurd cc
+
+-- ** what stands at a step of another class
+
+abbrev inner_of : Reading → Shape → List Frame → Forest
+inner_of r list fs = left_of (is_some fs) (list_members r list fs)
+
+pub none_in_group : (r : Reading) (list : Shape) (fs : List Frame) (s : Step) → is_group list ≡ true
+    → is_of_object s ≡ true → find s (inner_of r list fs) ≡ None
+none_in_group r list fs s group object =
+    find_left s (is_some fs) (list_members r list fs)
+    ∙ find_none s (list_members r list fs) (none_at s (list_members r list fs)
+    (at_weaker IsPart (λ t. is_step t s ≡ false) (list_members r list fs)
+    (λ t part. part_not_object t s part object) (group_steps r list fs group)))
+
+pub none_in_object : (r : Reading) (list : Shape) (fs : List Frame) (s : Step) → is_group list ≡ false
+    → is_of_object s ≡ false → find s (inner_of r list fs) ≡ None
+none_in_object r list fs s object part =
+    find_left s (is_some fs) (list_members r list fs)
+    ∙ find_none s (list_members r list fs) (none_at s (list_members r list fs)
+    (at_weaker IsOfObject (λ t. is_step t s ≡ false) (list_members r list fs)
+    (λ t is. object_not_part t s is part) (object_steps r list fs object)))
+
+-- ** no list holds a field
+
+no_field_in : (r : Reading) (list : Shape) (fs : List Frame) (name : List ℕ)
+    → find (field_step name) (inner_of r list fs) ≡ None
+no_field_in r (Shapes.Listed group table) fs name =
+    let list = Shapes.Listed group table in
+    let s = field_step name in
+    find_left s (is_some fs) (list_members r list fs)
+    ∙ find_none s (list_members r list fs) (none_at s (list_members r list fs)
+    (refl, list_steps (λ t. is_step t s ≡ false) (rest_step (codes "other")) (kept_in r list fs) refl))
+no_field_in r (Shapes.Entries group) fs name = refl
+no_field_in r (Shapes.Message family) fs name =
+    none_in_object r (Shapes.Message family) fs (field_step name) refl refl
+no_field_in r (Shapes.Own table) fs name = none_in_object r (Shapes.Own table) fs (field_step name) refl refl
+no_field_in r (Shapes.Of place) fs name = none_in_object r (Shapes.Of place) fs (field_step name) refl refl
+no_field_in r Shapes.ProtoInet6 fs name = none_in_object r Shapes.ProtoInet6 fs (field_step name) refl refl
+no_field_in r (Shapes.Info link port) fs name =
+    none_in_object r (Shapes.Info link port) fs (field_step name) refl refl
+
+pub above_fieldless : (nest : Showing) (inner : Holding) → HoldsNoField (above nest inner)
+above_fieldless nest inner is_state cx list p name =
+    no_field_in (reading_at nest inner is_state cx) list (frames_in (items p)) name
+
+pub above_apart : (nest : Showing) (inner : Holding) → HoldsApart inner → HoldsApart (above nest inner)
+above_apart nest inner apart is_state cx list p =
+    let r = reading_at nest inner is_state cx in
+    left_apart (is_some (frames_in (items p))) (list_members r list (frames_in (items p)))
+    (list_members_apart r list (frames_in (items p)) (apart is_state cx))
+
+-- ** a list without members
+
+without : (r : Reading) (list : Shape) (fs : List Frame)
+    → has_none (inner_of r list fs) ≡ (not (is_group list) && not (is_some fs))
+without r (Shapes.Listed group table) fs =
+    forest_some (group_of (values_step (group_name group))
+    (map (λ (m : Member). Some m.1) (named_in r (Shapes.Listed group table) fs)))
+    (list_at (rest_step (codes "other")) (kept_in r (Shapes.Listed group table) fs))
+without r (Shapes.Entries group) fs = refl
+without r (Shapes.Message family) [] = refl
+without r (Shapes.Message family) (f ∷ fs) = left_some (list_members r (Shapes.Message family) (f ∷ fs))
+without r (Shapes.Own table) [] = refl
+without r (Shapes.Own table) (f ∷ fs) = left_some (list_members r (Shapes.Own table) (f ∷ fs))
+without r (Shapes.Of place) [] = refl
+without r (Shapes.Of place) (f ∷ fs) = left_some (list_members r (Shapes.Of place) (f ∷ fs))
+without r Shapes.ProtoInet6 [] = refl
+without r Shapes.ProtoInet6 (f ∷ fs) = left_some (list_members r Shapes.ProtoInet6 (f ∷ fs))
+without r (Shapes.Info link port) [] = refl
+without r (Shapes.Info link port) (f ∷ fs) = left_some (list_members r (Shapes.Info link port) (f ∷ fs))
+
+pub above_without : (nest : Showing) (inner : Holding) (is_state : Bool) (cx : Around) (list : Shape) (p : List ℕ)
+    → has_none (above nest inner is_state cx list p) ≡ (not (is_group list) && not (is_some (frames_in (items p))))
+above_without nest inner is_state cx list p = without (reading_at nest inner is_state cx) list (frames_in (items p))
+
+-- ** objects beside each other
+
+module _ (nest : Showing) (inner : Holding) (is_state : Bool) where
+  pub object_found : (a : Attributes) (s : Step) → is_group a.list ≡ false
+      → find s (forest (members_at nest inner is_state a)) ≡ find s (inside_list (above nest inner) is_state (Some a))
+  object_found a s object =
+      let r = reading_at nest inner is_state a.around.now in
+      let fs = frames_in (items a.bytes.now) in
+      ap (λ ms. find s (forest ms)) (sym (object_members r a.list fs object))
+      ∙ sym (find_left s (is_some fs) (list_members r a.list fs))
+
+  pub none_found : (a : Attributes) (s : Step) → items a.bytes.now ≡ []
+      → find s (forest (members_at nest inner is_state a)) ≡ None
+  none_found a s none =
+      let r = reading_at nest inner is_state a.around.now in
+      ap (λ xs. find s (forest (members_in r a.list (frames_in xs)))) none
+
+  pub group_found : (a : Attributes) (s : Step) → is_group a.list ≡ true → is_of_object s ≡ true
+      → find s (inside_list (above nest inner) is_state (Some a)) ≡ None
+  group_found a s group object =
+      none_in_group (reading_at nest inner is_state a.around.now) a.list (frames_in (items a.bytes.now)) s group object
+
+  pub object_told : (side : Side) (text : List ℕ) (own others : Attributes) (beside : Option Attributes)
+      → is_group own.list ≡ false
+      → ((s : Step) → is_of_object s ≡ true → find s (forest (members_at nest inner is_state others))
+      ≡ find s (inside_list (above nest inner) is_state beside))
+      → items_told side text (forest (members_at nest inner is_state own))
+      (forest (members_at nest inner is_state others))
+      ≡ items_told side text (inside_list (above nest inner) is_state (Some own))
+      (inside_list (above nest inner) is_state beside)
+  object_told side text own others beside object found =
+      let r = reading_at nest inner is_state own.around.now in
+      let fs = frames_in (items own.bytes.now) in
+      let g = inside_list (above nest inner) is_state beside in
+      same_told IsOfObject side text (forest (members_at nest inner is_state own))
+      (forest (members_at nest inner is_state others)) g
+      (forest_all IsOfObject (members_in r own.list fs) (members_of_object r own.list fs)) found
+      ∙ ap (λ ms. items_told side text (forest ms) g) (sym (object_members r own.list fs object))
+      ∙ sym (left_told side text (is_some fs) (list_members r own.list fs) g)
+
+-- ** fields and the members of an object
+
+not_field : (s : Step) → is_of_object s ≡ true → is_field s ≡ false
+not_field (Step.name text) h = refl
+not_field (Step.part n text) h = absurd cc
+not_field (Step.place n) h = refl
+not_field Step.repeated h = refl
+not_field Step.other h = refl
+
+none_of_these : (xs ys : List Member) → AreAt (λ s. comes s ys ≡ false) xs → NoneComes xs ys
+none_of_these [] ys all = tt
+none_of_these (x ∷ xs) ys all = (all.0, none_of_these xs ys all.1)
+
+pub no_field_comes : (r : Reading) (list : Shape) (fs : List Frame) (ms : Members)
+    → NoneComes (named ms) (members_in r list fs)
+no_field_comes r list fs [] = tt
+no_field_comes r list fs (m ∷ ms) = (
+  none_at (field_step m.0) (members_in r list fs)
+      (at_weaker IsOfObject (λ t. is_step t (field_step m.0) ≡ false) (members_in r list fs)
+      (λ t is. object_not_part t (field_step m.0) is refl) (members_of_object r list fs)),
+  no_field_comes r list fs ms,
+)
+
+pub no_member_comes : (r : Reading) (list : Shape) (fs : List Frame) (ms : Members)
+    → NoneComes (members_in r list fs) (named ms)
+no_member_comes r list fs ms =
+    none_of_these (members_in r list fs) (named ms)
+    (at_weaker IsOfObject (λ s. comes s (named ms) ≡ false) (members_in r list fs)
+    (λ s is. fields_lack s ms (not_field s is)) (members_of_object r list fs))

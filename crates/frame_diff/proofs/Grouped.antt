@@ -1,0 +1,564 @@
+-- Lists of values beside each other, place by place.
+use Rattle.std.proofs.Common.{◌≡◌, ℕ, ◌+◌, ◌<◌, ◌≤◌, Bool, true, false, List, [], ◌∷◌, ◌++◌, refl, subst}
+use Rattle.std.proofs.Common.{sym, ap, ◌∙◌, Ok, append-nil, arith, eq-eqb, map}
+use Rattle.std.specs.Prelude.{IfSome, Option, Some, None, ◌==◌, ◌&&◌, codes, cond, decimal, nat_lt, not, option_map}
+use Rattle.std.specs.List.{flat_map}
+use Rattle.std.specs.Option.{is_some as is_some_value}
+use Rattle.std.proofs.lemmas.List.{map-append}
+use Rattle.json.specs.Token.{Token}
+use Rattle.nla_wire.specs.Frames.{Frame, number}
+use Rattle.nla_wire.specs.Items.{Item, frame_count, items}
+use Rattle.link_info.specs.Tables.{frames_in}
+use Rattle.shown.specs.Drafts.{Draft, list_of, object_of, with_members}
+use Rattle.frame_shown.specs.Frames.{by_row, frame_item}
+use Rattle.frame_shown.specs.Items.{Item as Shown, named_ones, objects}
+use Rattle.frame_shown.specs.Items.{values_of as texts_of}
+use Rattle.frame_shown.specs.Tables.{Known, entry_list, group_name, is_kept, kind_shown, no_row, row_in}
+use Rattle.frame_shown.specs.declared.form.Around.{Around}
+use Rattle.frame_shown.specs.declared.form.Group.{Group}
+use Rattle.frame_shown.specs.declared.form.List.{List as Shape}
+use Rattle.frame_shown.specs.declared.form.List.TheVariants as Shapes
+use Rattle.frame_shown.specs.declared.form.Table.{Table}
+use Rattle.frame_shown.proofs.Items.{on_next}
+use Rattle.frame_diff.specs.Counters.{action_in, is_passed}
+use Rattle.frame_diff.specs.Forests.{Forest, Held, Member, Step, comes, entries_step, find, forest, is_step, is_text}
+use Rattle.frame_diff.specs.Forests.{left_of, rest_step, values_step}
+use Rattle.frame_diff.specs.Groups.{are_plain, first_by, first_of, group_at, group_by, group_held, group_step}
+use Rattle.frame_diff.specs.Groups.{group_values, is_entries, is_group, is_nested, is_same_group, nest_in}
+use Rattle.frame_diff.specs.Groups.{next_place, picked, place_items, rest_by, rest_forest, rest_of, value_at}
+use Rattle.frame_diff.specs.Groups.{values_by, values_of}
+use Rattle.frame_diff.specs.Inside.{has_none, is_of_object}
+use Rattle.frame_diff.specs.Items.{items_told, joined, leaf_items, step_text}
+use Rattle.frame_diff.specs.Members.{Reading, entries_in, entry_of, frame_member, group_of, held_by, is_nest, is_some}
+use Rattle.frame_diff.specs.Members.{kept_in, list_at, list_members, named_in, placed, placed_one, places, value_in}
+use Rattle.frame_diff.specs.Values.{kept_among, listed_shown}
+use Rattle.frame_diff.specs.Walked.{Holding, Showing, held_items, reading_at}
+use Rattle.frame_diff.specs.declared.side.Side.{Side}
+use Rattle.frame_diff.specs.declared.walk.Attribute.{Attribute}
+use Rattle.frame_diff.specs.declared.walk.Attributes.{Attributes}
+use Rattle.frame_diff.proofs.Apart.{find_none}
+use Rattle.frame_diff.proofs.Classes.{list_steps, none_in_object}
+use Rattle.frame_diff.proofs.Entries.{below, later}
+use Rattle.frame_diff.proofs.Inside.{AreAt, append_at, forest_all, forest_some, same_told, same_written}
+use Rattle.frame_diff.proofs.Parts.{find_back, list_lacks, list_told}
+use Rattle.frame_diff.proofs.Walked.{last_further}
+
+-- ** the values of a list, one attribute further
+
+pub group_nil : (r : Reading) (list : Shape) → group_values r list [] ≡ []
+group_nil r (Shapes.Listed group table) = refl
+group_nil r (Shapes.Entries group) = refl
+group_nil r (Shapes.Message family) = refl
+group_nil r (Shapes.Own table) = refl
+group_nil r (Shapes.Of place) = refl
+group_nil r Shapes.ProtoInet6 = refl
+group_nil r (Shapes.Info link port) = refl
+
+named_further : (r : Reading) (list : Shape) (f : Frame) (fs : List Frame)
+    → values_of (named_in r list (f ∷ fs)) ≡ values_of (frame_member r list f) ++ values_of (named_in r list fs)
+named_further r list f fs = map-append (λ (m : Member). Some m.1) (frame_member r list f) (named_in r list fs)
+
+pub group_further : (r : Reading) (list : Shape) (f : Frame) (fs : List Frame)
+    → group_values r list (f ∷ fs) ≡ values_by r list f ++ group_values r list fs
+group_further r (Shapes.Listed group table) f fs = named_further r (Shapes.Listed group table) f fs
+group_further r (Shapes.Entries group) f fs = refl
+group_further r (Shapes.Message family) f fs = named_further r (Shapes.Message family) f fs
+group_further r (Shapes.Own table) f fs = named_further r (Shapes.Own table) f fs
+group_further r (Shapes.Of place) f fs = named_further r (Shapes.Of place) f fs
+group_further r Shapes.ProtoInet6 f fs = named_further r Shapes.ProtoInet6 f fs
+group_further r (Shapes.Info link port) f fs = named_further r (Shapes.Info link port) f fs
+
+-- ** one of them
+
+module _ (nest : Showing) (inner : Holding) (is_state : Bool) where
+  pub list_split : (list : Shape) (cx : Around) (f : Frame) (e : Option Attribute) (it next : List Item)
+      → it ≡ Ok f ∷ next
+      → picked nest inner is_state e ≡ values_by (reading_at nest inner is_state cx) list f
+      → group_values (reading_at nest inner is_state cx) list (frames_in it)
+      ≡ picked nest inner is_state e ++ group_values (reading_at nest inner is_state cx) list (frames_in next)
+  list_split list cx f e it next here looked =
+      let r = reading_at nest inner is_state cx in
+      ap (λ xs. group_values r list (frames_in xs)) here
+      ∙ group_further r list f (frames_in next)
+      ∙ ap (λ hs. hs ++ group_values r list (frames_in next)) (sym looked)
+
+-- ** at a place
+
+nest_found : (n : ℕ) (gs : List (Option Held))
+    → find (Step.place n) (forest (placed n gs)) ≡ nest_in (first_of gs)
+nest_found n [] = refl
+nest_found n (None ∷ gs) = find_none (Step.place n) (placed (n + 1) gs) (later n (n + 1) (omega arith) gs)
+nest_found n (Some g ∷ gs) =
+    by (is_nest g.0) (later n (n + 1) (omega arith) gs)
+    (find_none (Step.place n) (placed (n + 1) gs) (later n (n + 1) (omega arith) gs))
+  where
+    behind : Forest
+    behind = forest (placed (n + 1) gs)
+
+    by : (b : Bool) → comes (Step.place n) (placed (n + 1) gs) ≡ false → find (Step.place n) behind ≡ None
+        → find (Step.place n) (forest (cond b ((Step.place n, g) ∷ []) [] ++ placed (n + 1) gs)) ≡ cond b (Some g) None
+    by true once none =
+        ap (λ b. find (Step.place n) (cond b behind (Forest.tree (Step.place n) g.0 g.1 behind))) once
+        ∙ ap (λ b. cond b (Some g) (find (Step.place n) behind)) (eq-eqb n n refl)
+    by false once none = none
+
+-- behind a place
+abbrev pub IsBehind : ℕ → Step → Type 0
+IsBehind n s = (k : ℕ) × (s ≡ Step.place k) × (n < k)
+
+placed_behind : (n m : ℕ) → n < m → (hs : List (Option Held)) → AreAt (IsBehind n) (placed m hs)
+placed_behind n m less [] = tt
+placed_behind n m less (None ∷ hs) = placed_behind n (m + 1) (omega (arith, less)) hs
+placed_behind n m less (Some h ∷ hs) =
+    append_at (IsBehind n) (placed_one m (Some h)) (placed (m + 1) hs) (by (is_nest h.0))
+    (placed_behind n (m + 1) (omega (arith, less)) hs)
+  where
+    by : (b : Bool) → AreAt (IsBehind n) (cond b ((Step.place m, h) ∷ []) [])
+    by true = ((m, refl, less), tt)
+    by false = tt
+
+one_lacks : (n k : ℕ) → n < k → (g : Option Held) → comes (Step.place k) (placed_one n g) ≡ false
+one_lacks n k less None = refl
+one_lacks n k less (Some g) = by (is_nest g.0)
+  where
+    by : (b : Bool) → comes (Step.place k) (cond b ((Step.place n, g) ∷ []) []) ≡ false
+    by true = ap (λ b. cond b true false) (below n k less)
+    by false = refl
+
+behind_found : (n : ℕ) (gs : List (Option Held)) (s : Step) → IsBehind n s
+    → find s (forest (placed n gs)) ≡ find s (forest (placed (n + 1) (rest_of gs)))
+behind_found n [] s behind = refl
+behind_found n (g ∷ gs) s behind =
+    find_back s (placed_one n g) (placed (n + 1) gs)
+    (ap (λ t. comes t (placed_one n g)) behind.1 ∙ one_lacks n behind.0 behind.2 g)
+
+rest_told : (side : Side) (text : List ℕ) (n : ℕ) (hs gs : List (Option Held))
+    → items_told side text (forest (placed (n + 1) hs)) (forest (placed n gs))
+    ≡ items_told side text (forest (placed (n + 1) hs)) (forest (placed (n + 1) (rest_of gs)))
+rest_told side text n hs gs =
+    same_told (IsBehind n) side text (forest (placed (n + 1) hs)) (forest (placed n gs))
+    (forest (placed (n + 1) (rest_of gs)))
+    (forest_all (IsBehind n) (placed (n + 1) hs) (placed_behind n (n + 1) (omega arith) hs)) (behind_found n gs)
+
+pair_told : (side : Side) (text : List ℕ) (n : ℕ) (h : Held) (hs gs : List (Option Held))
+    → items_told side text (forest (placed n (Some h ∷ hs))) (forest (placed n gs))
+    ≡ place_items side text n (Some h) (first_of gs)
+    ++ items_told side text (forest (placed (n + 1) hs)) (forest (placed (n + 1) (rest_of gs)))
+pair_told side text n h hs gs = by (is_nest h.0)
+  where
+    others : Forest
+    others = forest (placed n gs)
+
+    path : List ℕ
+    path = joined text (decimal n)
+
+    by : (b : Bool)
+        → items_told side text (forest (cond b ((Step.place n, h) ∷ []) [] ++ placed (n + 1) hs)) others
+        ≡ cond b (held_items side path h (nest_in (first_of gs))) []
+        ++ items_told side text (forest (placed (n + 1) hs)) (forest (placed (n + 1) (rest_of gs)))
+    by true =
+        last_further side text others (Step.place n, h) (placed (n + 1) hs)
+        ∙ (λ k. cond (later n (n + 1) (omega arith) hs k) [] (held_items side path h (nest_found n gs k))
+        ++ rest_told side text n hs gs k)
+    by false = rest_told side text n hs gs
+
+-- ** the loop over them
+
+module _ (nest : Showing) (inner : Holding) (is_state : Bool) (side : Side) (text : List ℕ) where
+  picked_told : (e : Option Attribute) (n : ℕ) (hs gs : List (Option Held))
+      → items_told side text (forest (placed n (picked nest inner is_state e ++ hs))) (forest (placed n gs))
+      ≡ place_items side text n (option_map (value_at nest inner is_state) e) (first_by e gs)
+      ++ items_told side text (forest (placed (next_place e n) hs)) (forest (placed (next_place e n) (rest_by e gs)))
+  picked_told None n hs gs = refl
+  picked_told (Some a) n hs gs = pair_told side text n (value_at nest inner is_state a) hs gs
+
+  pub places_next : (list : Shape) (cx : Around) (f : Frame) (e : Option Attribute) (it next : List Item)
+      → it ≡ Ok f ∷ next
+      → picked nest inner is_state e ≡ values_by (reading_at nest inner is_state cx) list f
+      → (gs left : List (Option Held)) (beside : Option Held) → beside ≡ first_by e gs → left ≡ rest_by e gs
+      → (n m : ℕ) (page new all : Draft) → m ≡ next_place e n
+      → new ≡ with_members (objects (place_items side text n (option_map (value_at nest inner is_state) e) beside)) page
+      → with_members (objects (items_told side text
+      (forest (placed n (group_values (reading_at nest inner is_state cx) list (frames_in it))))
+      (forest (placed n gs)))) page ≡ all
+      → with_members (objects (items_told side text
+      (forest (placed m (group_values (reading_at nest inner is_state cx) list (frames_in next))))
+      (forest (placed m left)))) new ≡ all
+  places_next list cx f e it next here looked gs left beside first behind n m page new all more then was =
+      let r = reading_at nest inner is_state cx in
+      let hs = group_values r list (frames_in next) in
+      let told = place_items side text n (option_map (value_at nest inner is_state) e) beside in
+      let rest = items_told side text (forest (placed m hs)) (forest (placed m left)) in
+      on_next (objects (items_told side text (forest (placed n (group_values r list (frames_in it))))
+      (forest (placed n gs)))) (objects told) (objects rest) page new all
+      (ap (λ vs. objects (items_told side text (forest (placed n vs)) (forest (placed n gs))))
+      (list_split nest inner is_state list cx f e it next here looked)
+      ∙ ap objects (picked_told e n hs gs
+      ∙ (λ k. place_items side text n (option_map (value_at nest inner is_state) e) (sym first k)
+      ++ items_told side text (forest (placed (sym more k) hs)) (forest (placed (sym more k) (sym behind k)))))
+      ∙ map-append (λ o. ([], object_of o)) told rest)
+      was then
+
+pub next_fits : (f : Frame) (e : Option Attribute) (it next : List Item) → it ≡ Ok f ∷ next → (n m all : ℕ)
+    → m ≡ next_place e n → n + frame_count it ≤ all → m + frame_count next ≤ all
+next_fits f None it next here n m all is few =
+    let first : frame_count it ≡ 1 + frame_count next = ap frame_count here in omega (arith, first, is, few)
+next_fits f (Some a) it next here n m all is few =
+    let first : frame_count it ≡ 1 + frame_count next = ap frame_count here in omega (arith, first, is, few)
+
+-- ** values of which none is an object or a list
+
+pub plain_append : (xs ys : List (Option Held)) → are_plain (xs ++ ys) ≡ (are_plain xs && are_plain ys)
+plain_append [] ys = refl
+plain_append (x ∷ xs) ys = by (is_nested x) (plain_append xs ys)
+  where
+    by : (b : Bool) → are_plain (xs ++ ys) ≡ (are_plain xs && are_plain ys)
+        → (not b && are_plain (xs ++ ys)) ≡ ((not b && are_plain xs) && are_plain ys)
+    by true h = refl
+    by false h = h
+
+placed_plain : (n : ℕ) (hs : List (Option Held)) → has_none (forest (placed n hs)) ≡ are_plain hs
+placed_plain n [] = refl
+placed_plain n (None ∷ hs) = placed_plain (n + 1) hs
+placed_plain n (Some h ∷ hs) = by (is_nest h.0) (placed_plain (n + 1) hs)
+  where
+    by : (b : Bool) → has_none (forest (placed (n + 1) hs)) ≡ are_plain hs
+        → has_none (forest (cond b ((Step.place n, h) ∷ []) [] ++ placed (n + 1) hs)) ≡ (not b && are_plain hs)
+    by true rest = forest_some (Step.place n, h) (placed (n + 1) hs)
+    by false rest = rest
+
+pub places_plain : (hs : List (Option Held)) → has_none (places hs) ≡ are_plain hs
+places_plain hs = placed_plain 0 hs
+
+-- as one value they are what is shown
+
+unpassed : (is_state : Bool) (group : Group) (table : Table) (n : ℕ)
+    → is_passed is_state (Shapes.Listed group table) n ≡ false
+unpassed true group table n = refl
+unpassed false group table n = refl
+
+module _ (nest : Showing) (inner : Holding) (is_state : Bool) (cx : Around) where
+  abbrev r : Reading
+  r = reading_at nest inner is_state cx
+
+  listed_texts : (list : Shape) → ((n : ℕ) → is_passed is_state list n ≡ false) → (fs : List Frame)
+      → flat_map value_in (values_of (named_in r list fs))
+      ≡ flat_map texts_of (named_ones (map (frame_item (nest cx) cx list) fs))
+  listed_texts list none [] = refl
+  listed_texts list none (f ∷ fs) =
+      ap (λ b. flat_map value_in (values_of (cond b [] (cond (is_kept row.1 f.payload) [] (own ∷ []))
+      ++ named_in r list fs))) (none (number f))
+      ∙ by (is_kept row.1 f.payload) (listed_texts list none fs)
+    where
+      row : Known
+      row = row_in cx list (number f)
+
+      own : Member
+      own = (Step.name row.0, held_by r (action_in is_state list (number f)) row.1 f.payload)
+
+      by : (kept : Bool)
+          → flat_map value_in (values_of (named_in r list fs))
+          ≡ flat_map texts_of (named_ones (map (frame_item (nest cx) cx list) fs))
+          → flat_map value_in (values_of (cond kept [] (own ∷ []) ++ named_in r list fs))
+          ≡ flat_map texts_of (named_ones (cond kept
+          (Shown.as_is row.0 (kind_shown row.1 f.kind) f.payload)
+          (Shown.named (number f) ((row.0, own.1.0) ∷ []))
+          ∷ map (frame_item (nest cx) cx list) fs))
+      by true rest = rest
+      by false rest = (λ k. sym (append-nil own.1.0) k ++ rest k)
+
+  no_entries : (list : Shape) (fs : List Frame) → are_plain (entries_in r list fs) ≡ true → entries_in r list fs ≡ []
+  no_entries list [] plain = refl
+  no_entries list (f ∷ fs) plain = by (number f == 1) (no_entries list fs) plain
+    where
+      by : (b : Bool) → (are_plain (entries_in r list fs) ≡ true → entries_in r list fs ≡ [])
+          → are_plain (cond b (Some (entry_of r list f.payload) ∷ []) [] ++ entries_in r list fs) ≡ true
+          → cond b (Some (entry_of r list f.payload) ∷ []) [] ++ entries_in r list fs ≡ []
+      by true rest plain = absurd cc
+      by false rest plain = rest plain
+
+  none_named : (group : Group) (fs : List Frame)
+      → named_ones (map (frame_item (nest cx) cx (Shapes.Entries group)) fs) ≡ []
+  none_named group [] = refl
+  none_named group (f ∷ fs) = by (nat_lt (number f) 256) (none_named group fs)
+    where
+      by : (b : Bool) → named_ones (map (frame_item (nest cx) cx (Shapes.Entries group)) fs) ≡ []
+          → named_ones (by_row (nest cx) cx (cond b no_row no_row) f
+          ∷ map (frame_item (nest cx) cx (Shapes.Entries group)) fs) ≡ []
+      by true rest = rest
+      by false rest = rest
+
+  pub plain_shown : (list : Shape) (p : List ℕ) → is_group list ≡ true
+      → are_plain (group_values r list (frames_in (items p))) ≡ true
+      → listed_shown (nest cx) cx list p ≡ (group_by (group_values r list (frames_in (items p)))).0
+  plain_shown (Shapes.Listed group table) p h plain =
+      ap list_of (sym (listed_texts (Shapes.Listed group table) (unpassed is_state group table) (frames_in (items p))))
+  plain_shown (Shapes.Entries group) p h plain =
+      (λ k. list_of (flat_map texts_of (none_named group (frames_in (items p)) k)))
+      ∙ sym (ap (λ hs. list_of (flat_map value_in hs)) (no_entries (entry_list group) (frames_in (items p)) plain))
+  plain_shown (Shapes.Message family) p h plain = absurd cc
+  plain_shown (Shapes.Own table) p h plain = absurd cc
+  plain_shown (Shapes.Of place) p h plain = absurd cc
+  plain_shown Shapes.ProtoInet6 p h plain = absurd cc
+  plain_shown (Shapes.Info link port) p h plain = absurd cc
+
+-- ** a list of values among the members of its list
+
+abbrev inner_of : Reading → Shape → List Frame → Forest
+inner_of r list fs = left_of (is_some fs) (list_members r list fs)
+
+abbrev rest_step_now : Step
+rest_step_now = rest_step (codes "other")
+
+group_part : (list : Shape) → is_group list ≡ true → is_of_object (group_step list) ≡ false
+group_part (Shapes.Listed group table) h = refl
+group_part (Shapes.Entries group) h = refl
+group_part (Shapes.Message family) h = absurd cc
+group_part (Shapes.Own table) h = absurd cc
+group_part (Shapes.Of place) h = absurd cc
+group_part Shapes.ProtoInet6 h = absurd cc
+group_part (Shapes.Info link port) h = absurd cc
+
+one_told : (side : Side) (text : List ℕ) (s : Step) (h : Held) (ms : List Member) (g : Forest) → comes s ms ≡ false
+    → items_told side text (forest ((s, h) ∷ ms)) g
+    ≡ held_items side (joined text (step_text s)) h (find s g) ++ items_told side text (forest ms) g
+one_told side text s h ms g once =
+    last_further side text g (s, h) ms
+    ∙ ap (λ b. cond b [] (held_items side (joined text (step_text s)) h (find s g)) ++ items_told side text (forest ms) g)
+    once
+
+pub listed_told : (side : Side) (text : List ℕ) (r : Reading) (list : Shape) (fs : List Frame) (g : Forest)
+    → (is_group list && not (is_entries list)) ≡ true
+    → items_told side text (inner_of r list fs) g
+    ≡ held_items side (joined text (step_text (group_step list))) (group_by (group_values r list fs))
+    (find (group_step list) g)
+    ++ items_told side text (forest (list_at rest_step_now (kept_in r list fs))) g
+listed_told side text r (Shapes.Listed group table) fs g h =
+    let list = Shapes.Listed group table in
+    one_told side text (values_step (group_name group)) (group_by (group_values r list fs))
+    (list_at rest_step_now (kept_in r list fs)) g
+    (list_lacks (values_step (group_name group)) rest_step_now (kept_in r list fs) refl)
+listed_told side text r (Shapes.Entries group) fs g h = absurd cc
+listed_told side text r (Shapes.Message family) fs g h = absurd cc
+listed_told side text r (Shapes.Own table) fs g h = absurd cc
+listed_told side text r (Shapes.Of place) fs g h = absurd cc
+listed_told side text r Shapes.ProtoInet6 fs g h = absurd cc
+listed_told side text r (Shapes.Info link port) fs g h = absurd cc
+
+-- ** the same list of values among the members of another list
+
+one_found : (s t : Step) (h : Held) (ms : List Member) (same : Bool) → comes t ms ≡ false → comes s ms ≡ false
+    → is_step t s ≡ same → find s (forest ((t, h) ∷ ms)) ≡ cond same (Some h) None
+one_found s t h ms same once none is =
+    ap (λ b. find s (cond b (forest ms) (Forest.tree t h.0 h.1 (forest ms)))) once
+    ∙ (λ k. cond (is k) (Some h) (find_none s ms none k))
+
+module _ (r : Reading) where
+  listed_found : (s : Step) (group : Group) (table : Table) (fs : List Frame) (same : Bool)
+      → is_step (values_step (group_name group)) s ≡ same → is_step rest_step_now s ≡ false
+      → find s (inner_of r (Shapes.Listed group table) fs)
+      ≡ cond same (Some (group_by (group_values r (Shapes.Listed group table) fs))) None
+  listed_found s group table fs same is other =
+      let list = Shapes.Listed group table in
+      let t = values_step (group_name group) in
+      let rest = list_at rest_step_now (kept_in r list fs) in
+      one_found s t (group_by (group_values r list fs)) rest same
+      (list_lacks t rest_step_now (kept_in r list fs) refl) (list_lacks s rest_step_now (kept_in r list fs) other) is
+
+  entries_found : (s : Step) (group : Group) (fs : List Frame) (same : Bool)
+      → is_step (entries_step (group_name group)) s ≡ same
+      → find s (inner_of r (Shapes.Entries group) fs)
+      ≡ cond same (Some (group_by (group_values r (Shapes.Entries group) fs))) None
+  entries_found s group fs same is =
+      one_found s (entries_step (group_name group)) (group_by (group_values r (Shapes.Entries group) fs)) [] same refl
+      refl is
+
+  pub group_beside : (own other : Shape) (fs : List Frame) → is_group own ≡ true
+      → find (group_step own) (inner_of r other fs)
+      ≡ cond (is_same_group own other) (Some (group_by (group_values r other fs))) None
+  group_beside (Shapes.Listed one table) (Shapes.Listed two other) fs h =
+      listed_found (values_step (group_name one)) two other fs (is_text (group_name two) (group_name one)) refl refl
+  group_beside (Shapes.Listed one table) (Shapes.Entries two) fs h =
+      entries_found (values_step (group_name one)) two fs false refl
+  group_beside (Shapes.Entries one) (Shapes.Listed two other) fs h =
+      listed_found (entries_step (group_name one)) two other fs false refl refl
+  group_beside (Shapes.Entries one) (Shapes.Entries two) fs h =
+      entries_found (entries_step (group_name one)) two fs (is_text (group_name two) (group_name one)) refl
+  group_beside (Shapes.Listed one table) (Shapes.Message family) fs h =
+      none_in_object r (Shapes.Message family) fs (values_step (group_name one)) refl refl
+  group_beside (Shapes.Listed one table) (Shapes.Own other) fs h =
+      none_in_object r (Shapes.Own other) fs (values_step (group_name one)) refl refl
+  group_beside (Shapes.Listed one table) (Shapes.Of place) fs h =
+      none_in_object r (Shapes.Of place) fs (values_step (group_name one)) refl refl
+  group_beside (Shapes.Listed one table) Shapes.ProtoInet6 fs h =
+      none_in_object r Shapes.ProtoInet6 fs (values_step (group_name one)) refl refl
+  group_beside (Shapes.Listed one table) (Shapes.Info link port) fs h =
+      none_in_object r (Shapes.Info link port) fs (values_step (group_name one)) refl refl
+  group_beside (Shapes.Entries one) (Shapes.Message family) fs h =
+      none_in_object r (Shapes.Message family) fs (entries_step (group_name one)) refl refl
+  group_beside (Shapes.Entries one) (Shapes.Own other) fs h =
+      none_in_object r (Shapes.Own other) fs (entries_step (group_name one)) refl refl
+  group_beside (Shapes.Entries one) (Shapes.Of place) fs h =
+      none_in_object r (Shapes.Of place) fs (entries_step (group_name one)) refl refl
+  group_beside (Shapes.Entries one) Shapes.ProtoInet6 fs h =
+      none_in_object r Shapes.ProtoInet6 fs (entries_step (group_name one)) refl refl
+  group_beside (Shapes.Entries one) (Shapes.Info link port) fs h =
+      none_in_object r (Shapes.Info link port) fs (entries_step (group_name one)) refl refl
+  group_beside (Shapes.Message family) other fs h = absurd cc
+  group_beside (Shapes.Own table) other fs h = absurd cc
+  group_beside (Shapes.Of place) other fs h = absurd cc
+  group_beside Shapes.ProtoInet6 other fs h = absurd cc
+  group_beside (Shapes.Info link port) other fs h = absurd cc
+
+  pub rest_there : (list : Shape) (fs : List Frame) → (is_group list && not (is_entries list)) ≡ true
+      → find rest_step_now (forest (list_at rest_step_now (kept_in r list fs)))
+      ≡ find rest_step_now (inner_of r list fs)
+  rest_there (Shapes.Listed group table) fs h =
+      let list = Shapes.Listed group table in
+      sym (find_back rest_step_now
+      (group_of (values_step (group_name group)) (group_values r list fs) ∷ [])
+      (list_at rest_step_now (kept_in r list fs)) refl)
+  rest_there (Shapes.Entries group) fs h = absurd cc
+  rest_there (Shapes.Message family) fs h = absurd cc
+  rest_there (Shapes.Own table) fs h = absurd cc
+  rest_there (Shapes.Of place) fs h = absurd cc
+  rest_there Shapes.ProtoInet6 fs h = absurd cc
+  rest_there (Shapes.Info link port) fs h = absurd cc
+
+  pub no_rest : (list : Shape) (fs : List Frame) → (is_group list && not (is_entries list)) ≡ false
+      → None ≡ find rest_step_now (inner_of r list fs)
+  no_rest (Shapes.Listed group table) fs h = absurd cc
+  no_rest (Shapes.Entries group) fs h = sym (entries_found rest_step_now group fs false refl)
+  no_rest (Shapes.Message family) fs h = sym (none_in_object r (Shapes.Message family) fs rest_step_now refl refl)
+  no_rest (Shapes.Own table) fs h = sym (none_in_object r (Shapes.Own table) fs rest_step_now refl refl)
+  no_rest (Shapes.Of place) fs h = sym (none_in_object r (Shapes.Of place) fs rest_step_now refl refl)
+  no_rest Shapes.ProtoInet6 fs h = sym (none_in_object r Shapes.ProtoInet6 fs rest_step_now refl refl)
+  no_rest (Shapes.Info link port) fs h = sym (none_in_object r (Shapes.Info link port) fs rest_step_now refl refl)
+
+-- ** those that are kept beside them
+
+pub kept_told : (side : Side) (text : List ℕ) (hs gs : List (Option Held)) (g : Forest)
+    → find rest_step_now (forest (list_at rest_step_now gs)) ≡ find rest_step_now g
+    → items_told side (joined text (codes "other")) (places hs) (places gs)
+    ≡ items_told side text (forest (list_at rest_step_now hs)) g
+kept_told side text hs gs g same =
+    sym (list_told side text rest_step_now hs gs)
+    ∙ same_told (λ s. s ≡ rest_step_now) side text (forest (list_at rest_step_now hs))
+    (forest (list_at rest_step_now gs)) g
+    (forest_all (λ s. s ≡ rest_step_now) (list_at rest_step_now hs)
+    (list_steps (λ s. s ≡ rest_step_now) rest_step_now hs refl))
+    (λ s is. ap (λ t. find t (forest (list_at rest_step_now gs))) is ∙ same ∙ ap (λ t. find t g) (sym is))
+
+-- ** the first of them
+
+pub none_there : (e : Option Attribute) → is_some_value e ≡ false → e ≡ None
+none_there None h = refl
+none_there (Some a) h = absurd cc
+
+module _ (nest : Showing) (inner : Holding) (is_state : Bool) where
+  pub value_taken : (list : Shape) (cx : Around) (f : Frame) (e : Option Attribute) (it next : List Item)
+      (all : List (Option Held)) → it ≡ Ok f ∷ next
+      → picked nest inner is_state e ≡ values_by (reading_at nest inner is_state cx) list f
+      → group_values (reading_at nest inner is_state cx) list (frames_in it) ≡ all → is_some_value e ≡ true
+      → option_map (value_at nest inner is_state) e ≡ first_of all
+  value_taken list cx f None it next all here looked was some = absurd cc
+  value_taken list cx f (Some a) it next all here looked was some =
+      ap first_of (sym (list_split nest inner is_state list cx f (Some a) it next here looked) ∙ was)
+
+  pub rest_taken : (list : Shape) (cx : Around) (f : Frame) (e : Option Attribute) (it next : List Item)
+      (p : List ℕ) (all : List (Option Held)) → it ≡ Ok f ∷ next
+      → picked nest inner is_state e ≡ values_by (reading_at nest inner is_state cx) list f
+      → group_values (reading_at nest inner is_state cx) list (frames_in it) ≡ all → items p ≡ next → is_some_value e ≡ true
+      → group_values (reading_at nest inner is_state cx) list (frames_in (items p)) ≡ rest_of all
+  rest_taken list cx f None it next p all here looked was left some = absurd cc
+  rest_taken list cx f (Some a) it next p all here looked was left some =
+      ap (λ xs. group_values (reading_at nest inner is_state cx) list (frames_in xs)) left
+      ∙ ap rest_of (sym (list_split nest inner is_state list cx f (Some a) it next here looked) ∙ was)
+
+  pub none_taken : (list : Shape) (cx : Around) (f : Frame) (e : Option Attribute) (it next : List Item)
+      (all : List (Option Held)) → it ≡ Ok f ∷ next
+      → picked nest inner is_state e ≡ values_by (reading_at nest inner is_state cx) list f → e ≡ None
+      → group_values (reading_at nest inner is_state cx) list (frames_in it) ≡ all
+      → group_values (reading_at nest inner is_state cx) list (frames_in next) ≡ all
+  none_taken list cx f e it next all here looked none was =
+      sym (list_split nest inner is_state list cx f e it next here looked
+      ∙ ap (λ o. picked nest inner is_state o ++ group_values (reading_at nest inner is_state cx) list
+      (frames_in next)) none)
+      ∙ was
+
+  pub empty_group : (a : Attributes) → items a.bytes.now ≡ [] → group_at nest inner is_state a ≡ []
+  empty_group a none =
+      ap (λ xs. group_values (reading_at nest inner is_state a.around.now) a.list (frames_in xs)) none
+      ∙ group_nil (reading_at nest inner is_state a.around.now) a.list
+
+  -- ** none of them is an object or a list
+
+  pub plain_next : (list : Shape) (cx : Around) (f : Frame) (e : Option Attribute) (it next : List Item) (all : Bool)
+      → it ≡ Ok f ∷ next
+      → picked nest inner is_state e ≡ values_by (reading_at nest inner is_state cx) list f
+      → are_plain (picked nest inner is_state e) ≡ true
+      → are_plain (group_values (reading_at nest inner is_state cx) list (frames_in it)) ≡ all
+      → are_plain (group_values (reading_at nest inner is_state cx) list (frames_in next)) ≡ all
+  plain_next list cx f e it next all here looked plain was =
+      let behind = group_values (reading_at nest inner is_state cx) list (frames_in next) in
+      sym (ap are_plain (list_split nest inner is_state list cx f e it next here looked)
+      ∙ plain_append (picked nest inner is_state e) behind
+      ∙ ap (λ b. b && are_plain behind) plain)
+      ∙ was
+
+  pub not_plain : (list : Shape) (cx : Around) (f : Frame) (e : Option Attribute) (it next : List Item) (all : Bool)
+      → it ≡ Ok f ∷ next
+      → picked nest inner is_state e ≡ values_by (reading_at nest inner is_state cx) list f
+      → are_plain (picked nest inner is_state e) ≡ false
+      → are_plain (group_values (reading_at nest inner is_state cx) list (frames_in it)) ≡ all
+      → all ≡ false
+  not_plain list cx f e it next all here looked nested was =
+      let behind = group_values (reading_at nest inner is_state cx) list (frames_in next) in
+      sym was
+      ∙ ap are_plain (list_split nest inner is_state list cx f e it next here looked)
+      ∙ plain_append (picked nest inner is_state e) behind
+      ∙ ap (λ b. b && are_plain behind) nested
+
+pub none_kept : (is_state : Bool) (a : Attributes) → items a.bytes.now ≡ []
+    → find rest_step_now (rest_forest is_state a) ≡ None
+none_kept is_state a none =
+    ap (λ xs. find rest_step_now (forest (list_at rest_step_now
+    (kept_among is_state a.around.now a.list (frames_in xs))))) none
+
+-- ** lists of values as one value
+
+module _ (nest : Showing) (inner : Holding) (is_state : Bool) (side : Side) (text : List ℕ) where
+  abbrev held : Attributes → Held
+  held a = group_held nest inner is_state a
+
+  abbrev shown : Attributes → List Token
+  shown a = listed_shown (nest a.around.now) a.around.now a.list a.bytes.now
+
+  abbrev pub IsPlain : Attributes → Type 0
+  IsPlain a = (is_group a.list ≡ true) × (are_plain (group_at nest inner is_state a) ≡ true)
+
+  shown_is : (a : Attributes) → IsPlain a → shown a ≡ (held a).0
+  shown_is a plain = plain_shown nest inner is_state a.around.now a.list a.bytes.now plain.0 plain.1
+
+  pub flat_some : (own other : Attributes) (there : Option Attributes) (beside : Option (List Token))
+      (page new : Draft) → IsPlain own → there ≡ Some other → IfSome there IsPlain
+      → option_map (λ a. (held a).0) there ≡ beside
+      → new ≡ with_members (objects (leaf_items side text (shown own) (Some (shown other)))) page
+      → new ≡ with_members (objects (leaf_items side text (held own).0 beside)) page
+  flat_some own other there beside page new plain is each same told =
+      same_written (leaf_items side text (shown own) (Some (shown other)))
+      (leaf_items side text (held own).0 beside) page new
+      ((λ k. leaf_items side text (shown_is own plain k) (Some (shown_is other
+      (subst (λ (t : Option Attributes). IfSome t IsPlain) is each) k)))
+      ∙ ap (leaf_items side text (held own).0) (sym (ap (option_map (λ a. (held a).0)) is) ∙ same))
+      told
+
+  pub flat_none : (own : Attributes) (there : Option Attributes) (beside : Option (List Token)) (page new : Draft)
+      → IsPlain own → there ≡ None → option_map (λ a. (held a).0) there ≡ beside
+      → new ≡ with_members (objects (leaf_items side text (shown own) None)) page
+      → new ≡ with_members (objects (leaf_items side text (held own).0 beside)) page
+  flat_none own there beside page new plain is same told =
+      same_written (leaf_items side text (shown own) None) (leaf_items side text (held own).0 beside) page new
+      ((λ k. leaf_items side text (shown_is own plain k) None)
+      ∙ ap (leaf_items side text (held own).0) (sym (ap (option_map (λ a. (held a).0)) is) ∙ same))
+      told

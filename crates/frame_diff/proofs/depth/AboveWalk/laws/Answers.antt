@@ -1,0 +1,8 @@
+use Rattle.frame_diff.proofs.Classes.{above_apart, above_fieldless}
+use Rattle.frame_diff.proofs.depth.AboveWalk.laws.Goals as goal
+
+pub returns-clause-apart : goal.returns-clause-apart
+returns-clause-apart g c = above_apart g.W.Depth.nest g.W.Walk.inner c.laws.ensures.apart
+
+pub returns-clause-fieldless : goal.returns-clause-fieldless
+returns-clause-fieldless g c = above_fieldless g.W.Depth.nest g.W.Walk.inner

@@ -1,0 +1,545 @@
+//! What a list of values tells beside another one, place by place.
+
+ghost use Rattle.std.specs.Prelude.{◌≡◌, ◌<◌, ◌+◌, ◌^◌, Bool, IfSome, OnOk, decimal, false, not, option_map, true};
+ghost use Rattle.shown.specs.Drafts.{with_members};
+ghost use Rattle.frame_shown.specs.Items.{objects};
+ghost use Rattle.frame_diff.specs.Differences.{inside_in, leaf_in};
+ghost use Rattle.frame_diff.specs.Forests.{find};
+ghost use Rattle.frame_diff.specs.Groups.{are_plain, first_by, first_of, group_at, group_held, group_step, is_entries};
+ghost use Rattle.frame_diff.specs.Groups.{is_group, is_same_group, list_held, nest_in, nest_items, next_place};
+ghost use Rattle.frame_diff.specs.Groups.{picked, place_items, rest_by, rest_of, value_at, values_by};
+ghost use Rattle.frame_diff.specs.Inside.{above, inside_list};
+ghost use Rattle.frame_diff.specs.Items.{items_told, joined, leaf_items, step_text};
+ghost use Rattle.frame_diff.specs.Members.{places};
+ghost use Rattle.frame_diff.specs.Walked.{Holding, Showing, held_items, reading_at};
+
+use crate::counters::is_passed;
+use crate::leaf::{Texts, Value, tell_leaf};
+use crate::list::behind;
+use crate::lists::{is_without, none_of, tell_object};
+use crate::nests::is_nest;
+use crate::path::{join, join_place};
+use crate::value::tell_value;
+use crate::walk::{Attribute, Attributes, Pass, Walk};
+use frame_shown::depth::Above;
+use frame_shown::form::{Form, List, Way, is_kept, row_in};
+use nla_wire::{NlaBuffer, NlasIterator};
+use shown::Page;
+use std::alloc::AllocError;
+
+/// An attribute of a list, if it has a name.
+fn named<'a>(is_state: bool, list: Attributes<'a>, frame: &NlaBuffer<'a>) -> Option<Attribute<'a>>
+    requires { is_entries list.list ≡ false }
+    ensures values { (nest : Showing) (inner : Holding) → picked nest inner is_state result
+        ≡ values_by (reading_at nest inner is_state list.entry.around.now) list.entry.list frame.now }
+    ensures list { IfSome result (λ a. a.list ≡ list.entry.list) }
+{
+    let number = frame.kind();
+    if is_passed(is_state, list.list, number) {
+        return None;
+    }
+    let (_, way) = row_in(list.around, list.list, number);
+    if is_kept(way, frame.value()) {
+        return None;
+    }
+    Some(Attribute {
+        around: list.around,
+        list: list.list,
+        number,
+        way,
+        payload: frame.value(),
+    })
+}
+
+/// An attribute of a list of objects, if it is one.
+fn entry<'a>(is_state: bool, list: Attributes<'a>, frame: &NlaBuffer<'a>) -> Option<Attribute<'a>>
+    requires { is_entries list.list ≡ true }
+    ensures values { (nest : Showing) (inner : Holding) → picked nest inner is_state result
+        ≡ values_by (reading_at nest inner is_state list.entry.around.now) list.entry.list frame.now }
+    ensures list { IfSome result (λ a. a.list ≡ list.entry.list) }
+{
+    if frame.kind() != 1 {
+        return None;
+    }
+    Some(Attribute {
+        around: list.around,
+        list: list.list,
+        number: 1,
+        way: Way::Own(Form::Kept),
+        payload: frame.value(),
+    })
+}
+
+/// Whether the values of a list are those of its entries.
+fn is_entries(list: List) -> bool
+    ensures { is_entries list ≡ result }
+{
+    match list {
+        List::Entries(_) => true,
+        _ => false,
+    }
+}
+
+/// An attribute of a list, if it is one of its values.
+fn pick<'a>(is_state: bool, list: Attributes<'a>, frame: &NlaBuffer<'a>) -> Option<Attribute<'a>>
+    ensures values { (nest : Showing) (inner : Holding) → picked nest inner is_state result
+        ≡ values_by (reading_at nest inner is_state list.entry.around.now) list.entry.list frame.now }
+    ensures list { IfSome result (λ a. a.list ≡ list.entry.list) }
+{
+    if is_entries(list.list) {
+        entry(is_state, list, frame)
+    } else {
+        named(is_state, list, frame)
+    }
+}
+
+/// The first value of a list, and the list behind it.
+#[derive(Clone, Copy, Drop)]
+struct Taken<'a> {
+    /// The value, if there is one.
+    value: Option<Attribute<'a>>,
+    /// What is left.
+    rest: Attributes<'a>,
+}
+
+/// Takes the first value.
+fn take<'a>(is_state: bool, list: Attributes<'a>) -> Taken<'a>
+    ensures value { (nest : Showing) (inner : Holding)
+        → option_map (value_at nest inner is_state) result.value
+        ≡ first_of (group_at nest inner is_state list.entry) }
+    ensures rest { (nest : Showing) (inner : Holding) → group_at nest inner is_state result.rest
+        ≡ rest_of (group_at nest inner is_state list.entry) }
+    ensures list { IfSome result.value (λ a. a.list ≡ list.entry.list) }
+    ensures same { result.rest.list ≡ list.entry.list }
+{
+    let mut rest = list.bytes;
+    for item in NlasIterator::new(list.bytes) {
+        let Ok(frame) = item else {
+            break;
+        };
+        rest = behind(rest, &frame);
+        let value = pick(is_state, list, &frame);
+        if value.is_some() {
+            let rest = Attributes {
+                bytes: rest,
+                ..list
+            };
+            return Taken { value, rest };
+        }
+    }
+    Taken {
+        value: None,
+        rest: none_of(list),
+    }
+}
+
+/// Takes the first value, if there is an own one.
+fn take_beside<'a>(is_state: bool, own: Option<Attribute<'_>>, others: Attributes<'a>) -> Taken<'a>
+    ensures value { (nest : Showing) (inner : Holding)
+        → option_map (value_at nest inner is_state) result.value
+        ≡ first_by own.entry (group_at nest inner is_state others.entry) }
+    ensures rest { (nest : Showing) (inner : Holding) → group_at nest inner is_state result.rest
+        ≡ rest_by own.entry (group_at nest inner is_state others.entry) }
+    ensures list { IfSome result.value (λ a. a.list ≡ others.entry.list) }
+    ensures same { result.rest.list ≡ others.entry.list }
+{
+    match own {
+        Some(_) => take(is_state, others),
+        None => Taken {
+            value: None,
+            rest: others,
+        },
+    }
+}
+
+/// The list that an entry is.
+fn entry_list<'a>(own: Attribute<'a>) -> Attributes<'a>
+    requires { is_entries own.list ≡ true }
+    ensures held { (nest : Showing) (inner : Holding) (is_state : Bool)
+        → list_held nest inner is_state result ≡ value_at nest inner is_state own.entry }
+    ensures object { is_group result.list ≡ false }
+{
+    let list = match own.list {
+        List::Entries(group) => group.entry(),
+        list => list,
+    };
+    Attributes {
+        around: own.around,
+        list,
+        bytes: own.payload,
+    }
+}
+
+/// The list that another entry is, if there is one.
+fn entry_beside<'a>(beside: Option<Attribute<'a>>) -> Option<Attributes<'a>>
+    requires { IfSome beside (λ a. is_entries a.list ≡ true) }
+    ensures { (nest : Showing) (inner : Holding) (is_state : Bool)
+        → option_map (list_held nest inner is_state) result
+        ≡ option_map (value_at nest inner is_state) beside.entry }
+{
+    match beside {
+        Some(other) => Some(entry_list(other)),
+        None => None,
+    }
+}
+
+/// A list, where it holds no member.
+fn bare_beside<'a>(beside: Option<Attributes<'a>>) -> Option<Attributes<'a>>
+    ensures { (nest : Showing) (inner : Holding) (is_state : Bool)
+        → option_map (λ a. (list_held nest inner is_state a).0) result
+        ≡ leaf_in (option_map (list_held nest inner is_state) beside.entry) }
+{
+    match beside {
+        Some(other) => { if is_without(other) { Some(other) } else { None } }
+        None => None,
+    }
+}
+
+/// Tells of a list that holds no member beside another one.
+fn tell_bare<W: Walk>(
+    texts: &mut Texts,
+    pass: Pass,
+    page: &mut Page,
+    path: &str,
+    own: Attributes<'_>,
+    beside: Option<Attributes<'_>>,
+) -> Result<(), AllocError>
+    ensures { OnOk result (page.new ≡ with_members (objects (leaf_items pass.side path.now
+        (list_held W.nest W.inner pass.is_state own.entry).0
+        (leaf_in (option_map (list_held W.nest W.inner pass.is_state) beside.entry)))) page.old) }
+{
+    let value = Value::Payload(Way::Own(Form::List(own.list)), own.bytes);
+    match bare_beside(beside) {
+        Some(other) => {
+            let there = Some(Value::Payload(Way::Own(Form::List(other.list)), other.bytes));
+            let theirs = other.around;
+            tell_leaf::<Above<W>>(
+                texts, own.around, theirs, page, path, pass.side, value, there,
+            )
+        }
+        None => tell_leaf::<Above<W>>(
+            texts, own.around, own.around, page, path, pass.side, value, None,
+        ),
+    }
+}
+
+/// Tells of an object beside another one, if there is one.
+fn tell_entry<W: Walk>(
+    texts: &mut Texts,
+    pass: Pass,
+    page: &mut Page,
+    path: &str,
+    own: Attributes<'_>,
+    beside: Option<Attributes<'_>>,
+) -> Result<(), AllocError>
+    requires { is_group own.list ≡ false }
+    ensures { OnOk result (page.new ≡ with_members (objects (held_items pass.side path.now
+        (list_held W.nest W.inner pass.is_state own.entry)
+        (option_map (list_held W.nest W.inner pass.is_state) beside.entry))) page.old) }
+{
+    if is_without(own) {
+        return tell_bare::<W>(texts, pass, page, path, own, beside);
+    }
+    tell_object::<W>(texts, pass, page, path, own, beside)
+}
+
+/// Tells of a value beside another one.
+fn tell_picked<W: Walk>(
+    texts: &mut Texts,
+    pass: Pass,
+    page: &mut Page,
+    path: &str,
+    own: Attribute<'_>,
+    beside: Option<Attribute<'_>>,
+) -> Result<(), AllocError>
+    requires { IfSome beside (λ a. is_entries a.list ≡ is_entries own.list) }
+    ensures { OnOk result (page.new ≡ with_members (objects (held_items pass.side path.now
+        (value_at W.nest W.inner pass.is_state own.entry)
+        (option_map (value_at W.nest W.inner pass.is_state) beside.entry))) page.old) }
+{
+    let pass = Pass {
+        is_alike: false,
+        ..pass
+    };
+    if is_entries(own.list) {
+        let own = entry_list(own);
+        let there = entry_beside(beside);
+        return tell_entry::<W>(texts, pass, page, path, own, there);
+    }
+    tell_value::<W>(texts, pass, page, path, own, beside)
+}
+
+/// Another value, where it is an object or a list.
+fn nest_beside<'a, W: Walk>(beside: Option<Attribute<'a>>) -> Option<Attribute<'a>>
+    ensures value { (is_state : Bool) → option_map (value_at W.nest W.inner is_state) result
+        ≡ nest_in (option_map (value_at W.nest W.inner is_state) beside.entry) }
+    ensures list { (same : Bool) → IfSome beside.entry (λ a. is_entries a.list ≡ same)
+        → IfSome result (λ a. is_entries a.list ≡ same) }
+{
+    match beside {
+        Some(other) => {
+            if is_nest::<W>(other) {
+                Some(other)
+            } else {
+                None
+            }
+        }
+        None => None,
+    }
+}
+
+/// Tells of a value at its place, if it is an object or a list.
+fn tell_nest<W: Walk>(
+    texts: &mut Texts,
+    pass: Pass,
+    page: &mut Page,
+    path: &str,
+    place: usize,
+    own: Attribute<'_>,
+    beside: Option<Attribute<'_>>,
+) -> Result<(), AllocError>
+    requires { IfSome beside (λ a. is_entries a.list ≡ is_entries own.list) }
+    ensures { OnOk result (page.new ≡ with_members (objects (nest_items pass.side
+        (joined path.now (decimal place)) (value_at W.nest W.inner pass.is_state own.entry)
+        (option_map (value_at W.nest W.inner pass.is_state) beside.entry))) page.old) }
+{
+    if !is_nest::<W>(own) {
+        return Ok(());
+    }
+    let text = join_place(texts.alloc, path, place)?;
+    let there = nest_beside::<W>(beside);
+    tell_picked::<W>(texts, pass, page, text.as_str(), own, there)
+}
+
+/// Tells of a value at its place, if there is one.
+fn tell_place<W: Walk>(
+    texts: &mut Texts,
+    pass: Pass,
+    page: &mut Page,
+    path: &str,
+    place: usize,
+    own: Option<Attribute<'_>>,
+    beside: Option<Attribute<'_>>,
+) -> Result<(), AllocError>
+    requires { IfSome own (λ a. IfSome beside (λ b. is_entries b.list ≡ is_entries a.list)) }
+    ensures { OnOk result (page.new ≡ with_members (objects (place_items pass.side path.now place
+        (option_map (value_at W.nest W.inner pass.is_state) own.entry)
+        (option_map (value_at W.nest W.inner pass.is_state) beside.entry))) page.old) }
+{
+    match own {
+        Some(own) => tell_nest::<W>(texts, pass, page, path, place, own, beside),
+        None => Ok(()),
+    }
+}
+
+/// The place of the next one.
+fn next_place(own: Option<Attribute<'_>>, place: usize) -> usize
+    requires { place + 1 < 2 ^ 64 }
+    ensures { result ≡ next_place own.entry place }
+{
+    match own {
+        Some(_) => place + 1,
+        None => place,
+    }
+}
+
+/// Tells of the values of a list, each beside the one at its place in another list.
+fn tell_places<W: Walk>(
+    texts: &mut Texts,
+    pass: Pass,
+    page: &mut Page,
+    path: &str,
+    own: Attributes<'_>,
+    others: Attributes<'_>,
+) -> Result<(), AllocError>
+    requires { is_entries others.list ≡ is_entries own.list }
+    ensures { OnOk result (page.new ≡ with_members (objects (items_told pass.side path.now
+        (places (group_at W.nest W.inner pass.is_state own.entry))
+        (places (group_at W.nest W.inner pass.is_state others.entry)))) page.old) }
+{
+    let mut place = 0;
+    let mut rest = others;
+    for item in NlasIterator::new(own.bytes) {
+        let Ok(frame) = item else {
+            break;
+        };
+        let value = pick(pass.is_state, own, &frame);
+        let taken = take_beside(pass.is_state, value, rest);
+        tell_place::<W>(texts, pass, page, path, place, value, taken.value)?;
+        rest = taken.rest;
+        place = next_place(value, place);
+    }
+    Ok(())
+}
+
+/// Whether an attribute is an object or a list, if there is one.
+fn is_deep<W: Walk>(own: Option<Attribute<'_>>) -> bool
+    ensures { (is_state : Bool) → are_plain (picked W.nest W.inner is_state own.entry) ≡ not result }
+{
+    match own {
+        Some(own) => is_nest::<W>(own),
+        None => false,
+    }
+}
+
+/// Whether none of the values of a list is an object or a list.
+fn are_plain<W: Walk>(is_state: bool, list: Attributes<'_>) -> bool
+    ensures { are_plain (group_at W.nest W.inner is_state list.entry) ≡ result }
+{
+    for item in NlasIterator::new(list.bytes) {
+        let Ok(frame) = item else {
+            break;
+        };
+        let value = pick(is_state, list, &frame);
+        if is_deep::<W>(value) {
+            return false;
+        }
+    }
+    true
+}
+
+/// Another list, where none of its values is an object or a list.
+fn plain_beside<'a, W: Walk>(
+    is_state: bool,
+    beside: Option<Attributes<'a>>,
+) -> Option<Attributes<'a>>
+    requires { IfSome beside (λ a. is_group a.list ≡ true) }
+    ensures value { option_map (λ a. (group_held W.nest W.inner is_state a).0) result
+        ≡ leaf_in (option_map (group_held W.nest W.inner is_state) beside.entry) }
+    ensures plain { IfSome result (λ a. (is_group a.list ≡ true)
+        × (are_plain (group_at W.nest W.inner is_state a) ≡ true)) }
+{
+    match beside {
+        Some(other) => {
+            if are_plain::<W>(is_state, other) {
+                Some(other)
+            } else {
+                None
+            }
+        }
+        None => None,
+    }
+}
+
+/// Tells of a list of values as one value beside another list.
+fn tell_flat<W: Walk>(
+    texts: &mut Texts,
+    pass: Pass,
+    page: &mut Page,
+    path: &str,
+    own: Attributes<'_>,
+    beside: Option<Attributes<'_>>,
+) -> Result<(), AllocError>
+    requires own { is_group own.list ≡ true }
+    requires plain { are_plain (group_at W.nest W.inner pass.is_state own) ≡ true }
+    requires beside { IfSome beside (λ a. is_group a.list ≡ true) }
+    ensures { OnOk result (page.new ≡ with_members (objects (leaf_items pass.side path.now
+        (group_held W.nest W.inner pass.is_state own.entry).0
+        (leaf_in (option_map (group_held W.nest W.inner pass.is_state) beside.entry)))) page.old) }
+{
+    let value = Value::Listed(own.list, own.bytes);
+    match plain_beside::<W>(pass.is_state, beside) {
+        Some(other) => {
+            let there = Some(Value::Listed(other.list, other.bytes));
+            let theirs = other.around;
+            tell_leaf::<W>(
+                texts, own.around, theirs, page, path, pass.side, value, there,
+            )
+        }
+        None => tell_leaf::<W>(
+            texts, own.around, own.around, page, path, pass.side, value, None,
+        ),
+    }
+}
+
+/// Another list of values; one without values where it is none.
+fn values_beside<'a>(own: Attributes<'a>, beside: Option<Attributes<'a>>) -> Attributes<'a>
+    requires { IfSome beside (λ a. is_entries a.list ≡ is_entries own.list) }
+    ensures places { (nest : Showing) (inner : Holding) (is_state : Bool)
+        → places (group_at nest inner is_state result)
+        ≡ inside_in (option_map (group_held nest inner is_state) beside.entry) }
+    ensures same { is_entries result.list ≡ is_entries own.entry.list }
+{
+    match beside {
+        Some(other) => other,
+        None => none_of(own),
+    }
+}
+
+/// Tells of a list of values beside another one, if there is one.
+fn tell_values<W: Walk>(
+    texts: &mut Texts,
+    pass: Pass,
+    page: &mut Page,
+    path: &str,
+    own: Attributes<'_>,
+    beside: Option<Attributes<'_>>,
+) -> Result<(), AllocError>
+    requires own { is_group own.list ≡ true }
+    requires group { IfSome beside (λ a. is_group a.list ≡ true) }
+    requires same { IfSome beside (λ a. is_entries a.list ≡ is_entries own.list) }
+    ensures { OnOk result (page.new ≡ with_members (objects (held_items pass.side path.now
+        (group_held W.nest W.inner pass.is_state own.entry)
+        (option_map (group_held W.nest W.inner pass.is_state) beside.entry))) page.old) }
+{
+    if are_plain::<W>(pass.is_state, own) {
+        return tell_flat::<W>(texts, pass, page, path, own, beside);
+    }
+    let others = values_beside(own, beside);
+    tell_places::<W>(texts, pass, page, path, own, others)
+}
+
+/// Whether two lists are lists of values under one name.
+fn is_same_group(own: List, other: List) -> bool
+    ensures { result ≡ is_same_group own other }
+{
+    match (own, other) {
+        (List::Listed(one, _), List::Listed(two, _)) => two.name() == one.name(),
+        (List::Entries(one), List::Entries(two)) => two.name() == one.name(),
+        _ => false,
+    }
+}
+
+/// Another list of values under the same name.
+fn group_beside<'a>(own: List, beside: Option<Attributes<'a>>) -> Option<Attributes<'a>>
+    requires { is_group own ≡ true }
+    ensures held { (nest : Showing) (inner : Holding) (is_state : Bool)
+        → option_map (group_held nest inner is_state) result
+        ≡ find (group_step own) (inside_list (above nest inner) is_state beside.entry) }
+    ensures group { IfSome result (λ a. is_group a.list ≡ true) }
+    ensures same { IfSome result (λ a. is_entries a.list ≡ is_entries own) }
+{
+    match beside {
+        Some(other) => {
+            if is_same_group(own, other.list) {
+                Some(other)
+            } else {
+                None
+            }
+        }
+        None => None,
+    }
+}
+
+/// Tells of a list of values under its name beside another list, if there is one.
+pub(crate) fn tell_group<W: Walk>(
+    texts: &mut Texts,
+    pass: Pass,
+    page: &mut Page,
+    path: &str,
+    name: &str,
+    own: Attributes<'_>,
+    beside: Option<Attributes<'_>>,
+) -> Result<(), AllocError>
+    requires group { is_group own.list ≡ true }
+    requires name { name.now ≡ step_text (group_step own.list) }
+    ensures { OnOk result (page.new ≡ with_members (objects (held_items pass.side
+        (joined path.now (step_text (group_step own.entry.list)))
+        (group_held W.nest W.inner pass.is_state own.entry)
+        (find (group_step own.entry.list)
+        (inside_list (above W.nest W.inner) pass.is_state beside.entry)))) page.old) }
+{
+    let text = join(texts.alloc, path, name)?;
+    let there = group_beside(own.list, beside);
+    tell_values::<W>(texts, pass, page, text.as_str(), own, there)
+}
