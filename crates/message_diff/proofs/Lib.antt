@@ -34,5 +34,6 @@ pub mod Unlike
 pub mod ByPath
 pub mod ByLabel
 pub mod Counted
+pub mod OtherPaths
 pub mod LeftOut
 pub mod Clauses

@@ -1,6 +1,6 @@
 //! The paths of what IFLA_PROTINFO counts of IPv6. Such a record may be shorter than its names.
 
-ghost use Rattle.std.specs.Prelude.{◌≡◌};
+ghost use Rattle.std.specs.Prelude.{◌≡◌, false, true};
 ghost use Rattle.message_diff.specs.Ipv6.{begins, behind_point, last_path};
 ghost use Rattle.message_diff.specs.Ipv6.{is_counted, is_in_protinfo, is_ipv6_counter};
 
@@ -53,8 +53,32 @@ fn is_in_protinfo(path: &[u8]) -> bool
     }
 }
 
+/// Whether the first letter of a path says that it is none of counters: that is so of most.
+#[inline(always)]
+#[tactic(auto, using(crate::proofs::OtherPaths::none_counted, crate::proofs::OtherPaths::other_path))]
+fn begins_otherwise(path: &[u8]) -> bool
+    ensures { result ≡ true → is_ipv6_counter path.now ≡ false }
+{
+    match path {
+        [first, ..] => *first != b'p' && *first != b'r',
+        [] => true,
+    }
+}
+
 /// Whether a path is one of counters in an `IFLA_PROTINFO`.
+#[inline(always)]
 pub fn is_ipv6_counter(path: &[u8]) -> bool
+    ensures { result ≡ is_ipv6_counter path.now }
+{
+    if begins_otherwise(path) {
+        return false;
+    }
+    is_counter_path(path)
+}
+
+/// The same, by the whole path.
+#[inline(never)]
+fn is_counter_path(path: &[u8]) -> bool
     ensures { result ≡ is_ipv6_counter path.now }
 {
     is_in_protinfo(last_path(path))

@@ -40,7 +40,26 @@ fn is_in_protinfo(path: &[u8]) -> bool {
     }
 }
 
+/// Whether the first letter of a path says that it is none of counters: that is so of most.
+#[inline(always)]
+fn begins_otherwise(path: &[u8]) -> bool {
+    match path {
+        [first, ..] => *first != b'p' && *first != b'r',
+        [] => true,
+    }
+}
+
 /// Whether a path is one of counters in an `IFLA_PROTINFO`.
+#[inline(always)]
 pub fn is_ipv6_counter(path: &[u8]) -> bool {
+    if begins_otherwise(path) {
+        return false;
+    }
+    is_counter_path(path)
+}
+
+/// The same, by the whole path.
+#[inline(never)]
+fn is_counter_path(path: &[u8]) -> bool {
     is_in_protinfo(last_path(path))
 }
