@@ -19,24 +19,23 @@ use Rattle.shown.proofs.Pages.{whole_text}
 use Rattle.message_diff.specs.Differences.{AreDiffs, Leaf}
 use Rattle.message_diff.specs.Listed.{leaves_in}
 use Rattle.message_diff.specs.Marked.{AreMarksOf}
-use Rattle.message_diff.specs.Parts.{are_alike, are_single, family_of, have_parts, named_in, part, part_if, same_family}
+use Rattle.message_diff.specs.Parts.{are_alike, family_of, have_parts, part, part_if, same_family}
 use Rattle.message_diff.specs.Shown.{AreBeside, IsShown, leaves_of}
 use Rattle.message_diff.specs.Trees.{Forest, IsGood, beside}
 use Rattle.message_diff.specs.declared.desk.Pair.{Pair}
 use Rattle.message_diff.specs.declared.leaves.Leaves.{Leaves}
 use Rattle.message_diff.proofs.Taken.{taken_differ}
-use Rattle.diff_laws.specs.Compared.{AllIsTold, AllIsToldLeniently, ArePaired, HasEachOnce, TellsAll}
+use Rattle.diff_laws.specs.Compared.{AllIsTold, AllIsToldLeniently, ArePaired, TellsAll}
 use Rattle.diff_laws.specs.Good.{AreNamed, IsShort, IsShortOf}
 use Rattle.diff_laws.specs.LeftOut.{AreTrees, HaveParts, IsCanonical, IsTree, part_of}
 use Rattle.diff_laws.specs.Leniently.{AreTreesOf, HavePartsLeniently, IsCanonicalLeniently, IsTreeOf}
 use Rattle.diff_laws.proofs.Built.{built_means}
 use Rattle.diff_laws.proofs.Cut.{refuses}
-use Rattle.diff_laws.proofs.GoodLeniently.{split_good}
+use Rattle.diff_laws.proofs.GoodLeniently.{parts_have_trees, split_good}
 use Rattle.diff_laws.proofs.Inside.{inside_by}
 use Rattle.diff_laws.proofs.LeftOut.{leaves_are, parts_mean}
 use Rattle.diff_laws.proofs.Lenient.{IsSplit, canonical_split, meant_built, means_leniently, nothing_meant}
-use Rattle.diff_laws.proofs.Leniently.{both_split, lenient_leaves_are, part_split, parts_have_trees, split_single}
-use Rattle.diff_laws.proofs.Parts.{part_single}
+use Rattle.diff_laws.proofs.Leniently.{both_split, lenient_leaves_are, part_split}
 use Rattle.diff_laws.proofs.PlainNames.{plain_is_named}
 use Rattle.diff_laws.proofs.Trees.{good_apart, have_trees, marks_tell, message_object, object_good}
 
@@ -97,8 +96,8 @@ meant_page cx named bytes m page f shown small means tree =
 -- ** leniently
 
 module _ (cx : Context) (named : AreNamed cx) (family : AddressFamily) (b : List ℕ) (s : IsSplit family b)
-    (single : are_single (named_in family s.frames) ≡ true) (page : MarkedText) (f : Forest) (shown : Shows cx b page)
-    (small : length page.text < 2 ^ 64) (tree : IsTreeOf cx b f) where
+    (page : MarkedText) (f : Forest) (shown : Shows cx b page) (small : length page.text < 2 ^ 64)
+    (tree : IsTreeOf cx b f) where
   page_marks : AreMarksOf page.text 0 page.marks f
   page_marks = by (filter (refuses family) s.frames) refl
     where
@@ -117,7 +116,7 @@ module _ (cx : Context) (named : AreNamed cx) (family : AddressFamily) (b : List
   split_page = record {
     marks = page_marks;
     good =
-        split_good cx named family b s single f
+        split_good cx named family b s f
         (record {
           meant = λ m means. page_short (message_members cx b m) page (shown.meant m means) small;
           leniently = λ m means nothing.
@@ -234,27 +233,24 @@ module _ (law : ShownByOrder) (orders : Order × Order) (old new : List ℕ) (pa
   -- ** leniently
 
   module _ (m n : LinkMessage) (f g : Forest) (was : IsCanonicalLeniently old m) (now_is : IsCanonicalLeniently new n)
-      (once : HasEachOnce old) (once_too : HasEachOnce new) (short : IsShortOf cx old) (short_too : IsShortOf other new)
-      (tree : IsTreeOf cx old f) (tree_too : IsTreeOf other new g) where
+      (short : IsShortOf cx old) (short_too : IsShortOf other new) (tree : IsTreeOf cx old f)
+      (tree_too : IsTreeOf other new g) where
     abbrev family : AddressFamily
     family = m.header.interface_family
 
     split_f : IsGood inside_by f
-    split_f =
-        split_good cx named family old (canonical_split old m was) (split_single old m was once) f short tree
+    split_f = split_good cx named family old (canonical_split old m was) f short tree
 
     split_g : IsGood inside_by g
     split_g =
-        split_good other named_too n.header.interface_family new (canonical_split new n now_is)
-        (split_single new n now_is once_too) g short_too tree_too
+        split_good other named_too n.header.interface_family new (canonical_split new n now_is) g short_too tree_too
 
     leniently_whole : pair.is_part ≡ false → TellsAll pair f g
     leniently_whole is =
         changes_told pair f g f g split_f split_g
-        (split_page cx named family old (canonical_split old m was) (split_single old m was once) pair.old.page f
+        (split_page cx named family old (canonical_split old m was) pair.old.page f
         (old_shows old (ap (λ b. part_if b old new) is)) paired.old_small tree)
-        (split_page other named_too n.header.interface_family new (canonical_split new n now_is)
-        (split_single new n now_is once_too) pair.new.page g
+        (split_page other named_too n.header.interface_family new (canonical_split new n now_is) pair.new.page g
         (new_shows other paired.new_plain new (ap (λ b. part_if b new old) is)) paired.new_small tree_too)
         paired.compared.old_leaves paired.compared.new_leaves (refl, refl)
 
@@ -282,12 +278,10 @@ module _ (law : ShownByOrder) (orders : Order × Order) (old new : List ℕ) (pa
         let few_is : part_of old new ≡ part family old new = ap (λ x. part x old new) split.old_family in
         let less_is : part_of new old ≡ part family new old = ap (λ x. part x new old) split.new_family in
         changes_told pair f g few less split_f split_g
-        (split_page cx named family (part family old new) (part_split family old new a b)
-        (part_single family a.frames b.frames split.alike.single) pair.old.page few
+        (split_page cx named family (part family old new) (part_split family old new a b) pair.old.page few
         (old_shows (part family old new) (ap (λ b. part_if b old new) is ∙ few_is)) paired.old_small
         (subst (λ (b : List ℕ). IsTreeOf cx b few) few_is trees.few_tree))
-        (split_page cx named family (part family new old) (part_split family new old b a)
-        (part_single family b.frames a.frames split.alike.single_too) pair.new.page less
+        (split_page cx named family (part family new old) (part_split family new old b a) pair.new.page less
         (new_shows cx one.plain (part family new old) (ap (λ b. part_if b new old) is ∙ less_is)) paired.new_small
         (subst (λ (b : List ℕ). IsTreeOf cx b less) less_is trees.less_tree)) paired.compared.old_leaves
         paired.compared.new_leaves (lenient_leaves_are cx old new m n f g few less have trees)
@@ -304,7 +298,5 @@ all_is_told law orders old new pair cx other m n f g paired canonical canonical_
     told_strictly law orders old new pair cx other paired m n f g canonical canonical_too short short_too tree tree_too
 
 pub all_is_told_leniently : ShownByOrder → AllIsToldLeniently
-all_is_told_leniently law orders old new pair cx other m n f g paired was now_is once once_too short short_too tree
-    tree_too =
-    told_leniently law orders old new pair cx other paired m n f g was now_is once once_too short short_too tree
-    tree_too
+all_is_told_leniently law orders old new pair cx other m n f g paired was now_is short short_too tree tree_too =
+    told_leniently law orders old new pair cx other paired m n f g was now_is short short_too tree tree_too

@@ -2,7 +2,7 @@
 use Rattle.std.proofs.Common.{◌≡◌, ℕ, Bool, true, false, List, [], ◌∷◌, ◌++◌, refl, sym, ap, ◌∙◌, subst, map}
 use Rattle.std.proofs.Common.{inl, inr, length}
 use Rattle.std.specs.Prelude.{◌==◌, ◌⊎◌, cond, not, is_ok, Result, Ok, Err, None}
-use Rattle.std.specs.List.{AllByRecursion, concat, filter, flat_map}
+use Rattle.std.specs.List.{AllByRecursion, concat, filter}
 use Rattle.std.proofs.lemmas.Bool.{eqb-true}
 use Rattle.hex.specs.Hex.{encode_lower}
 use Rattle.json.specs.Token.{Token, string}
@@ -24,7 +24,7 @@ use Rattle.link_msg.specs.declared.attribute.LinkAttribute.TheVariants as Attrib
 use Rattle.link_msg.specs.declared.numbers.TheConstants.{IFLA_ADDRESS, IFLA_AF_SPEC}
 use Rattle.link_msg.specs.declared.shape.Shape.{Shape}
 use Rattle.message_shown.specs.Leniently.{accepted, taken}
-use Rattle.message_shown.specs.Raw.{kernel_name, raw_members}
+use Rattle.message_shown.specs.Raw.{kernel_name, raw_frames}
 use Rattle.message_diff.specs.Frames.{frame_number}
 use Rattle.message_diff.specs.Parts.{are_kept, has_settings, is_kept}
 use Rattle.diff_laws.proofs.Frames.{framed, framed_back, number_in}
@@ -177,20 +177,18 @@ abbrev pub raw_member : List ℕ → List ℕ × List Token
 raw_member f = (kernel_name (framed f).kind, string (encode_lower (framed f).payload) ∷ [])
 
 pub raws_are : (family : AddressFamily) (at : ℕ) (fs : List (List ℕ))
-    → flat_map (λ t. raw_members t.frame) (told family at (all_frames (frames_in fs)))
-    ≡ map raw_member (filter (refuses family) fs)
+    → raw_frames (told family at (all_frames (frames_in fs))) ≡ frames_in (filter (refuses family) fs)
 raws_are family at [] = refl
 raws_are family at (f ∷ fs) =
     by ((attribute_place family).reads (framed f)) (raws_are family (after at (framed f)) fs)
   where
     by : (r : Result LinkAttribute Cause)
-        → flat_map (λ t. raw_members t.frame) (told family (after at (framed f)) (all_frames (frames_in fs)))
-        ≡ map raw_member (filter (refuses family) fs)
-        → flat_map (λ t. raw_members t.frame)
-        (told_on family at (framed f) r (told family (after at (framed f)) (all_frames (frames_in fs))))
-        ≡ map raw_member (cond (not (is_ok r)) (f ∷ filter (refuses family) fs) (filter (refuses family) fs))
+        → raw_frames (told family (after at (framed f)) (all_frames (frames_in fs)))
+        ≡ frames_in (filter (refuses family) fs)
+        → raw_frames (told_on family at (framed f) r (told family (after at (framed f)) (all_frames (frames_in fs))))
+        ≡ frames_in (cond (not (is_ok r)) (f ∷ filter (refuses family) fs) (filter (refuses family) fs))
     by (Ok v) rest = rest
-    by (Err c) rest = ap (λ l. raw_member f ∷ l) rest
+    by (Err c) rest = ap (λ (l : List Frame). framed f ∷ l) rest
 
 -- ** all of them
 

@@ -5,7 +5,7 @@ use Rattle.std.proofs.Math.Seq.{drop-append_seam, take-append_seam}
 use Rattle.std.proofs.lemmas.List.{take-append-drop}
 use Rattle.std.specs.Prelude.{◌-◌, ◌⊎◌, codes, cond, not, is_ok}
 use Rattle.std.specs.Int.{w16}
-use Rattle.std.specs.List.{AllByRecursion, concat, filter, flat_map}
+use Rattle.std.specs.List.{AllByRecursion, concat, filter}
 use Rattle.json.specs.Json.{object, Members as Fields}
 use Rattle.json.specs.Tree.{json_tokens}
 use Rattle.nla_wire.specs.Canon.{canon, canons}
@@ -35,7 +35,7 @@ use Rattle.message_shown.specs.Attributes.{around, attribute_said, header_member
 use Rattle.message_shown.specs.Contexts.{address_len_in}
 use Rattle.message_shown.specs.Leniently.{accepted, accepted_part}
 use Rattle.message_shown.specs.Places.{items_of, members_of}
-use Rattle.message_shown.specs.Raw.{lenient_members, raw_members}
+use Rattle.message_shown.specs.Raw.{lenient_members, raw_frames, raw_items}
 use Rattle.message_shown.specs.declared.context.Context.{Context}
 use Rattle.shown.specs.Drafts.{Members, object_of}
 use Rattle.shown.specs.Values.{numbered}
@@ -44,14 +44,14 @@ use Rattle.message_diff.specs.Parts.{are_single, frame_at, is_kept, named_in}
 use Rattle.message_diff.specs.Trees.{Forest, members_forest}
 use Rattle.message_diff.proofs.LeftOut.{followed, whole_tree}
 use Rattle.diff_laws.specs.Leniently.{IsCanonicalLeniently, IsTreeOf}
-use Rattle.diff_laws.proofs.Among.{address_among, filter_swap}
+use Rattle.diff_laws.proofs.Among.{address_among, filter_swap, refused_named}
 use Rattle.diff_laws.proofs.Built.{IsBuilt, built_means, len_is, shown_is}
 use Rattle.diff_laws.proofs.Cut.{IsCut, AreCut, accepts, refuses, accepted_are, cut_frame, frames_cut, frames_in}
 use Rattle.diff_laws.proofs.Cut.{items_cut}
 use Rattle.diff_laws.proofs.Cut.{raw_member, raws_are}
 use Rattle.diff_laws.proofs.Frames.{IsWhole, framed, frames_whole}
 use Rattle.diff_laws.proofs.Parts.{filter_all, single_filtered}
-use Rattle.diff_laws.proofs.Raw.{raw_holder, refused_at, refused_fields, refused_tokens}
+use Rattle.diff_laws.proofs.Raw.{raw_each, raw_holder, refused_at, refused_fields, refused_tokens}
 use Rattle.diff_laws.proofs.Read.{AreRead, address_for, items_for, values_in}
 use Rattle.diff_laws.proofs.Showing.{head, followed_none, message_fields, message_tokens, message_tree, showing}
 use Rattle.diff_laws.proofs.Trees.{one_tree}
@@ -218,6 +218,14 @@ module _ (family : AddressFamily) (b : List ℕ) (s : IsSplit family b) where
         refl,
       )
 
+  -- what is refused is told
+  pub told_is : raw_frames (told_all b) ≡ frames_in (filter (refuses family) s.frames)
+  unfolding told_all
+  told_is =
+      let turn : (header_of (take 16 b)).interface_family ≡ family =
+      ap (λ (v : LinkHeader). v.interface_family) (sym s.header.says) ∙ s.family_is in
+      (λ i. raw_frames (told (turn i) 16 (items_is i))) ∙ raws_are family 16 s.frames
+
   -- where none is refused they mean a message
   pub meant_built : filter (refuses family) s.frames ≡ []
       → (m : LinkMessage) × (built : IsBuilt family b m) × (built.frames ≡ filter (accepts family) s.frames)
@@ -262,6 +270,12 @@ unfolding canonical_split
 canonical_frames b m c = split_frames m.header.interface_family b (canonical_split b m c)
 
 -- ** what is shown of them
+
+pub single_left : (family : AddressFamily) (fs : List (List ℕ)) → AreCut family fs
+    → are_single (named_in family fs) ≡ true
+    → are_single (filter (refuses family) fs) ≡ true
+single_left family fs cut single =
+    ap are_single (refused_named family fs cut) ∙ single_filtered (refuses family) (named_in family fs) single
 
 module _ (cx : Context) (family : AddressFamily) (b : List ℕ) (s : IsSplit family b)
     (single : are_single (named_in family s.frames) ≡ true) where
@@ -313,14 +327,6 @@ module _ (cx : Context) (family : AddressFamily) (b : List ℕ) (s : IsSplit fam
   abbrev raw : List (List ℕ) → Members
   raw rs = (codes "refused", object_of (map raw_member rs)) ∷ []
 
-  pub told_is : flat_map (λ t. raw_members t.frame) (told_all b) ≡ map raw_member (filter (refuses family) s.frames)
-  unfolding told_all
-  told_is =
-      let turn : (header_of (take 16 b)).interface_family ≡ family =
-      ap (λ (v : LinkHeader). v.interface_family) (sym s.header.says) ∙ s.family_is in
-      (λ i. flat_map (λ t. raw_members t.frame) (told (turn i) 16 (items_is family b s i)))
-      ∙ raws_are family 16 s.frames
-
   members_are : (m : LinkMessage) → m.header ≡ s.fields
       → (read : AreRead family (filter (accepts family) s.frames))
       → accepted family (all_frames (frames_in s.frames)) ≡ values_in family (filter (accepts family) s.frames) read
@@ -338,20 +344,20 @@ module _ (cx : Context) (family : AddressFamily) (b : List ℕ) (s : IsSplit fam
       λ i. numbered (codes "ifi-family") (address_family_number (turn i)) ∷ header_members b
       ++ members_of (items_of attribute_frame (attribute_said (at i)) (attributes i))
 
-  abbrev pub lenient_fields : List ℕ → List (List ℕ) → Fields
+  abbrev lenient_fields : List ℕ → List (List ℕ) → Fields
   lenient_fields r rs =
       message_fields (known_for cx family s.frames) family b (filter (accepts family) s.frames)
       (refused_fields (r ∷ rs))
 
-  pub lenient_tokens : (r : List ℕ) (rs : List (List ℕ)) → filter (refuses family) s.frames ≡ r ∷ rs → (m : LinkMessage)
+  lenient_tokens : (r : List ℕ) (rs : List (List ℕ)) → filter (refuses family) s.frames ≡ r ∷ rs → (m : LinkMessage)
       → m.header ≡ s.fields
       → object_of (lenient_members cx b m) ≡ json_tokens (object (lenient_fields r rs))
   lenient_tokens r rs some m fields =
       let both = accepted_are family s.frames s.cut in
-      ap object_of
-      (λ i. members_are m fields both.0 both.1 i
-      ++ (codes "refused", object_of ((told_is ∙ ap (map raw_member) some) i))
-      ∷ [])
+      let raws : members_of (raw_items (raw_frames (told_all b))) ≡ map raw_member (r ∷ rs) =
+      ap (λ (fs : List Frame). members_of (raw_items fs)) (told_is family b s ∙ ap (λ fs. frames_in fs) some)
+      ∙ raw_each (r ∷ rs) (sym (ap are_single some) ∙ single_left family s.frames s.cut single) in
+      ap object_of (λ i. members_are m fields both.0 both.1 i ++ (codes "refused", object_of (raws i)) ∷ [])
       ∙ message_tokens (known_for cx family s.frames) family b (filter (accepts family) s.frames) both.0 single_ok
       (refused_fields (r ∷ rs)) (raw (r ∷ rs)) (refused_tokens r rs)
 

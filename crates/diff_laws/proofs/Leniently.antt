@@ -12,34 +12,27 @@ use Rattle.nla_wire.proofs.Back.{all_filtered}
 use Rattle.nla_wire.proofs.FieldLemmas.{number_at_before}
 use Rattle.link_vals.specs.declared.address_family.AddressFamily.{AddressFamily}
 use Rattle.link_msg.specs.Lenient.{MeansLeniently}
-use Rattle.link_msg.specs.Messages.{Means}
 use Rattle.link_msg.specs.declared.message.LinkMessage.{LinkMessage}
 use Rattle.link_msg.specs.declared.numbers.TheConstants.{IFLA_ADDRESS}
-use Rattle.link_msg.proofs.Leniently.{one_lenient}
-use Rattle.message_shown.specs.Attributes.{message_members}
 use Rattle.message_shown.specs.declared.context.Context.{Context}
 use Rattle.message_diff.specs.Differences.{diffs}
 use Rattle.message_diff.specs.Frames.{frames_of}
 use Rattle.message_diff.specs.Parts.{is_kept, is_taken, kept_in, same_family, unless_same}
-use Rattle.message_diff.specs.Trees.{Forest, beside, members_forest}
+use Rattle.message_diff.specs.Trees.{Forest, beside}
 use Rattle.message_diff.proofs.LeftOut.{AreTwo, IsNamed, followed, parts_beside, whole_tree}
 use Rattle.message_diff.proofs.PartFrames.{IsSome}
 use Rattle.message_diff.proofs.Taken.{taken_is}
-use Rattle.diff_laws.specs.LeftOut.{IsTree, part_of}
-use Rattle.diff_laws.specs.Compared.{HasEachOnce}
+use Rattle.diff_laws.specs.LeftOut.{part_of}
 use Rattle.diff_laws.specs.Leniently.{IsCanonicalLeniently, IsTreeOf, HavePartsLeniently, PartsMeanLeniently}
-use Rattle.diff_laws.specs.Leniently.{PartsHaveTrees}
 use Rattle.diff_laws.specs.Leniently.{LenientLeavesStay, LenientChangesStay}
-use Rattle.diff_laws.proofs.Among.{accepted_part, cut_some, filter_swap, refused_named, refused_part}
-use Rattle.diff_laws.proofs.Built.{built_means, means_once}
+use Rattle.diff_laws.proofs.Among.{accepted_part, cut_some, filter_swap, refused_part}
 use Rattle.diff_laws.proofs.Cut.{IsCut, AreCut, accepts, refuses, kept_accepts}
-use Rattle.diff_laws.proofs.Lenient.{IsSplit, before, canonical_split, known_for, lenient_fields, lenient_tokens}
-use Rattle.diff_laws.proofs.Lenient.{meant_built, means_leniently, nothing_meant, shown_leniently, split_frames}
+use Rattle.diff_laws.proofs.Lenient.{IsSplit, before, canonical_split, known_for, means_leniently, shown_leniently}
+use Rattle.diff_laws.proofs.Lenient.{single_left, split_frames}
 use Rattle.diff_laws.proofs.Parts.{part_address, part_all, part_frames, part_joined, part_single, single_filtered}
 use Rattle.diff_laws.proofs.Raw.{holder_free, raw_holder, raw_showing, raw_tells, raw_text, whole_free}
 use Rattle.diff_laws.proofs.Refused.{held_same, leaves_split}
 use Rattle.diff_laws.proofs.Showing.{head, head_is, head_same, heads_among, showing}
-use Rattle.diff_laws.proofs.Trees.{have_trees}
 use Rattle.message_diff.specs.Parts.{address_len, are_alike, are_single, family_of, frame_at, named_in, part}
 use Rattle.link_msg.specs.Header.{header_of, IsHeader}
 use Rattle.std.proofs.lemmas.Bool.{eqb-true, and_parts}
@@ -172,14 +165,6 @@ turned family old new s = record {
 family_of_split : (b : List ℕ) (family : AddressFamily) (s : IsSplit family b) → family_of b ≡ family
 family_of_split b family s = family_in b (record { header = s.fields; attributes = [] }) s.header ∙ s.family_is
 
--- of one in which each number comes once
-pub split_single : (b : List ℕ) (m : LinkMessage) (c : IsCanonicalLeniently b m) → HasEachOnce b
-    → are_single (named_in m.header.interface_family (canonical_split b m c).frames) ≡ true
-split_single b m c once =
-    let family : AddressFamily = m.header.interface_family in
-    let s = canonical_split b m c in
-    sym (λ i. are_single (named_in (family_of_split b family s i) (split_frames family b s i))) ∙ once
-
 pub both_split : (old new : List ℕ) (m n : LinkMessage) → HavePartsLeniently old new m n
     → AreSplit m.header.interface_family old new
 both_split old new m n have =
@@ -263,12 +248,6 @@ single_ok : (family : AddressFamily) (fs : List (List ℕ)) → are_single (name
 single_ok family fs single =
     ap are_single (filter_swap (λ f. not (is_kept family f)) (accepts family) fs)
     ∙ single_filtered (accepts family) (named_in family fs) single
-
-pub single_left : (family : AddressFamily) (fs : List (List ℕ)) → AreCut family fs
-    → are_single (named_in family fs) ≡ true
-    → are_single (filter (refuses family) fs) ≡ true
-single_left family fs cut single =
-    ap are_single (refused_named family fs cut) ∙ single_filtered (refuses family) (named_in family fs) single
 
 module _ (known : Context) (family : AddressFamily) (old new : List ℕ) (own other : List (List ℕ))
     (cut : AreCut family own) (cut_too : AreCut family other) (single : are_single (named_in family own) ≡ true)
@@ -371,7 +350,7 @@ lenient_changes_are cx old new m n f g few less inside_by have trees good good_t
     let stay = lenient_leaves_are cx old new m n f g few less have trees in
     (λ i. diffs (stay.0 i) (stay.1 i)) ∙ taken_is inside_by f g good good_too
 
--- ** parts mean messages, and have trees
+-- ** parts mean messages
 
 pub parts_mean_leniently : PartsMeanLeniently
 parts_mean_leniently old new m n have =
@@ -381,62 +360,4 @@ parts_mean_leniently old new m n have =
     let q = means_leniently family (part family new old) (part_split family new old s.new_split s.old_split) in (
       (p.0, subst (λ x. MeansLeniently (part x old new) p.0) (sym s.old_family) p.1),
       (q.0, subst (λ x. MeansLeniently (part x new old) q.0) (sym s.new_family) q.1),
-    )
-
-tree_of : (cx : Context) (family : AddressFamily) (b : List ℕ) (s : IsSplit family b)
-    → are_single (named_in family s.frames) ≡ true
-    → (f : Forest) × IsTreeOf cx b f
-tree_of cx family b s single = by (filter (refuses family) s.frames) refl
-  where
-    by : (rs : List (List ℕ)) → filter (refuses family) s.frames ≡ rs → (f : Forest) × IsTreeOf cx b f
-    by [] none =
-        let mb = meant_built family b s none in
-        let means : Means b mb.0 = built_means family b mb.0 mb.1 in
-        let tree = have_trees cx b mb.0 in (
-          tree.0,
-          record {
-            meant = λ m other.
-                subst (λ x. IsTree (message_members cx b x) tree.0) (means_once b mb.0 m means other) tree.1;
-            leniently = λ m other nothing. absurd (nothing mb.0 means);
-          },
-        )
-    by (r ∷ rs) some =
-        let means = means_leniently family b s in (
-          members_forest 0 (lenient_fields cx family b s single r rs),
-          record {
-            meant = λ m other. absurd (nothing_meant family b s r rs some m other);
-            leniently = λ m other nothing. record {
-              fields = lenient_fields cx family b s single r rs;
-              tokens =
-                  lenient_tokens cx family b s single r rs some m
-                  (ap (λ (x : LinkMessage). x.header) (one_lenient b m means.0 other means.1) ∙ means.2);
-              forest = refl;
-            };
-          },
-        )
-
-pub parts_have_trees : PartsHaveTrees
-parts_have_trees cx old new m n have =
-    let family = m.header.interface_family in
-    let s = both_split old new m n have in
-    let a = s.old_split in
-    let b = s.new_split in
-    let old_tree = tree_of cx family old a s.alike.single in
-    let new_tree = tree_of cx family new b s.alike.single_too in
-    let few_tree =
-    tree_of cx family (part family old new) (part_split family old new a b)
-    (part_single family a.frames b.frames s.alike.single) in
-    let less_tree =
-    tree_of cx family (part family new old) (part_split family new old b a)
-    (part_single family b.frames a.frames s.alike.single_too) in (
-      old_tree.0,
-      new_tree.0,
-      few_tree.0,
-      less_tree.0,
-      record {
-        old_tree = old_tree.1;
-        new_tree = new_tree.1;
-        few_tree = subst (λ x. IsTreeOf cx (part x old new) few_tree.0) (sym s.old_family) few_tree.1;
-        less_tree = subst (λ x. IsTreeOf cx (part x new old) less_tree.0) (sym s.new_family) less_tree.1;
-      },
     )

@@ -1,8 +1,9 @@
 -- What is shown of attributes that are refused.
 use Rattle.std.proofs.Common.{◌≡◌, ◌≢◌, ℕ, zero, suc, ◌≤◌, Bool, true, false, List, [], ◌∷◌, ◌++◌, refl}
 use Rattle.std.proofs.Common.{sym, ap, ◌∙◌, map, get_or, append-nil, arith}
-use Rattle.std.specs.Prelude.{codes, cond, None, Some}
+use Rattle.std.specs.Prelude.{◌==◌, ◌||◌, bit_and, codes, cond, not, None, Some}
 use Rattle.std.specs.List.{AllByRecursion, list_any}
+use Rattle.std.proofs.lemmas.Bool.{and_parts, not-true}
 use Rattle.std.proofs.lemmas.Grind.{and_numeral}
 use Rattle.std.proofs.lemmas.Slice.Eq.{bytes_eq-Decides}
 use Rattle.std.specs.Int.{w16}
@@ -14,17 +15,19 @@ use Rattle.json.specs.Token as tokens
 use Rattle.json.specs.Tree.{json_tokens, members_tokens, members_depth, MembersHaveNumbers}
 use Rattle.shown.proofs.Printed.{document-print}
 use Rattle.nla_wire.specs.Fields.{number_at}
+use Rattle.nla_wire.specs.Frames.{Frame}
 use Rattle.link_vals.specs.declared.address_family.AddressFamily.{AddressFamily}
-use Rattle.message_shown.specs.Raw.{kernel_name, underlined}
+use Rattle.message_shown.specs.Places.{comes_in, earlier_ones, kept_ones, last_ones, list_under, members_of}
+use Rattle.message_shown.specs.Raw.{kernel_name, raw_items, underlined}
 use Rattle.message_shown.specs.declared.context.Context.{Context}
 use Rattle.shown.specs.Drafts.{object_of}
 use Rattle.message_diff.specs.Frames.{frame_number}
 use Rattle.message_diff.specs.Known.{is_text}
-use Rattle.message_diff.specs.Parts.{is_kept, named_in}
+use Rattle.message_diff.specs.Parts.{are_single, has_number, is_kept, named_in}
 use Rattle.message_diff.specs.Trees.{Forest, find_tree, json_text, label_of, members_forest}
 use Rattle.message_diff.proofs.LeftOut.{Showing, followed, trees, last_tree, whole_tree}
 use Rattle.diff_laws.specs.Names.{name_for, names}
-use Rattle.diff_laws.proofs.Cut.{raw_member}
+use Rattle.diff_laws.proofs.Cut.{frames_in, raw_member}
 use Rattle.diff_laws.proofs.Frames.{framed}
 use Rattle.diff_laws.proofs.Names.{are_apart, apart_at, is_name, label_for, label_is, labels, named_some, other_label}
 use Rattle.diff_laws.proofs.Refused.{AreFree, holder, members_for}
@@ -79,10 +82,45 @@ raw_apart family f g is other same =
 raw_some : (n : ℕ) → raw_label n ≢ []
 raw_some n none = let clash : false ≡ true = sym (ap is_name none) ∙ some_label n in absurd cc
 
+pub raw_number : (f : List ℕ) → bit_and (framed f).kind 0x3fff ≡ frame_number f
+raw_number f = and_numeral (number_at w16 f 2) 0x3ffe refl
+
 pub raw_name : (f : List ℕ) → kernel_name (framed f).kind ≡ raw_for (frame_number f)
 unfolding kernel_name
-raw_name f =
-    ap (λ n. codes "ifla_" ++ map underlined (get_or names n [])) (and_numeral (number_at w16 f 2) 0x3ffe refl)
+raw_name f = ap (λ n. codes "ifla_" ++ map underlined (get_or names n [])) (raw_number f)
+
+-- ** where each number comes once, none comes before another one
+
+raw_comes : (n : ℕ) (fs : List (List ℕ)) → comes_in n (raw_items (frames_in fs)) ≡ list_any (has_number n) fs
+raw_comes n [] = refl
+raw_comes n (f ∷ fs) = λ i. (raw_number f i == n) || raw_comes n fs i
+
+raw_parts : (fs : List (List ℕ)) → are_single fs ≡ true
+    → (last_ones (raw_items (frames_in fs)) ≡ map raw_member fs) × (earlier_ones (raw_items (frames_in fs)) ≡ [])
+raw_parts [] single = (refl, refl)
+raw_parts (f ∷ fs) single =
+    let both = and_parts (not (list_any (has_number (frame_number f)) fs)) (are_single fs) single in
+    let none : comes_in (bit_and (framed f).kind 0x3fff) (raw_items (frames_in fs)) ≡ false =
+    ap (λ n. comes_in n (raw_items (frames_in fs))) (raw_number f)
+    ∙ raw_comes (frame_number f) fs
+    ∙ not-true (list_any (has_number (frame_number f)) fs) both.0 in
+    let rest = raw_parts fs both.1 in (
+      λ i. cond (none i) [] (raw_member f ∷ []) ++ rest.0 i,
+      λ i. cond (none i) ((raw_member f ∷ []) ∷ []) [] ++ rest.1 i,
+    )
+
+raw_kept : (fs : List Frame) → kept_ones (raw_items fs) ≡ []
+raw_kept [] = refl
+raw_kept (f ∷ fs) = raw_kept fs
+
+pub raw_each : (fs : List (List ℕ)) → are_single fs ≡ true
+    → members_of (raw_items (frames_in fs)) ≡ map raw_member fs
+raw_each fs single =
+    let parts = raw_parts fs single in
+    (λ i. (parts.0 i ++ list_under (codes "repeated") (map object_of (parts.1 i)))
+    ++ list_under (codes "other") (map object_of (raw_kept (frames_in fs) i)))
+    ∙ append-nil (map raw_member fs ++ [])
+    ∙ append-nil (map raw_member fs)
 
 -- ** members
 

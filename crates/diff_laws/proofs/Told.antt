@@ -25,7 +25,7 @@ use Rattle.message_diff.specs.Trees.{Forest, leaves_under}
 use Rattle.message_diff.specs.declared.desk.Pair.{Pair}
 use Rattle.message_diff.specs.declared.snapshot.Compared.{Compared}
 use Rattle.message_diff.specs.declared.snapshot.Compared.TheVariants.{State, Message, LenientState, LenientMessage}
-use Rattle.diff_laws.specs.Compared.{ArePaired, HasEachOnce, TellsAll}
+use Rattle.diff_laws.specs.Compared.{ArePaired, TellsAll}
 use Rattle.diff_laws.specs.Good.{IsShortOf}
 use Rattle.diff_laws.specs.LeftOut.{IsCanonical}
 use Rattle.diff_laws.specs.Leniently.{IsCanonicalLeniently, IsTreeOf}
@@ -166,11 +166,10 @@ module _ (shown : ShownByOrder) (a b old new : List ℕ) (pair : Pair) (told : L
 
   leniently : (orders : Order × Order) → ArePaired orders old new pair cx other
       → ((m : LinkMessage) × IsCanonicalLeniently old m) → ((n : LinkMessage) × IsCanonicalLeniently new n)
-      → HasEachOnce old → HasEachOnce new
       → TellsAll pair f g
-  leniently orders paired was now_is once once_too =
-      all_is_told_leniently shown orders old new pair cx other was.0 now_is.0 f g paired was.1 now_is.1 once once_too
-      short short_too tree tree_too
+  leniently orders paired was now_is =
+      all_is_told_leniently shown orders old new pair cx other was.0 now_is.0 f g paired was.1 now_is.1 short short_too
+      tree tree_too
 
   tells : ComparedIsCanonical → (by : Compared) → IsToldOf by a b old new pair told cx other → TellsAll pair f g
   tells canonical State of =
@@ -179,10 +178,10 @@ module _ (shown : ShownByOrder) (a b old new : List ℕ) (pair : Pair) (told : L
       strictly of.are_told.orders of.paired (canonical Message a old of.is_old) (canonical Message b new of.is_new)
   tells canonical LenientState of =
       leniently of.are_told.orders of.paired (canonical LenientState a old of.is_old)
-      (canonical LenientState b new of.is_new) of.single of.single_too
+      (canonical LenientState b new of.is_new)
   tells canonical LenientMessage of =
       leniently of.are_told.orders of.paired (canonical LenientMessage a old of.is_old)
-      (canonical LenientMessage b new of.is_new) of.single of.single_too
+      (canonical LenientMessage b new of.is_new)
 
 pub all_is_told_by : ShownByOrder → ComparedIsCanonical → AllIsToldBy
 all_is_told_by shown canonical by a b old new pair told cx other f g of short short_too tree tree_too =

@@ -1,14 +1,12 @@
 -- What is found to differ between two messages that are compared is what differs between all that is shown of them,
 -- whether they were shown whole or in parts.
-use Rattle.std.specs.Prelude.{◌≡◌, ◌<◌, ◌^◌, ℕ, true, List, [], length}
+use Rattle.std.specs.Prelude.{◌≡◌, ◌<◌, ◌^◌, ℕ, List, [], length}
 use Rattle.link_msg.specs.declared.message.LinkMessage.{LinkMessage}
 use Rattle.message_shown.specs.Attributes.{message_members}
 use Rattle.message_shown.specs.Contexts.{IsPlain}
 use Rattle.message_shown.specs.declared.context.Context.{Context}
 use Rattle.message_shown.specs.declared.context.Order.{Order}
 use Rattle.message_diff.specs.Differences.{AreDiffs, Diff, diffs}
-use Rattle.message_diff.specs.Frames.{frames_of}
-use Rattle.message_diff.specs.Parts.{are_single, family_of, named_in}
 use Rattle.message_diff.specs.Shown.{AreCompared, leaves_of}
 use Rattle.message_diff.specs.Trees.{Forest, leaves_under}
 use Rattle.message_diff.specs.declared.desk.Pair.{Pair}
@@ -38,15 +36,10 @@ AllIsTold =
     → IsTree (message_members cx old m) f → IsTree (message_members other new n) g
     → TellsAll pair f g
 
--- each number comes once among its attributes with a name
-abbrev pub HasEachOnce : List ℕ → Type 0
-HasEachOnce b = are_single (named_in (family_of b) (frames_of b)) ≡ true
-
--- and of those that are read leniently, in which each number comes once
+-- and of those that are read leniently
 abbrev pub AllIsToldLeniently : Type 0
 AllIsToldLeniently =
     (orders : Order × Order) (old new : List ℕ) (pair : Pair) (cx other : Context) (m n : LinkMessage) (f g : Forest)
     → ArePaired orders old new pair cx other → IsCanonicalLeniently old m → IsCanonicalLeniently new n
-    → HasEachOnce old → HasEachOnce new → IsShortOf cx old → IsShortOf other new → IsTreeOf cx old f
-    → IsTreeOf other new g
+    → IsShortOf cx old → IsShortOf other new → IsTreeOf cx old f → IsTreeOf other new g
     → TellsAll pair f g

@@ -23,7 +23,7 @@ use Rattle.shown.specs.Drafts.{Members, object_of}
 use Rattle.message_diff.specs.Differences.{diffs}
 use Rattle.message_diff.specs.Listed.{AreApart}
 use Rattle.message_diff.specs.Trees.{Forest, IsGood, IsLabel, beside, leaves_under}
-use Rattle.diff_laws.specs.Leniently.{AreTreesOf, HavePartsLeniently, IsTreeOf}
+use Rattle.diff_laws.specs.Leniently.{AreTreesOf, HavePartsLeniently, IsCanonicalLeniently, IsTreeOf}
 use Rattle.diff_laws.specs.LeftOut.{AreTrees, HaveParts, IsTree, part_of}
 
 -- ** names
@@ -126,6 +126,13 @@ LenientTreesAreGood = (inside_by : List ℕ → Forest)
     × ((cx : Context) (old new : List ℕ) (m n : LinkMessage) → AreNamed cx → HavePartsLeniently old new m n
     → AllByRecursion (λ b. (f : Forest) → IsShortOf cx b → IsTreeOf cx b f → IsGood inside_by f)
     (old ∷ new ∷ part_of old new ∷ part_of new old ∷ []))
+
+-- no two members beside each other have one label, however often an attribute is refused
+abbrev pub LenientTreesAreApart : Type 0
+LenientTreesAreApart =
+    (cx : Context) (b : List ℕ) (m : LinkMessage) (f : Forest) → AreNamed cx → IsCanonicalLeniently b m
+    → IsShortOf cx b → IsTreeOf cx b f
+    → AreApart f
 
 abbrev pub LenientGoodChangesStay : Type 0
 LenientGoodChangesStay =

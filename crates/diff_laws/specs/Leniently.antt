@@ -26,6 +26,12 @@ pub record IsCanonicalLeniently (b : List ℕ) (m : LinkMessage) : Type 0 where
   pub ports : NoEmptyPorts m
   pub text : b ≡ message_text m
 
+-- what is shown of them has a tree
+abbrev pub LenientHaveTrees : Type 0
+LenientHaveTrees =
+    (cx : Context) (b : List ℕ) (m : LinkMessage) → IsCanonicalLeniently b m
+    → (f : Forest) × IsTreeOf cx b f
+
 -- two of which attributes may be left out
 pub record HavePartsLeniently (old new : List ℕ) (m n : LinkMessage) : Type 0 where
   pub was : IsCanonicalLeniently old m

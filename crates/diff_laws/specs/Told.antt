@@ -12,7 +12,7 @@ use Rattle.message_diff.specs.Trees.{Forest, leaves_under}
 use Rattle.message_diff.specs.declared.desk.Pair.{Pair}
 use Rattle.message_diff.specs.declared.snapshot.Compared.{Compared}
 use Rattle.message_diff.specs.declared.snapshot.Compared.TheVariants.{State, Message, LenientState, LenientMessage}
-use Rattle.diff_laws.specs.Compared.{ArePaired, HasEachOnce}
+use Rattle.diff_laws.specs.Compared.{ArePaired}
 use Rattle.diff_laws.specs.Good.{IsShortOf}
 use Rattle.diff_laws.specs.LeftOut.{IsCanonical}
 use Rattle.diff_laws.specs.Leniently.{IsCanonicalLeniently, IsTreeOf}
@@ -41,20 +41,11 @@ ComparedIsCanonical =
 
 -- ** what is told
 
--- of what is read leniently, each number comes once
-abbrev pub IsSingleBy : Compared → List ℕ → Type 0
-IsSingleBy State text = Unit {0}
-IsSingleBy Message text = Unit {0}
-IsSingleBy LenientState text = HasEachOnce text
-IsSingleBy LenientMessage text = HasEachOnce text
-
 -- what is told of two byte strings by these pages, of which these texts are compared
 pub record IsToldOf (by : Compared) (a b old new : List ℕ) (pair : Pair) (told : List Diff) (cx other : Context)
     : Type 0 where
   pub is_old : IsComparedOf by a old
   pub is_new : IsComparedOf by b new
-  pub single : IsSingleBy by old
-  pub single_too : IsSingleBy by new
   pub are_told : AreTold by pair old new told
   pub paired : ArePaired are_told.orders old new pair cx other
 

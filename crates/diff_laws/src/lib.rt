@@ -7,9 +7,10 @@
 ghost use Rattle.diff_laws.specs.Compared.{AllIsTold, AllIsToldLeniently};
 ghost use Rattle.diff_laws.specs.Counters.{NoneIsIpv6};
 ghost use Rattle.diff_laws.specs.Good.{PlainIsNamed, TreesAreGood, TreesAreApart, GoodChangesStay};
-ghost use Rattle.diff_laws.specs.Good.{LenientTreesAreGood, LenientGoodChangesStay};
+ghost use Rattle.diff_laws.specs.Good.{LenientTreesAreGood, LenientTreesAreApart, LenientGoodChangesStay};
 ghost use Rattle.diff_laws.specs.LeftOut.{HaveTrees, MarksTell, FramesAre, PartsMean, LeavesStay, ChangesStay};
 ghost use Rattle.diff_laws.specs.Leniently.{PartsMeanLeniently, PartsHaveTrees, LenientLeavesStay, LenientChangesStay};
+ghost use Rattle.diff_laws.specs.Leniently.{LenientHaveTrees};
 ghost use Rattle.diff_laws.specs.Names.{NamesAreApart};
 ghost use Rattle.diff_laws.specs.Told.{AllIsToldBy, ComparedIsCanonical};
 ghost use Rattle.diff_laws.specs.Values.{ShownIsOne};
@@ -46,23 +47,26 @@ pub fn law_left_out()
 {}
 
 /// The same of messages that are read leniently, of which some attributes are refused: these stand behind the others,
-/// in a member of their own. The messages and their parts have trees.
+/// in a member of their own. The messages and their parts have trees, and so has each message by itself.
 pub fn law_left_out_leniently()
     ensures messages { PartsMeanLeniently }
     ensures trees { PartsHaveTrees }
+    ensures each { LenientHaveTrees }
     ensures leaves { LenientLeavesStay }
     ensures changes { LenientChangesStay }
 {}
 
 /// Where rows have good names, each path leads to one member of what is shown of a message, and the text of a value
 /// tells what is inside it, if the whole text is shorter than 2^64 bytes. So the changes of parts are those of the
-/// messages. The rows that messages are shown by have such names.
+/// messages. The rows that messages are shown by have such names. Of one that is read leniently each path leads to one
+/// member too, however often an attribute is refused.
 pub fn law_good()
     ensures named { PlainIsNamed }
     ensures trees { TreesAreGood }
     ensures apart { TreesAreApart }
     ensures changes { GoodChangesStay }
     ensures lenient { LenientTreesAreGood }
+    ensures lenient_apart { LenientTreesAreApart }
     ensures lenient_changes { LenientGoodChangesStay }
 {}
 

@@ -1,7 +1,6 @@
 //! What a message that is compared is shown as, on a page whose members are marked.
 
-ghost use Rattle.std.specs.Prelude.{◌≡◌, ◌∷◌, ◌≤◌, [], IfOk, OnOk, Some, length, string_bytes};
-ghost use Rattle.std.specs.List.{flat_map};
+ghost use Rattle.std.specs.Prelude.{◌≡◌, ◌∷◌, ◌≤◌, ◌++◌, [], IfOk, OnOk, Some, codes, get_or, length, map};
 ghost use Rattle.link_msg.specs.Header.{header_size};
 ghost use Rattle.link_msg.specs.Lenient.{MeansLeniently};
 ghost use Rattle.link_msg.specs.Messages.{Means, MeansNothing};
@@ -11,76 +10,99 @@ ghost use Rattle.shown.specs.Drafts.{empty_object, with_members};
 ghost use Rattle.shown.specs.Marks.{IsMarkedText};
 ghost use Rattle.message_shown.specs.Attributes.{attribute_members, message_members};
 ghost use Rattle.message_shown.specs.Leniently.{ReadsAccepted};
-ghost use Rattle.message_shown.specs.Raw.{underlined, kernel_name, raw_members, raw_object, lenient_members};
+ghost use Rattle.message_shown.specs.Places.{item_of};
+ghost use Rattle.message_shown.specs.Raw.{kernel_name, raw_said, raw_frame, raw_frames, raw_object};
+ghost use Rattle.message_shown.specs.Raw.{lenient_members, frame_of};
 
 use crate::accepted::parse_accepted;
-use crate::attribute::{row_of, show_header};
+use crate::attribute::show_header;
 use crate::context::Context;
 use crate::fault::show_fault;
-use crate::member::show_members;
+use crate::member::{KeptFrame, Member, show_members, show_object};
+use crate::names::KERNEL_NAMES;
 use crate::wire::cause_name;
-use link_msg::{Cause, DecodeError, LinkAttribute, LinkMessage, Refusal};
-use shown::{Marked, Nest, Page};
+use link_msg::{Cause, DecodeError, LinkAttribute, LinkMessage, NLA_TYPE_MASK, Refusal};
+use shown::{Marked, Page};
 use std::alloc::{AllocError, Global};
 
-/// What stands in the kernel's names for a byte of a name.
-fn underlined(letter: u8) -> u8
-    ensures { result ≡ underlined letter }
+/// A name by its place in the table. One behind the table has the kernel's prefix alone.
+fn name_at(names: &[&'static str], number: usize) -> &'static str
+    ensures { result.now ≡ get_or (map (λ name. name.now) names.now) number (codes "ifla_") }
 {
-    if letter == b'-' { b'_' } else { letter }
+    if number < names.len() {
+        names[number]
+    } else {
+        "ifla_"
+    }
 }
 
 /// The kernel's name of attributes of this kind, in small letters.
-fn kernel_name(alloc: Global, kind: u16) -> Result<String, AllocError>
-    ensures { IfOk result (λ name. string_bytes name ≡ kernel_name kind) }
+#[tactic(auto, using(crate::proofs::Raw::kernel_named))]
+fn kernel_name(kind: u16) -> &'static str
+    ensures { result.now ≡ kernel_name kind }
 {
-    let letters = row_of(kind).0.as_bytes();
-    let mut name = b"ifla_".to_vec(alloc)?;
-    for letter in letters {
-        name.push(underlined(*letter))?;
+    name_at(&KERNEL_NAMES, (kind & NLA_TYPE_MASK) as usize)
+}
+
+/// An attribute that is refused: its kind, and its payload, which is shown under the kernel's name.
+#[derive(Drop)]
+struct Raw<'a> {
+    kind: u16,
+    payload: &'a [u8],
+}
+
+impl Member for Raw<'_> {
+    ghost item = { λ cx raw. item_of raw.kind (raw_said (frame_of raw)) };
+
+    fn number(&self, _cx: &Context<'_>) -> Option<usize> {
+        Some((self.kind & NLA_TYPE_MASK) as usize)
     }
-    match String::from_utf8(name) {
-        Ok(name) => Ok(name),
-        // for the proof: never taken, since names are ASCII
-        Err(_) => Err(AllocError),
+
+    fn kept(&self, _cx: &Context<'_>) -> Option<KeptFrame<'_>> {
+        None
+    }
+
+    fn show(&self, _cx: &Context<'_>, page: &mut Page) -> Result<(), AllocError> {
+        page.hex(kernel_name(self.kind), self.payload)
     }
 }
 
-/// Adds the payload of an attribute that is refused, under the kernel's name.
-fn show_raw(alloc: Global, page: &mut Page, refusal: &Refusal<'_>) -> Result<(), AllocError>
-    ensures { OnOk result (page.new ≡ with_members (raw_members refusal.now.frame) page.old) }
+/// Adds an attribute that is refused to others.
+fn add_raw<'a>(raws: &mut Vec<Raw<'a>>, refusal: &Refusal<'a>) -> Result<(), AllocError>
+    ensures { OnOk result (map frame_of raws.new.items
+        ≡ map frame_of raws.old.items ++ raw_frame refusal.now.frame) }
 {
-    let Some((kind, payload)) = refusal.attribute() else {
-        return Ok(());
-    };
-    let name = kernel_name(alloc, kind)?;
-    page.hex(name.as_str(), payload)
-}
-
-/// Adds the payload of each attribute that is refused.
-fn show_raws(alloc: Global, page: &mut Page, bytes: &[u8]) -> Result<(), AllocError>
-    requires { header_size ≤ length bytes.now }
-    ensures { OnOk result (page.new
-        ≡ with_members (flat_map (λ t. raw_members t.frame) (told_all bytes.now)) page.old) }
-{
-    let Ok(refusals) = LinkMessage::refusals(bytes) else {
-        return Ok(());
-    };
-    for refusal in refusals {
-        show_raw(alloc, page, &refusal)?;
+    if let Some((kind, payload)) = refusal.attribute() {
+        raws.push(Raw { kind, payload })?;
     }
     Ok(())
 }
 
-/// Adds the attributes that are refused, as an object.
-fn show_raw_object(alloc: Global, page: &mut Page, bytes: &[u8]) -> Result<(), AllocError>
+/// The attributes that are refused, in order.
+fn raws_in(alloc: Global, bytes: &[u8]) -> Result<Vec<Raw<'_>>, AllocError>
+    requires { header_size ≤ length bytes.now }
+    ensures { IfOk result
+        (λ raws. map frame_of raws.items ≡ raw_frames (told_all bytes.now)) }
+{
+    let mut raws = Vec::new(alloc);
+    let Ok(refusals) = LinkMessage::refusals(bytes) else {
+        return Ok(raws);
+    };
+    for refusal in refusals {
+        add_raw(&mut raws, &refusal)?;
+    }
+    Ok(raws)
+}
+
+/// Adds the attributes that are refused, as an object: the last one of each name, and after them those that came before
+/// it.
+fn show_raw_object(cx: &Context<'_>, page: &mut Page, bytes: &[u8]) -> Result<(), AllocError>
     requires { header_size ≤ length bytes.now }
     ensures { OnOk result
         (page.new ≡ with_members (raw_object (told_all bytes.now) ∷ []) page.old) }
 {
-    page.begin("refused", Nest::Object)?;
-    show_raws(alloc, page, bytes)?;
-    page.end()
+    let raws = raws_in(cx.alloc, bytes)?;
+    show_object(cx, page, "refused", raws.as_slice())
 }
 
 /// Adds what the attributes of a message say.
@@ -141,7 +163,7 @@ fn mark_accepted(
 {
     let mut object = marked.begin()?;
     show_message(cx, &mut object, bytes, part)?;
-    show_raw_object(cx.alloc, &mut object, bytes)?;
+    show_raw_object(cx, &mut object, bytes)?;
     marked.keep(object)
 }
 
@@ -177,7 +199,8 @@ fn mark_refused(
 
 /// Writes what these bytes say on a page whose members are marked. Of bytes that are a message it is all that the
 /// message says. Of others that are frames that fit it is what the accepted attributes say, and last, under `refused`,
-/// the payload of each attribute that is refused, in hexadecimal under the kernel's name.
+/// the payload of each attribute that is refused, in hexadecimal under the kernel's name: the last one of each name,
+/// and those before it in a list under `repeated`, as of accepted attributes.
 pub fn show_marked(cx: &Context<'_>, bytes: &[u8], marked: &mut Marked) -> Result<(), AllocError>
     ensures meant { OnOk result ((m : LinkMessage) → Means bytes.now m
         → IsMarkedText (with_members (message_members cx.now bytes.now m) empty_object)
