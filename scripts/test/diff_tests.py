@@ -4,7 +4,8 @@
     python3 scripts/test/diff_tests.py LINKDIFF LINKSHOW [COUNT]
 
 The lines are made: messages of tests/state/pairs.txt, beside themselves, beside the other one of their pair, which has
-the same state, and with attributes that are changed, renamed, moved, dropped and added. COUNT says how many are made.
+the same state, and with attributes that are changed, renamed, moved, dropped and added; then with attributes among
+them that are refused, once or more often. COUNT says how many are made.
 Words in front of a line are told as linkshow tells them.
 """
 import random
@@ -49,6 +50,15 @@ def altered(rng, message):
     return bytes(header) + b"".join(attribute(*it) for it in found)
 
 
+def spoilt(rng, message):
+    """Returns the message with refused attributes among the others, of which some stand twice or more often."""
+    found = [(kind, it) for _, kind, it in frames(message)[0]]
+    wrong = [(20, b"\xe8"), (20, b"\xe9"), (4, b"a"), (4, b"b"), (0x8004, b"a"), (13, b"")]
+    for it in rng.choices(wrong, k=rng.randrange(5)):
+        found.insert(rng.randrange(len(found) + 1), it)
+    return message[:HEADER_SIZE] + b"".join(attribute(*it) for it in found)
+
+
 def changed(linkdiff, linkshow, messages, *options):
     """Holds what is told of two messages each, of a host of its own, to the model; returns how many changed."""
     digits = [[it.hex().encode() for it in pair] for pair in messages]
@@ -74,6 +84,10 @@ def main(linkdiff, linkshow, count="300"):
     for options in (), ("--counters",), ("--lenient",), ("--lenient", "--counters"):
         different = changed(linkdiff, linkshow, made, *options)
         print(f"diff_tests: {' '.join([*options, count])} altered messages, of which {different} differ: ok")
+    made = [(spoilt(rng, one), spoilt(rng, rng.choice([one, other]))) for one, other in made]
+    for options in ("--lenient",), ("--lenient", "--counters"):
+        different = changed(linkdiff, linkshow, made, *options)
+        print(f"diff_tests: {' '.join([*options, count])} messages with refused attributes, {different} differ: ok")
 
 
 if __name__ == "__main__":

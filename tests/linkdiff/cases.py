@@ -20,6 +20,7 @@ sys.path.append(TOP + "/scripts/test")
 from shared import attribute
 
 LATIN_1 = attribute(20, b"\xe9")
+LATIN_2 = attribute(20, b"\xe8")
 EVENT = attribute(44, struct.pack("<I", 4))
 BEGIN, DONE = "type=begin seq=1 port=1", "type=done seq=1 port=1 family=0"
 
@@ -55,6 +56,11 @@ def refused(number):
     return [attribute(number, bytes((at, 0, 1))) for at in range(80)]
 
 
+def paths(name):
+    """The paths of eighty refused attributes of one name: the last one stands under it, those before it in a list."""
+    return f" refused.{name}", "".join(f" refused.repeated.{at}.{name}" for at in range(79))
+
+
 def functions(count):
     """So many virtual functions, each with one setting."""
     return attribute(22, b"".join(attribute(1, attribute(4, struct.pack("<II", at, 1))) for at in range(count)))
@@ -67,10 +73,20 @@ EMPTY = protinfo(counted(), attribute(6, b""))
 
 STREAMS = [
     ("refused attributes whose numbers turn", ["--lenient"], [link(*refused(4)), link(*refused(13))],
-     ["new 5", "changed 5" + " refused.ifla_mtu" * 80 + " refused.ifla_txqlen" * 80]),
+     ["new 5", "changed 5" + "".join(paths("ifla_mtu") + paths("ifla_txqlen"))]),
     ("one that is refused behind many whose numbers turn", ["--lenient"],
      [link(*refused(4), attribute(13, b"a")), link(*refused(5), attribute(13, b"b"))],
-     ["new 5", "changed 5" + " refused.ifla_mtu" * 80 + " refused.ifla_txqlen" + " refused.ifla_link" * 80]),
+     ["new 5", "changed 5" + " refused.ifla_txqlen".join(paths("ifla_mtu")) + "".join(paths("ifla_link"))]),
+    ("refused attributes of one number change places", ["--lenient"],
+     [link(LATIN_1, LATIN_2), link(LATIN_2, LATIN_1), link(LATIN_2, LATIN_2, LATIN_1)],
+     ["new 5", "changed 5 refused.ifla_ifalias refused.repeated.0.ifla_ifalias",
+      "changed 5 refused.repeated.1.ifla_ifalias"]),
+    ("a second refused attribute comes, equal to the first, and goes", ["--lenient"],
+     [link(mtu(8), LATIN_1), link(mtu(9), LATIN_1, LATIN_1), link(mtu(8), LATIN_1)],
+     ["new 5", *["changed 5 mtu refused.repeated.0.ifla_ifalias"] * 2]),
+    ("of refused attributes of two numbers one is repeated", ["--lenient"],
+     [link(attribute(4, b"a"), LATIN_1, attribute(4, b"b")), link(attribute(4, b"b"), LATIN_1)],
+     ["new 5", "changed 5 refused.repeated.0.ifla_mtu"]),
     ("many virtual functions that come", [], [link(functions(70)), link(functions(90))],
      ["new 5", "changed 5" + "".join(f" vfinfo-list.info.{at}.spoofchk.vf vfinfo-list.info.{at}.spoofchk.setting"
                                      for at in range(70, 90))]),

@@ -25,7 +25,6 @@ import told
 OPTIONS = [], ["--lenient"], ["--counters"], ["--counters", "--lenient"]
 EACH, TURN = 100, 20                            # streams a call, and calls with the same messages and options
 DUMPS, FILES = 40, 10                           # hosts a call in two dumps, and in two files
-ANY = told.ANY.encode() + b"}"
 TIME = re.compile(rb'"time":"([0-9]+)"')
 # paths that releases name differently
 ORDERED = re.compile(r"(?:.*\.)?(?:inet6|protinfo)\.(?:.*\.)?stats(?:\.|$)")
@@ -43,7 +42,7 @@ def breaks(law, *what):
 def compare(law, found, wanted):
     if found != wanted:
         for one, other in zip([*found, b"nothing"], [*wanted, b"nothing"]):
-            if one != other and not (other.endswith(ANY) and one.startswith(other[:-len(ANY)])):
+            if one != other:
                 breaks(law, one, "and not", other)
 
 
@@ -63,19 +62,17 @@ def joined(lines):
 
 class Link:
     """An interface that is there: its last message, what `kernel=` says of it, its leaves, which are those of its first
-    message with the changes that are told since, and the paths that are left aside. Nothing is held to these where
-    `is_held` is false."""
-    __slots__ = "last", "kernel", "leaves", "aside", "is_held", "is_mixed"
+    message with the changes that are told since, and the paths that are left aside."""
+    __slots__ = "last", "kernel", "leaves", "aside", "is_mixed"
 
     def __init__(self, line, is_all):
-        self.last, self.kernel, self.is_held, self.is_mixed, self.aside = line.message, line.kernel, True, False, set()
+        self.last, self.kernel, self.is_mixed, self.aside = line.message, line.kernel, False, set()
         self.leaves = dict(leaves(line, is_all))
 
     def sees(self, line, is_all):
         """What a line is shown by is taken into account."""
         shown = line.message.shown[line.kernel]
         self.is_mixed |= self.kernel != line.kernel
-        self.is_held &= shown.is_single
         self.aside |= set() if is_all else shown.counters
 
     def is_aside(self, path):
@@ -139,7 +136,7 @@ class Laws:
             return
         for row in rows:
             path, old = row["path"], link.leaves.pop(row["path"], None)
-            if old != row.get("old") and link.is_held and not link.is_aside(path):
+            if old != row.get("old") and not link.is_aside(path):
                 breaks("leading there", f"{path}: old is not {old}", it)
             if "new" in row:
                 link.leaves[path] = row["new"]
@@ -149,8 +146,8 @@ class Laws:
         wanted = leaves(line, self.is_all)
         link.sees(line, self.is_all)
         link.last, link.kernel = line.message, line.kernel
-        self.counts["leaves held" if link.is_held else "leaves with a path twice"] += 1
-        if not link.is_held or wanted == link.leaves:
+        self.counts["leaves held"] += 1
+        if wanted == link.leaves:
             return
         for path in {*wanted, *link.leaves}:
             if wanted.get(path) != link.leaves.get(path) and not link.is_aside(path):

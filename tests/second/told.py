@@ -13,8 +13,6 @@ IFNAME, WIRELESS, LINKINFO, EVENT = 3, 11, 18, 44
 # the counters of IPv6 in IFLA_PROTINFO: their record may be shorter than its names
 IPV6 = re.compile(r"(repeated\.[0-9]+\.)?protinfo\.(repeated\.[0-9]+\.)?(icmp6-)?stats(\.|$)")
 PARTS = 7, 10
-# in the place of changes of which the page does not say what is told
-ANY = "[..]"
 
 
 def said(program, options, text):
@@ -103,15 +101,13 @@ def named(name):
 
 class Shown:
     """What is shown of a message: the value at each path, in order; the paths that are counters; and of the values
-    those that are no counters of zero. `is_single` says that no path stands twice."""
+    those that are no counters of zero."""
 
     def __init__(self, page, filled):
         page = json.loads(page)
-        leaves = leaves_of(page)
-        self.leaves = dict(leaves)
-        self.is_single = len(leaves) == len(self.leaves)
+        self.leaves = dict(leaves_of(page))
         others = dict(leaves_of(json.loads(filled)))
-        self.counters = {path for path, value in leaves
+        self.counters = {path for path, value in self.leaves.items()
                          if path not in others or others[path] != value or IPV6.match(path)}
         self.settings = {path: value for path, value in self.leaves.items()
                          if not (path in self.counters and may_be_zero(text_of(value)))}
@@ -123,13 +119,26 @@ def may_be_zero(value):
 
 
 def leaves_of(page):
-    """Each path that holds no other, and its value; and of each refused attribute its bytes."""
-    refused, out = page.pop("refused", []), []
+    """Each path that holds no other, and its value; of each refused attribute the bytes."""
+    if "refused" in page:
+        page["refused"] = raw([(name_of(it), it["payload"]) for it in page["refused"]])
+    out = []
     under("", page, out)
-    for it in refused:
-        path = it.get("in", it["at"])
-        out.append(("refused." + (path if isinstance(path, str) else path[0]).lower(), it["payload"]))
     return out
+
+
+def name_of(refusal):
+    """The kernel's name of the attribute that is refused, in small letters."""
+    path = refusal.get("in", refusal["at"])
+    return (path if isinstance(path, str) else path[0]).lower()
+
+
+def raw(refused):
+    """The bytes of refused attributes as members: of each name the last, and those before it in a list behind."""
+    last = {name: at for at, (name, _) in enumerate(refused)}
+    members = {name: it for at, (name, it) in enumerate(refused) if last[name] == at}
+    earlier = [{name: it} for at, (name, it) in enumerate(refused) if last[name] != at]
+    return {**members, "repeated": earlier} if earlier else members
 
 
 def under(path, value, out):
@@ -173,10 +182,8 @@ def messages(linkshow, options, texts, kernels):
 # ** what changed
 
 def changes(old, new, is_all):
-    """The list `changes` of two messages, each with how it is shown; ANY where a path stands twice."""
+    """The list `changes` of two messages, each with how it is shown."""
     (was, before), (now, after) = old, new
-    if not (before.is_single and after.is_single):
-        return ANY
     olds, news = (set(), set()) if is_all else (before.counters, after.counters)
     rows = [(path, text_of(value), text_of(after.leaves[path]) if path in after.leaves else None)
             for path, value in before.leaves.items() if path not in after.leaves or after.leaves[path] != value]
