@@ -23,7 +23,7 @@ use Rattle.message_diff.proofs.LeftOut.{AreTwo, IsNamed, followed, parts_beside,
 use Rattle.message_diff.proofs.PartFrames.{IsSome}
 use Rattle.message_diff.proofs.Taken.{taken_is}
 use Rattle.diff_laws.specs.LeftOut.{part_of}
-use Rattle.diff_laws.specs.Leniently.{IsCanonicalLeniently, IsTreeOf, HavePartsLeniently, PartsMeanLeniently}
+use Rattle.diff_laws.specs.Leniently.{IsTreeOf, HavePartsLeniently, PartsMeanLeniently}
 use Rattle.diff_laws.specs.Leniently.{LenientLeavesStay, LenientChangesStay}
 use Rattle.diff_laws.proofs.Among.{accepted_part, cut_some, filter_swap, refused_part}
 use Rattle.diff_laws.proofs.Cut.{IsCut, AreCut, accepts, refuses, kept_accepts}

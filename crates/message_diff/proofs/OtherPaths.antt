@@ -1,5 +1,5 @@
 -- Paths that are none of counters of IPv6.
-use Rattle.std.proofs.Common.{◌≡◌, ℕ, true, false, List, [], ◌∷◌, refl, ap, ◌∙◌}
+use Rattle.std.proofs.Common.{◌≡◌, ℕ, false, List, [], ◌∷◌, refl, ap, ◌∙◌}
 use Rattle.std.specs.Prelude.{◌==◌, ◌&&◌, codes, cond, drop, take}
 use Rattle.message_diff.specs.Ipv6.{behind, behind_point, is_counted, is_in_protinfo, is_ipv6_counter, last_path}
 use Rattle.message_diff.specs.Known.{is_text}
