@@ -95,7 +95,7 @@ fn show_listed<D: Depth>(
     ensures { OnOk result (page.new ≡ with_value name.now
         (listed_shown (D.nest cx.now) cx.now list bytes.now) page.old) }
 {
-    show_one_list::<D>(cx, page, name, list, bytes)?;
+    show_one_list::<D>(cx, page, name, &list, bytes)?;
     Ok(())
 }
 
