@@ -135,6 +135,19 @@ if [ -e tests/second ] && [ -z "${TESTS:-}" ]; then
     holds linkdiff-changes news out/linkdiff --changes-only
     holds linkdiff-more changes out/linkdiff
     holds linkdiff-more-counters changes out/linkdiff --counters --lenient
+    # words that no program has; and memory, reads and writes, where what is loaded before the C library sees them
+    $RUN "$folder/lines" words >"$folder/words"
+    watch=$folder/watch rows=''
+    # shellcheck disable=SC2086
+    $CC -std=gnu11 $CFLAGS -fPIC -shared -o "$watch" tests/second/watch.c $LDFLAGS -ldl 2>"$folder/log" || :
+    for program in "$@"; do
+        [ ! -e "$watch" ] || LD_PRELOAD=$watch WATCH_TOLD=$folder/told "out/$program" --version >"$folder/log" 2>&1 || :
+        [ -e "$folder/told" ] || watch='' rows=alone
+        RUN=$RUN sh tests/second/watched.sh "$program" "out/$program" "$folder" "$watch" >"$folder/rows"
+        grep "^$program $rows" tests/second/watched.txt | diff "$folder/rows" - ||
+            fails "$program does otherwise than tests/second/watched.txt has"
+    done
+    [ -n "$watch" ] || echo "memory, reads and writes: skipped: nothing can be loaded before the C library"
     # streams of hosts that come and go, in dumps that are whole or cut
     if [ -e out/linkdiff ]; then
         RUN=$RUN sh tests/second/streams.sh out/linkdiff | cmp - tests/second/told.txt ||

@@ -1,15 +1,15 @@
 #!/usr/bin/env python3
 """Turns one instruction of a text in dist/ at a time, and looks whether the runs of `make self-test` tell.
 
-    mutants.py NAME [--count N] [--seed N] [--jobs N] [--least PERCENT] [--list]
+    mutants.py NAME [--count N] [--seed N] [--jobs N] [--least PERCENT] [--list] [--unlike]
 
 NAME is a program, or link_c for the library's calls. A conditional jump or move is turned round or moved by one, or a
 number is changed by one, in the file that is built of the text. A copy of the text in which each such place leaves a
 mark says first which runs come to it: a mutant runs those alone. It is told where an answer differs, or the program
 fails, or takes eight times as much of the processor's time. One that no run can tell is alike: tests/second/alike.txt
 has patterns of those, with reasons. With --least it fails where fewer than so many of a hundred are told, of those that
-are executed and not alike; --list prints what becomes of each. edits/mutants.md has scores, and what else is kept. It
-uses what `make build` leaves in out/."""
+are executed and not alike; --list prints what becomes of each; with --unlike those that a pattern fits are not run.
+edits/mutants.md has scores, and what else is kept. It uses what `make build` leaves in out/."""
 import argparse
 import collections
 import functools
@@ -18,6 +18,7 @@ import os
 import random
 import re
 import resource
+import signal
 import subprocess
 import sys
 import tempfile
@@ -34,13 +35,13 @@ BY_ONE = {"jb": "jbe", "jbe": "jb", "ja": "jae", "jae": "ja", "jl": "jle", "jle"
 WRAPS = [f"-Wl,--wrap={name}" for name in ("main", "read", "write")]
 # keeps marks in the file that SEEN names, and how much was written; what is written has to be what HELD has
 WATCH = """#define _GNU_SOURCE
+#include <dlfcn.h>
 #include <fcntl.h>
 #include <stdio.h>
 #include <stdlib.h>
 #include <string.h>
 #include <sys/mman.h>
 #include <sys/stat.h>
-#include <sys/syscall.h>
 #include <unistd.h>
 _Alignas(4096) char mutants_seen[1 << 20];
 static size_t *written = (size_t *)mutants_seen, held_len;
@@ -53,7 +54,8 @@ static ssize_t take(void *of, const char *from, size_t len) {
     return (ssize_t)len;
 }
 ssize_t write(int file, const void *from, size_t len) {
-    return held ? take(0, from, len) : syscall(SYS_write, file, from, len);
+    ssize_t (*next)(int, const void *, size_t) = (ssize_t (*)(int, const void *, size_t))dlsym(RTLD_NEXT, "write");
+    return held ? take(0, from, len) : next(file, from, len);
 }
 __attribute__((constructor)) static void keep(void) {
     struct stat it;
@@ -85,11 +87,13 @@ int main(int count, char **words) {
 
 
 class Run(NamedTuple):
-    """Words of the program, the file it reads, and the file it writes to if it is not looked at."""
+    """Words of the program, the file it reads, the file it writes to if it is not looked at, and the words of a script
+    that runs it, in which TO is the program."""
 
     words: tuple = ()
     reads: str = "/dev/null"
     writes: str = ""
+    script: tuple = ()
 
 
 def words():
@@ -100,6 +104,7 @@ def words():
     parser.add_argument("--jobs", type=int, default=2)
     parser.add_argument("--least", type=int)
     parser.add_argument("--list", action="store_true")
+    parser.add_argument("--unlike", action="store_true")
     return parser.parse_args()
 
 
@@ -188,10 +193,11 @@ def prepare(name, folder):
     """The lines, and the programs that call the library as one."""
     compiler = ["-std=gnu11", "-O2", f"-I{TOP}/include"]
     compiles(*compiler, "-DLINES_ALONE", "-o", f"{folder}/lines", TOP / "tests/second/lines.c")
-    for it in ("all", "digits", "news", "more", "changes"):
+    for it in ("all", "digits", "news", "more", "changes", "words"):
         with open(f"{folder}/{it}", "wb") as to:
             subprocess.run([f"{folder}/lines", it], stdout=to, check=True, cwd=TOP)
     subprocess.run(["split", "-d", "-n", f"l/{PARTS}", f"{folder}/all", f"{folder}/all."], check=True)
+    compiles(*compiler, "-shared", "-fPIC", "-o", f"{folder}/watch.so", TOP / "tests/second/watch.c")
     Path(f"{folder}/watch.c").write_text(WATCH)
     compiles("-c", "-O2", "-o", f"{folder}/watch.o", f"{folder}/watch.c")
     if name == "linkdiff":
@@ -232,7 +238,8 @@ def runs(name, folder):
         short += [Run(it, streams) for it in (*each, ("--changes-only",), ("--changes-only", "--lenient"))]
         short += [Run((*it, *files)) for it in each]
     return [*short, *(Run(tuple(it), str(TOP)) for it in said),
-            *(Run(tuple(given.split()), f"{folder}/{made}") for given, made in long[name])]
+            *(Run(tuple(given.split()), f"{folder}/{made}") for given, made in long[name]),
+            Run(script=("sh", "tests/second/watched.sh", name, "TO", folder, f"{folder}/watch.so"))]
 
 
 def run(it, to, held, most=60):
@@ -244,9 +251,16 @@ def run(it, to, held, most=60):
     with open(f"{to}.seen", "wb") as seen:
         seen.truncate(1 << 20)
     source = os.open(it.reads, os.O_RDONLY)
+    command = [to if word == "TO" else word for word in it.script or (to, *it.words)]
     with open(it.writes or (os.devnull if held else f"{to}.out"), "wb") as out:
-        status = subprocess.run([to, *it.words], stdin=source, stdout=out, stderr=subprocess.STDOUT, cwd=TOP,
-                                check=False, preexec_fn=limits, env={"SEEN": f"{to}.seen", "HELD": held}).returncode
+        program = subprocess.Popen(command, stdin=source, stdout=out, stderr=subprocess.STDOUT, cwd=TOP,
+                                   preexec_fn=limits, start_new_session=True,
+                                   env={"SEEN": f"{to}.seen", "HELD": held, "PATH": os.environ["PATH"]})
+    try:
+        status = program.wait(timeout=60)
+    except subprocess.TimeoutExpired:
+        os.killpg(program.pid, signal.SIGKILL)
+        status = program.wait()
     os.close(source)
     with open(f"{to}.seen", "rb") as seen:
         return status, int.from_bytes(seen.read(WRITTEN), "little"), b"" if held else seen.read()
@@ -260,13 +274,16 @@ class Wanted(NamedTuple):
     there: set
 
 
-def is_told(name, folder, to, place, wanted):
+def is_told(name, folder, to, place, answered):
     """Whether a run that comes to a place ends otherwise, or writes something else, than the text as it is."""
-    for at, (it, want) in enumerate(zip(runs(name, folder), wanted)):
+    for at, (it, want) in enumerate(zip(runs(name, folder), answered)):
         if place in want.there:
-            held = "" if it.writes else f"{folder}/wanted{at}"
+            wanted = f"{folder}/wanted{at}"
+            held = "" if it.writes or it.script else wanted
             status, written, _ = run(it, to, held, want.most)
             if status != want.status or held and written != os.path.getsize(held):
+                return True
+            if it.script and Path(f"{to}.out").read_bytes() != Path(wanted).read_bytes():
                 return True
     return False
 
@@ -332,7 +349,7 @@ def attempt(name, folder, text, wanted, patch, work):
     elif not build(name, folder, [*text[:at], new, *text[at + 1:]], to):
         return "not built"
     result = "told" if is_told(name, folder, to, at, wanted) else "kept"
-    for it in ("", ".s", ".o", ".seen"):
+    for it in ("", ".s", ".o", ".seen", ".out"):
         Path(to + it).unlink(missing_ok=True)
     return result
 
@@ -355,13 +372,15 @@ def main():
         for number, (at, how, function) in enumerate(picked):
             new = changed(text[at], how, random.Random(chance.random()))
             what = said(text, at, new, function)
-            if at in there:
+            fits = pattern.search(around(name, text, at, new, function))
+            if at in there and not (fits and given.unlike):
                 work.append((number, at, new))
-                places[number] = what, pattern.search(around(name, text, at, new, function))
+                places[number] = what, fits
                 continue
-            results["never executed"] += 1
+            found = "alike" if at in there else "never executed"
+            results[found] += 1
             if given.list:
-                print(f"mutants: {name}: never executed: {what}")
+                print(f"mutants: {name}: {found}: {what}")
         patch = patches(name, folder, text, work)
         with multiprocessing.Pool(given.jobs) as pool:
             tried = pool.imap(functools.partial(attempt, name, folder, text, wanted, patch), work)

@@ -14,8 +14,9 @@
  * many. `digits` has lines that are not all hexadecimal digits. `more` has each row and each other number behind two
  * of the first row, each row with each length and padding that is not zero, and texts and events that are long. `news`
  * has one of five of `all` as lines for linkdiff, of two interfaces and a host for each place, with ends of interfaces,
- * dumps and losses among them, and `changes` has all of `more` as such lines. The places and their rows are read of the
- * file that PLACES names, tests/second/places.txt, which check.py makes of the tables in crates/.
+ * dumps and losses among them, and `changes` has all of `more` as such lines. `words` has options that no program has,
+ * of all characters but an LF, and some that are no UTF-8. The places and their rows are read of the file that
+ * PLACES names, tests/second/places.txt, which check.py makes of the tables in crates/.
  *
  * With -DLINES_ALONE it is built without the library, and has no calls. A file of answers has for WHAT, each place and
  * each kind of answer their count and the CRC-32 of all of them.
@@ -454,7 +455,8 @@ static void tell_headers(void) {
 
 static const struct { const char *at; size_t len; } names[] = {
     {"bridge", 6}, {"bridge", 7}, {"can", 3}, {"hsr", 3}, {"bond", 4}, {"veth", 4}, {"", 0}, {"bridg", 5},
-    {"bridges", 7}, {"bridge\0", 8}};
+    {"bridges", 7}, {"bridge\0", 8}, {"cans", 4}, {"cap", 3}, {"hsrs", 4}, {"hsp", 3}, {"bridgf", 6}, {"xridge", 6}};
+enum { NAMES_OF_ALL = 10, NAMES = sizeof names / sizeof *names };
 
 /* IFLA_LINKINFO of some kinds, with an attribute behind them or in front. */
 static void tell_info(size_t own, size_t port, unsigned number, const uint8_t *data, size_t len, bool is_behind) {
@@ -644,6 +646,127 @@ static void tell_long(void) {
         }
 }
 
+/* A message with a name. */
+static void tell_name(const void *text, size_t len) {
+    tell_of(0, built, put(built, 3, text, len, 0));
+}
+
+/* Texts in which one byte is no character, at each place, and a byte behind it. */
+static void tell_damaged(void) {
+    static const uint8_t bytes[] = {0xff, 0x80, 0xc3};
+    static uint8_t text[160];
+    for (size_t len = 1; len < 140; len += len < 40 ? 1 : len == 131 ? 9 : 13)
+        for (size_t at = 0; at < len; at++)
+            for (size_t i = 0; i < sizeof bytes; i++) {
+                memset(text, 'a', sizeof text);
+                text[at] = bytes[i];
+                tell_name(text, len);
+            }
+}
+
+/* Characters of each first byte, with bytes behind it at the edges of what may be there. */
+static void tell_characters(void) {
+    static const uint8_t edge[] = {0x41, 0x7f, 0x80, 0x8f, 0x90, 0x9f, 0xa0, 0xbf, 0xc0, 0xff};
+    enum { EDGES_OF = sizeof edge };
+    uint8_t text[6] = "";
+    for (unsigned first = 0x80; first < 0x100; first++)
+        for (size_t second = 0; second < EDGES_OF; second++) {
+            text[0] = (uint8_t)first, text[1] = edge[second], text[2] = 'a';
+            tell_name(text, 2), tell_name(text, 3);
+            for (size_t third = 0; first >= 0xdf && third < EDGES_OF; third += 1 + third % 2) {
+                text[2] = edge[third], text[3] = 'a';
+                tell_name(text, 3), tell_name(text, 4);
+                for (size_t fourth = 0; first >= 0xef && fourth < EDGES_OF; fourth += 1 + fourth % 2) {
+                    text[3] = edge[fourth];
+                    tell_name(text, 4);
+                }
+            }
+        }
+}
+
+/* Padding in which one byte is not zero, behind each number of an outermost list. */
+static void tell_paddings(struct bytes other) {
+    for (unsigned number = 0; number < 80; number++)
+        for (size_t len = 1; len < 4; len++)
+            for (size_t at = len; at < 4; at++)
+                for (int with = -1; with < 2; with += 2) {
+                    struct bytes one = pattern(len);
+                    size_t whole = put(built, number, one.at, len, 0);
+                    built[4 + at] = (uint8_t)with;
+                    memcpy(built + whole, other.at, other.len);
+                    tell_in(built, whole + other.len, "", 0);
+                    free(one.at);
+                }
+}
+
+/* Puts a row with a payload that is accepted, and returns its whole length. */
+static size_t put_row(uint8_t *to, struct row row) {
+    static const struct row none = {77, 'n', 4};
+    if (row.form == 'l')
+        return put(to, row.number, to + 4, put_row(to + 4, table[row.of].rows ? table[row.of].row[0] : none), 0);
+    return put(to, row.number, good(row).at, good(row).len, 0);
+}
+
+/* Each row of a list with an accepted payload, and behind them so many empty texts of one that they do not fit; the
+ * outermost list has one that no row names, and a list of names. */
+static void tell_unfit(void) {
+    enum { GROWN = 16382 };
+    const struct row *row = table[place[here].table].row, *end = row + table[place[here].table].rows;
+    static uint8_t all[4 * GROWN];
+    size_t len = 0;
+    for (const struct row *it = row; it < end; it++)
+        len += put_row(built + len, *it);
+    if (!place[here].deep) {
+        len += put(built + len, 79, built, 0, 0);
+        for (size_t i = 0; i < GROWN; i++)
+            memcpy(all + 4 * i, (uint8_t[]){4, 0, 53, 0}, 4);
+        tell_in(built, len + put(built + len, 52, all, sizeof all, 0), "", 0);
+        return;
+    }
+    for (const struct row *it = row; it < end; it++) {
+        size_t more = len;
+        for (size_t i = 0; it->form == 't' && i < 65536 / 8; i++)
+            more += put(built + more, it->number, built, 0, 0);
+        if (more > len)
+            tell_in(built, more, "", 0);
+    }
+}
+
+/* Lists that end without padding, in front of the same row. */
+static void tell_cut_lists(void) {
+    const struct row *row = table[place[here].table].row, *end = row + table[place[here].table].rows;
+    for (const struct row *it = row; it < end; it++)
+        for (uint8_t n = 1; it->form == 'l' && n < 4; n++) {
+            const uint8_t inner[] = {4 + n, 0, table[it->of].drops ? 1 : 77, 0, 5, 0, 1};
+            size_t len = put(built, it->number, inner, 4u + n, 0);
+            tell_in(built, len + put_row(built + len, *it), "", 0);
+        }
+}
+
+/* Records in which one word is a small number. */
+static void tell_words(void) {
+    const struct row *row = table[place[here].table].row, *end = row + table[place[here].table].rows;
+    for (const struct row *it = row; it < end; it++)
+        for (size_t at = 0; it->form == 'r' && at + 4 <= it->of; at += 4)
+            for (uint8_t word = 2; word < 7; word++) {
+                struct bytes one = pattern(it->of);
+                memcpy(one.at + at, (uint8_t[]){word, 0, 0, 0}, 4);
+                tell_in(built, put(built, it->number, one.at, one.len, 0), "", 0);
+                free(one.at);
+            }
+}
+
+/* Names and texts that just fit, with the NUL behind them. */
+static void tell_longest(void) {
+    static uint8_t text[MOST];
+    memset(text, 'a', sizeof text);
+    for (size_t len = MOST - 2; len <= MOST; len++) {
+        text[len - 1] = 0;
+        tell_name(text, len);
+        text[len - 1] = 'a';
+    }
+}
+
 static void tell_text(const uint8_t *text, size_t len) {
     take(here, text, len, true);
 }
@@ -678,6 +801,35 @@ static void tell_digits(void) {
         }
 }
 
+static size_t put_character(char *to, uint32_t c) {
+    if (c < 0x80)
+        return to[0] = (char)c, 1;
+    size_t len = c < 0x800 ? 2 : c < 0x10000 ? 3 : 4;
+    for (size_t i = len; i-- > 1; c >>= 6)
+        to[i] = (char)(0x80 | (c & 63));
+    to[0] = (char)((0xf00 >> len & 0xff) | c);
+    return len;
+}
+
+/* Options of so many characters, one behind the other, and others that are no UTF-8. */
+static void print_words(void) {
+    enum { EACH = 24576 };
+    static char word[4 * EACH + 8];
+    static const char *const more[] = {"-", "--", "-\x80", "-\xc3", "-\xc0\x80", "-\xe2\x82", "-\xed\xa0\x80",
+                                       "-\xf0\x9f\x98", "-\xf4\x90\x80\x80", "-\xff", "--help\xff"};
+    for (uint32_t c = 1; c < 0x110000;) {
+        size_t len = 1;
+        word[0] = '-';
+        for (unsigned i = 0; i < EACH && c < 0x110000; i++, c++)
+            if (c != '\n' && (c < 0xd800 || c > 0xdfff))
+                len += put_character(word + len, c);
+        word[len++] = '\n';
+        fwrite(word, 1, len, stdout);
+    }
+    for (size_t i = 0; i < sizeof more / sizeof *more; i++)
+        puts(more[i]);
+}
+
 static void tell_all(const char *set) {
     bool is_wide = strcmp(set, "wide") == 0;
     if (strcmp(set, "digits") == 0) {
@@ -689,9 +841,20 @@ static void tell_all(const char *set) {
         alone = places + 5;
         for (here = 0; here < places; here++) {
             tell_behind_two();
-            if (is_first())
-                tell_lengths();
+            if (!is_first())
+                continue;
+            tell_lengths();
+            tell_unfit();
+            tell_cut_lists();
+            tell_words();
+            if (!place[here].deep)
+                tell_paddings((struct bytes){8, (uint8_t *)"\x8\0\4\0\1\2\3\4"});
         }
+        for (size_t own = NAMES_OF_ALL; own < NAMES; own++)
+            tell_kinds(own, 4), tell_kinds(4, own);
+        tell_damaged();
+        tell_characters();
+        tell_longest();
         tell_long();
         tell_mixed();
         for (size_t n = 0; n < 20; n++)
@@ -712,8 +875,8 @@ static void tell_all(const char *set) {
         return;
     tell_headers();
     here = places + 1;
-    for (size_t own = 0; own < 10; own++)
-        for (size_t port = 0; port < 10; port++)
+    for (size_t own = 0; own < NAMES_OF_ALL; own++)
+        for (size_t port = 0; port < NAMES_OF_ALL; port++)
             tell_kinds(own, port);
     here = places + 2;
     tell_large();
@@ -995,6 +1158,8 @@ static int compare(const char *what, const char *name, const char *set) {
 int main(int count, char **words) {
     const char *set = count > 1 ? words[1] : "", *mode = count > 2 ? words[2] : "";
     bool is_more = strcmp(set, "changes") == 0, is_news = is_more || strcmp(set, "news") == 0;
+    if (strcmp(set, "words") == 0)
+        return print_words(), 0;
     read_places();
     if (strcmp(mode, "places") == 0)
         take = print_place;
