@@ -667,17 +667,17 @@ static void tell_damaged(void) {
 /* Characters of each first byte, with bytes behind it at the edges of what may be there. */
 static void tell_characters(void) {
     static const uint8_t edge[] = {0x41, 0x7f, 0x80, 0x8f, 0x90, 0x9f, 0xa0, 0xbf, 0xc0, 0xff};
-    enum { EDGES_OF = sizeof edge };
+    static const uint8_t other[] = {0x7f, 0x80, 0xbf, 0xc0};
     uint8_t text[6] = "";
     for (unsigned first = 0x80; first < 0x100; first++)
-        for (size_t second = 0; second < EDGES_OF; second++) {
+        for (size_t second = 0; second < sizeof edge; second++) {
             text[0] = (uint8_t)first, text[1] = edge[second], text[2] = 'a';
             tell_name(text, 2), tell_name(text, 3);
-            for (size_t third = 0; first >= 0xdf && third < EDGES_OF; third += 1 + third % 2) {
-                text[2] = edge[third], text[3] = 'a';
+            for (size_t third = 0; first >= 0xdf && third < sizeof other; third++) {
+                text[2] = other[third], text[3] = 'a';
                 tell_name(text, 3), tell_name(text, 4);
-                for (size_t fourth = 0; first >= 0xef && fourth < EDGES_OF; fourth += 1 + fourth % 2) {
-                    text[3] = edge[fourth];
+                for (size_t fourth = 0; first >= 0xef && fourth < sizeof other; fourth++) {
+                    text[3] = other[fourth];
                     tell_name(text, 4);
                 }
             }
