@@ -180,6 +180,8 @@ linkdiff)
     done
     if [ "$name" != linkwire ]; then
         counts 'more, leniently' "$sets/more" --lenient
+        counts 'full, leniently' full --lenient
+        counts 'short, leniently' short --lenient
     fi
     pieces few few
     refuses few 1 80 few
