@@ -1,9 +1,9 @@
 /* tests/second/watched.sh loads this before the C library, so that it watches a program.
  *
- * Fresh memory has bytes that are not zero, and memory that was given back has others. The bytes in front of a block and
- * behind it have to stay as they are: if one changed, the program ends with status 97. Requests for memory, reads and
- * writes of the program itself are counted, with a sum of their sizes; those of the C library are not. At the end a line
- * with the counts is added to the file that WATCH_TOLD names.
+ * Fresh memory has bytes that are not zero, and memory that was given back has others. The bytes in front of a block
+ * and behind it have to stay as they are: if one changed, the program ends with status 97. Requests for memory, reads
+ * and writes of the program itself are counted, with a sum of their sizes; those of the C library are not. At the end a
+ * line with the counts is added to the file that WATCH_TOLD names.
  *
  * WATCH_REFUSES is the number of a request for memory that is refused. WATCH_FAILS is `read` or `write`, the number of
  * the call that fails, and the error. WATCH_PIECES is how many bytes a read or write takes at most, in turn fewer. */

@@ -1,8 +1,8 @@
 #!/bin/sh
-# Prints what a program does where what watch.c says is loaded before the C library: watched.sh NAME PROGRAM SETS [WATCH],
-# where SETS is a folder with what lines.c makes, and WATCH is built of watch.c; without it the first two rows alone.
-# `watched.sh --all FOLDER` prints tests/second/watched.txt anew, of the programs in a folder. RUN is what runs a program
-# of another processor.
+# Runs a program under tests/second/watch.c, and prints a row for each run: watched.sh NAME PROGRAM SETS [WATCH], where
+# SETS is a folder with what lines.c makes, and WATCH is built of watch.c; without it the first two rows alone.
+# `watched.sh --all FOLDER` prints tests/second/watched.txt anew, of the programs in a folder. RUN is what runs a
+# program of another processor.
 set -eu
 if [ "$1" = --all ]; then
     made=$(mktemp -d)
@@ -13,9 +13,9 @@ if [ "$1" = --all ]; then
         "$made/lines" "$it" >"$made/$it"
     done
     cat <<'END'
-# What tests/second/watched.sh prints of each program: sums and lengths of what it writes, with its statuses, and of what
-# watch.c tells. Of whole runs that stands as it is: how many requests for memory there were, their bytes, and a sum of
-# their sizes; how many blocks were not given back; and reads and writes, each with a sum of the sizes.
+# What tests/second/watched.sh prints of each program: sums and lengths of what it writes, with its statuses, and of
+# what watch.c tells. Of whole runs that stands as it is: how many requests for memory there were, their bytes, and a
+# sum of their sizes; how many blocks were not given back; and reads and writes, each with a sum of the sizes.
 END
     for it in linkwire linkshow linkstate linkdiff; do
         sh "$0" "$it" "$2/$it" "$made" "$made/watch"
@@ -140,7 +140,8 @@ awk 'BEGIN {
         print word "=v '$ok'\nk=" word " 00\n" word " 00\nok" word "\n" word "=\nk=" word " l=" word "= '$ok'"
     }
 }' >worded
-for it in 'ok ' 'pk ' 'ol ' 'ok!' 'ok' ' ok ' 'OK ' 'ok  ' 'ok ok ' 'k=v ok ' 'k=v  ok ' 'k=v ok' 'ok k=v ' '=v ' 'k= '; do
+for it in 'ok ' 'pk ' 'ol ' 'ok!' 'ok' ' ok ' 'OK ' 'ok  ' 'ok ok ' 'k=v ok ' 'k=v  ok ' 'k=v ok' 'ok k=v ' '=v ' \
+    'k= '; do
     echo "$it$ok"
 done >>worded
 counts 'its help' /dev/null --help
