@@ -7,7 +7,7 @@ from datetime import datetime
 from math import inf
 from typing import Iterable, List, Optional, Sequence, TextIO, Tuple
 
-from linkwire import Event, Settling, Stream, Told, View, Words, escaped, read_line, width
+from linkwire import Event, Settling, Stream, Told, View, Words, escaped, width
 
 from .options import Options
 
@@ -39,13 +39,26 @@ def aligned(rows: Sequence[Sequence[str]]) -> List[List[str]]:
     return [[cell + " " * (size - width(cell)) for cell, size in zip(it, widths)] for it in rows]
 
 
+def wrapped(parts: Sequence[str], room: float) -> List[str]:
+    """Parts with commas between, in rows of so many columns; none is cut."""
+    rows: List[str] = []
+    for at, part in enumerate(parts, 1):
+        part += "," if at < len(parts) else ""
+        if rows and (room == inf or width(f"{rows[-1]} {part}") <= room):
+            rows[-1] += " " + part
+        else:
+            rows.append(part)
+    return rows
+
+
 class Output:
     """Where lines go, of what the options ask for and in their form."""
 
     def __init__(self, options: Options, out: TextIO) -> None:
         self.out, self.is_json, self.time, self.left = out, options.json, options.time, options.count or inf
         self.view, self.settling = View(options.names, options.details), Settling(options.settle)
-        self.words, self.is_terminal = Words(out.encoding or "ascii", options.details), out.isatty()
+        self.words = Words(out.encoding or "ascii", options.details, lambda it: self.paint("value", it))
+        self.is_terminal = out.isatty()
         is_plain = os.environ.get("NO_COLOR") or os.environ.get("TERM") == "dumb" or not self.is_terminal
         self.has_colours = options.color == "always" or options.color == "auto" and not is_plain
 
@@ -81,33 +94,18 @@ class Output:
             return bool(told)
         is_told = told is not None and not event.is_first and event.change not in ("done", "again")
         if is_told:
-            self.write(event.json(read_line(line).words if line else None))
+            self.write(event.json(line))
         return is_told
 
     def lines(self, lines: Iterable[Told]) -> None:
-        """Writes what is told, a line each."""
+        """Writes what is told, a line each; on a terminal a change that does not fit begins a row under the first."""
         for told in lines:
-            time, host = self.stamp(told.event.when), told.event.host
-            name = (f"{self.words.name(host)}/" if host else "") + self.words.name(told.name)
-            name += " " * (NAME_WIDTH - width(name))
-            head = (self.paint("time", time) + "  " if time else "") + self.paint("name", name) + "  "
-            indent = (len(time) + 2 if time else 0) + width(name) + 2
-            if told.what != "changed":
-                head += self.paint(told.what, told.what) + " "
-                indent += len(told.what) + 1
-            self.write((head + self.wrapped(told, indent)).rstrip())
-
-    def wrapped(self, told: Told, indent: int) -> str:
-        """What is told, with commas between; on a terminal what does not fit begins a line under the first."""
-        parts = self.words.told(told)
-        room, used = self.size()[0] - indent if self.is_terminal else inf, 0
-        rows: List[List[str]] = []
-        for at, (before, new) in enumerate(parts, 1):
-            comma = "," if at < len(parts) else ""
-            size = width(before + new + comma) if self.is_terminal else 0
-            if not rows or used + 1 + size > room:
-                rows.append([])
-                used = -1
-            rows[-1].append(before + self.paint("value", new) + comma)
-            used += 1 + size
-        return ("\n" + " " * indent).join(map(" ".join, rows))
+            host = f"{self.words.name(told.event.host)}/" if told.event.host else ""
+            name = host + self.words.name(told.name)
+            parts = (("time", self.stamp(told.event.when), "  "),
+                     ("name", name + " " * (NAME_WIDTH - width(name)), "  "),
+                     (told.what, "" if told.what == "changed" else told.what, " "))
+            head = "".join(self.paint(kind, text) + blanks for kind, text, blanks in parts if text)
+            room = self.size()[0] - width(head) if self.is_terminal else inf
+            rows = wrapped(self.words.told(told), room)
+            self.write((head + ("\n" + " " * width(head)).join(rows)).rstrip())

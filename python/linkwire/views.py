@@ -2,35 +2,32 @@
 
 import fnmatch
 import time
-from typing import Any, Dict, FrozenSet, Iterable, List, Mapping, NamedTuple, Optional, Sequence, Set, Tuple
+from typing import Any, Dict, FrozenSet, Iterable, Iterator, List, Mapping, NamedTuple, Optional, Sequence, Tuple
 
-from .messages import Bytes, Change, Fault, attributes, number, pick, show
-from .numbers import IFLA_AF_SPEC
+from .messages import Bytes, Change, show
 from .watching import AF_BRIDGE, AF_UNSPEC, Event
 
-Vlans = FrozenSet[Tuple[int, str]]
-
-_BRIDGE_VLAN_INFO, _PVID, _UNTAGGED, _RANGE_BEGIN, _RANGE_END = 2, 2, 4, 8, 16
 _INDICES = {"master", "link", "port.backup-port", "data.link", "data.active-slave", "data.primary"}
-# what seldom matters
-_HIDDEN = {"qdisc", "carrier", "promiscuity", "allmulti", "min-mtu", "max-mtu", "headroom", "tailroom", "tso-max-size",
-           "linkinfo.slave-kind", "state", "af-spec"}
-_HIDDEN_STARTS = ("af-spec.", "data.root-id.", "data.bridge-id.", "data.bc-queue-len-used", "port.root-id.",
-                  "port.bridge-id.", "port.designated-", "port.id", "port.no", "port.queue-id", "port.perm-hwaddr")
+# what seldom matters: how paths begin, behind which stands a $
+_HIDDEN = ("qdisc$", "carrier$", "promiscuity$", "allmulti$", "min-mtu$", "max-mtu$", "headroom$", "tailroom$",
+           "tso-max-size$", "state$", "linkinfo.slave-kind$", "af-spec$", "af-spec.", "data.root-id.",
+           "data.bridge-id.", "data.bc-queue-len-used", "port.root-id.", "port.bridge-id.", "port.designated-",
+           "port.id", "port.no", "port.queue-id", "port.perm-hwaddr")
 _HIDDEN_FLAGS = {"running", "lower-up"}
 # what is known of a new link, and what is told of it
 _KNOWN = "ifname", "prop-list", "master", "link-netnsid", "linkinfo", "protinfo", "mtu", "operstate", "address"
 _FIRST = "linkinfo.kind", "mtu", "operstate", "address", "master"
+# how paths begin in events, and here
+_PLACES = ("linkinfo.slave-data.", "port."), ("linkinfo.data.", "data."), ("protinfo.", "port.")
 
 
 class Told(NamedTuple):
-    """What an event says of a link.
+    """What an event says of a link: `what` is `new`, `gone`, `changed`, `fault`, `lost` or `again`.
 
-    what: `new`, `gone`, `changed`, `fault`, `lost` or `again`.
     name: of the link; `if7` where none is known, and empty where the event is of no link.
     port_of: the name of the bridge, or the like, of whose port the settings are that changed; else empty.
-    changes: what changed, or is worth saying of a new link. Paths are those of `diff`, but for `data.` of what is in
-        `linkinfo.data`, `port.` of a port's settings, and `vlan`, whose values are those of `vlans`.
+    changes: of a new link what is worth saying. Paths are those of `diff`, but for `data.` of what is in
+        `linkinfo.data`, `port.` of a port's settings, and `port.vlan`, whose values are those of `vlans`.
     """
 
     event: Event
@@ -40,22 +37,21 @@ class Told(NamedTuple):
     changes: Sequence[Change] = ()
 
 
-def vlans(message: Bytes) -> Vlans:
+def vlans(message: Bytes) -> FrozenSet[Tuple[int, str]]:
     """The VLANs that a message of AF_BRIDGE lists, also those inside ranges: the number, and `pvid`, `untagged`, both
     with a comma between, or nothing."""
+    spec = show(message, lenient=True).get("af-spec", {})
     found, first = set(), 0
-    try:
-        for it in attributes(pick(message, IFLA_AF_SPEC).get(IFLA_AF_SPEC, b""), 0):
-            if it.number != _BRIDGE_VLAN_INFO or len(it.payload) < 4:
-                continue
-            flags, vid = number(it.payload[:2]), number(it.payload[2:4])
-            if flags & _RANGE_BEGIN:
-                first = vid
-                continue
-            told = ",".join(name for bit, name in ((_PVID, "pvid"), (_UNTAGGED, "untagged")) if flags & bit)
-            found |= {(at, told) for at in range(first if flags & _RANGE_END and 0 < first <= vid else vid, vid + 1)}
-    except Fault:
-        pass
+    for it in (one.get("vlan-info") for one in (*spec.get("repeated", ()), spec)):
+        if not isinstance(it, dict):  # it is another setting, or damaged
+            continue
+        flags, vid = it["flags"], it["vid"]
+        told = ",".join(one for one in flags if one in ("pvid", "untagged"))
+        if "range-begin" in flags:
+            first = vid
+        else:
+            start = first if "range-end" in flags and 0 < first <= vid else vid
+            found |= {(at, told) for at in range(start, vid + 1)}
     return frozenset(found)
 
 
@@ -66,55 +62,22 @@ def flat(value: Any, path: str = "") -> Dict[str, Any]:
     return {name: it for key, one in value.items() for name, it in flat(one, f"{path}{key}.").items()}
 
 
-def _placed(path: str, family: Optional[int]) -> str:
-    """What a path of an event is called here; empty where the message of family 0 tells it as well."""
-    if family == AF_BRIDGE:
-        if path.startswith("protinfo."):
-            return "port." + path[9:]
-        return path if path.startswith("af-spec.") and "vlan-info" not in path else ""
-    if path.startswith("linkinfo.slave-data."):
-        return "port." + path[20:]
-    return path[9:] if path.startswith("linkinfo.data.") else path
-
-
-def _plain(items: Iterable[Change]) -> List[Change]:
-    """Changes without what seldom matters."""
-    found = []
-    for it in items:
-        if it.path == "ifi-flags":
-            old, new = ([one for one in flags or () if one not in _HIDDEN_FLAGS] for flags in (it.old, it.new))
-            it = Change(it.path, old, new)
-        if it.path not in _HIDDEN and not it.path.startswith(_HIDDEN_STARTS) and it.old != it.new:
-            found.append(it)
-    return found
-
-
-def _is_of_port(path: str) -> bool:
-    return path.startswith("port.") or path == "vlan"
-
-
-def _names(it: Dict[str, Any]) -> List[str]:
-    return [it.get("ifname") or "", *(it.get("prop-list.alt-ifname") or ())]
-
-
 class View:
-    """What the events of any number of hosts say to people.
+    """What the events of a `Watch`, or of a stream, say to people. It has `dumps` where losses matter, and not
+    `changes_only`.
 
-    Indices have names. A setting of a bridge's port, which the kernel announces in two families, is told once, in
-    whichever comes first. VLANs are sets. Of a link that is there at first nothing is told, nor of settings with which
-    a port begins or ends.
+    Indices have names. VLANs are sets. A setting of a bridge's port is told once, though two families announce it. Of a
+    link that is there at first nothing is told, nor of the settings with which a port begins or ends.
 
-    names: tells of links that have or had one of these names, alternative names or patterns, whatever they are called
-        later; with a bridge of the settings of its ports, and which join and leave it. Without any it tells of all.
+    names: tells of links that have or had one of these names, alternative names or patterns; with a bridge also of the
+        settings of its ports, and of links that join and leave it. Without names it tells of all links.
     details: tells what seldom matters too, other families, and settings with which a port begins or ends.
-
-    The events are those of a `Watch`, or a stream, that has `dumps` where lost messages matter, and not `changes_only`.
     """
 
     def __init__(self, names: Sequence[str] = (), details: bool = False) -> None:
         self._patterns, self._details = names, details
-        self._links: Dict[Tuple[str, int], Dict[str, Any]] = {}  # by host and index: paths and values
-        self._selected: Set[Tuple[str, int]] = set()
+        # by host and index: values by their paths, and beside them `names` and `selected`
+        self._links: Dict[Tuple[str, int], Dict[str, Any]] = {}
 
     def name(self, index: Optional[int], host: str = "") -> str:
         """The name of a link, or `if7` where none is known."""
@@ -126,11 +89,11 @@ class View:
 
     def selects(self, *indices: Optional[int], host: str = "") -> bool:
         """Whether one of these links is there, and has or had a name that is asked for."""
-        return any((host, it or 0) in self._selected for it in indices)
+        return any(self._links.get((host, it or 0), {}).get("selected") for it in indices)
 
     def missing(self) -> List[str]:
         """The names that are asked for and that no link has."""
-        there = [name for it in self._links.values() for name in _names(it)]
+        there = [name for it in self._links.values() for name in it["names"]]
         return [it for it in self._patterns if not fnmatch.filter(there, it)]
 
     def learn(self, links: Mapping[Tuple[int, int], bytes], host: str = "") -> None:
@@ -140,100 +103,87 @@ class View:
 
     def told(self, event: Event) -> Optional[List[Told]]:
         """What an event says; None where it is of a link that is not asked for."""
-        was_selected = self._is_of_selected(event)
+        key, was_selected, found = (event.host, event.ifindex or 0), self._is_selected(event), []
         if event.change in ("new", "changed"):
             found = self._came(event)
-        elif event.change == "gone":
-            found = self._went(event, was_selected)
-        else:
-            name = "" if event.ifindex is None else self.name(event.ifindex, event.host)
-            found = [Told(event, event.change, name)] if was_selected and event.change != "done" else []
-        return found if was_selected or found or self._is_of_selected(event) else None
+        elif event.change == "gone" and event.family != AF_UNSPEC:  # that of family 0 tells that it left, or went
+            for path in [it for it in self._links.get(key, ()) if it.startswith("port.") and event.family == AF_BRIDGE]:
+                del self._links[key][path]
+        elif was_selected and event.change != "done":
+            name = self._links.get(key, {"ifname": event.ifname}).get("ifname") or f"if{event.ifindex}"
+            found = [Told(event, event.change, "" if event.ifindex is None else name)]
+        if event.change == "gone" and event.family == AF_UNSPEC:
+            self._links.pop(key, None)
+        return found if was_selected or found or self._is_selected(event) else None
 
-    def _is_of_selected(self, event: Event) -> bool:
+    def _is_selected(self, event: Event) -> bool:
         """Whether an event is of a link that is asked for, of a port of one, or of no link."""
         it = self._links.get((event.host, event.ifindex or 0))
         if event.ifindex is None or it is None:
             return event.ifindex is None or self.matches([event.ifname or ""])
-        indices = [event.ifindex, it.get("master")] if event.family == AF_BRIDGE else [event.ifindex]
-        return self.selects(*indices, host=event.host)
-
-    def _went(self, event: Event, is_selected: bool) -> List[Told]:
-        key = event.host, event.ifindex or 0
-        if event.family == AF_UNSPEC:
-            name = self.name(event.ifindex, event.host) if key in self._links else event.ifname or f"if{event.ifindex}"
-            self._links.pop(key, None)
-            self._selected.discard(key)
-            return [Told(event, "gone", name)] if is_selected else []
-        if event.family == AF_BRIDGE and key in self._links:  # that of family 0 tells that it left its bridge, or went
-            self._links[key] = {path: it for path, it in self._links[key].items() if not _is_of_port(path)}
-        return []
+        masters = [it.get("master")] if event.family == AF_BRIDGE else []
+        return self.selects(event.ifindex, *masters, host=event.host)
 
     def _came(self, event: Event) -> List[Told]:
         """What is told of a link that is new, or changed."""
-        host, index = event.host, event.ifindex or 0
+        host, index, is_new = event.host, event.ifindex or 0, (event.change, event.family) == ("new", AF_UNSPEC)
         it = self._links.setdefault((host, index), {})
         before = it.get("master") or 0
         items = self._taken(it, event)
         master = it.get("master") or 0
-        if self.matches(_names(it)):
-            self._selected.add((host, index))
-        is_new = event.change == "new" and event.family == AF_UNSPEC
-        if is_new and event.is_first:
-            return []
+        it["names"] = [it.get("ifname") or "", *(it.get("prop-list.alt-ifname") or ())]
+        it["selected"] = it.get("selected") or self.matches(it["names"])
         moves = [at for one in items if one.path == "master" for at in (one.old, one.new)]
-        items = [self._named(one, host, it) for one in (items if self._details else _plain(items))]
-        own = [one for one in items if not _is_of_port(one.path)]
-        port = [one for one in items if _is_of_port(one.path)]
-        if not self.selects(index, *moves, host=host):
-            own = []
-        begins_or_ends = before != master or all(one.path != "vlan" and one.new is None for one in port)
-        if begins_or_ends and not self._details or not self.selects(index, before, master, host=host):
-            port = []
+        shown, told = list(self._shown(items, host, it.get("link-netnsid") is not None)), []
+        own, port = ([one for one in shown if one.path.startswith("port.") is of_port] for of_port in (False, True))
         name, of = self.name(index, host), self.name(master or before, host) if master or before else ""
-        if is_new and (own or self.selects(index, host=host)):
-            return [Told(event, "new", name, "", own)]
-        return [Told(event, "changed", name, port_of, some) for port_of, some in (("", own), (of, port)) if some]
+        if (own or is_new) and not event.is_first and self.selects(index, *moves, host=host):
+            told.append(Told(event, "new" if is_new else "changed", name, "", own))
+        is_set = self._details or before == master and any(one.new is not None for one in port)
+        if port and is_set and self.selects(index, before, master, host=host):
+            told.append(Told(event, "changed", name, of, port))
+        return told
 
     def _taken(self, it: Dict[str, Any], event: Event) -> List[Change]:
-        """What an event changes: what comes in both families is no change when it comes again."""
-        is_new, changes = event.change == "new", event.changes
+        """What an event changes; what comes in both families is no change when it comes again."""
+        is_new, is_bridge, changes, items = event.change == "new", event.family == AF_BRIDGE, event.changes, []
         if event.family not in (AF_UNSPEC, AF_BRIDGE):
             return list(changes) if self._details else []
         if is_new:
-            shown = show(event.message, lenient=True)
-            there = flat({name: shown.get(name) for name in _KNOWN})
-            changes = [Change(path, new, new) for path, new in there.items()]
-            if event.family == AF_BRIDGE:
-                it["ifname"] = it.get("ifname") or shown.get("ifname")
-        items = []
+            message = show(event.message, lenient=True)
+            there = flat({name: message.get(name) for name in _KNOWN})
+            changes = [Change(path, None, new) for path, new in there.items()]
+            it["ifname"] = it.get("ifname") or there["ifname"]
+        if is_bridge:
+            changes = [*changes, Change("protinfo.vlan", None, vlans(event.message))]
+            it.setdefault("port.vlan", changes[-1].new if is_new else frozenset())
         for path, old, new in changes:
-            path = _placed(path, event.family)
-            if not path:
-                continue
-            if path.startswith("port."):
-                old = it.get(path, new if is_new else None)
-            if is_new or old != new:
-                it[path] = new
+            if is_bridge and ("vlan-info" in path or not path.startswith(("protinfo.", "af-spec."))):
+                continue  # the message of family 0 tells it, or the VLANs do
+            for start, place in _PLACES:
+                path = path.replace(start, place)
+            if is_new:
+                old = it.setdefault(path, new)
+            elif path.startswith("port."):
+                old = it.get(path)
             if old != new:
+                it[path] = new
                 items.append(Change(path, old, new))
-        if event.family == AF_BRIDGE:
-            old, it["vlan"] = it.get("vlan", frozenset()), vlans(event.message)
-            if old != it["vlan"] and not is_new:
-                items.append(Change("vlan", old, it["vlan"]))
-        elif is_new:
+        if is_new and not is_bridge:
             items = [Change(path.rpartition(".")[2], None, it[path]) for path in _FIRST if it.get(path)]
         return items
 
-    def _named(self, change: Change, host: str, it: Dict[str, Any]) -> Change:
-        """The change with names in the place of indices; 0 is none, and one of another namespace has no name."""
-        def named(value: Any) -> Any:
-            if not value or not isinstance(value, int):
-                return value or None
-            is_far = change.path == "link" and it.get("link-netnsid") is not None
-            return f"if{value}" if is_far else self.name(value, host)
-
-        return Change(change.path, named(change.old), named(change.new)) if change.path in _INDICES else change
+    def _shown(self, items: Iterable[Change], host: str, is_far: bool) -> Iterator[Change]:
+        """Changes with names in the place of indices, of which 0 is none; and without what seldom matters."""
+        for path, old, new in items:
+            if path == "ifi-flags" and not self._details:
+                old, new = ([one for one in flags or () if one not in _HIDDEN_FLAGS] for flags in (old, new))
+            if not self._details and (old == new or f"{path}$".startswith(_HIDDEN)):
+                continue
+            if path in _INDICES:
+                old, new = (it or None if not it or not isinstance(it, int) else f"if{it}" if is_far and path == "link"
+                            else self.name(it, host) for it in (old, new))
+            yield Change(path, old, new)
 
 
 class Settling:
@@ -248,8 +198,7 @@ class Settling:
         """What is to be told now: nothing, or what is no change, behind all that was held."""
         if told.what != "changed" or not self._seconds:
             return [*self.release(), told]
-        if not self._held:
-            self._end = time.monotonic() + self._seconds
+        self._end = self._end if self._held else time.monotonic() + self._seconds
         key = told.event.host, told.event.ifindex, bool(told.port_of)
         first = self._held.get(key, told)
         changes = {it.path: it for it in first.changes}

@@ -6,7 +6,7 @@ import struct
 import sys
 import time as clock
 from datetime import datetime
-from typing import Any, Dict, FrozenSet, Iterable, List, Mapping, NamedTuple, Optional, Sequence, Set, Tuple
+from typing import Any, Dict, FrozenSet, Iterable, List, NamedTuple, Optional, Sequence, Set, Tuple
 
 from .messages import (HEADER_SIZE, Bytes, Change, Fault, attributes, canonical, diff, is_chosen, pick, show_json,
                        state, text)
@@ -55,14 +55,13 @@ class Event(NamedTuple):
         """Its time, in UTC; None where that is not as linkdump(1) writes it."""
         return _when(self.time)
 
-    def json(self, words: Optional[Mapping[str, str]] = None) -> str:
+    def json(self, line: str = "") -> str:
         """The line of linkdiff(1), in ASCII.
 
-        words: those of the line that was read, of which `type=`, `time=` and `host=` stand there; without them its own
-            time and host do.
+        line: that was read, of whose words `type=`, `time=` and `host=` stand there; without it its own time and host.
         """
-        if words is None:
-            words = {name: it for name, it in (("time", self.time), ("host", self.host)) if it}
+        own = {name: it for name, it in (("time", self.time), ("host", self.host)) if it}
+        words = _parted(line)[0] if line else own
         found: Dict[str, Any] = {name: _utf8(words[name]) for name in ("type", "time", "host") if name in words}
         if self.fault is not None:
             found.update(json.loads(show_json(self.message, "running", True)))

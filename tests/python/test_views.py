@@ -51,7 +51,7 @@ ROWS = [
       ("changed", "e", "br0", [("port.state", "disabled", "forwarding")])]),
     ("VLANs are sets", View(), [BR, link(2, "e", *port(9)), link(2, "e", vlan((6, 1)), family=7)],
      [link(2, "e", vlan((6, 1), (8, 3), (16, 4)), family=7)],
-     [("changed", "e", "br0", [("vlan", {(1, "pvid,untagged")}, {(1, "pvid,untagged"), (3, ""), (4, "")})])]),
+     [("changed", "e", "br0", [("port.vlan", {(1, "pvid,untagged")}, {(1, "pvid,untagged"), (3, ""), (4, "")})])]),
     ("what seldom matters", View(), [link(2, "e")], [link(2, "e", (n.IFLA_CARRIER, u8(1)), flags=0x40)], []),
     ("it too", View(details=True), [link(2, "e")], [link(2, "e", (n.IFLA_CARRIER, u8(1)), flags=0x40)],
      [("changed", "e", "", [("ifi-flags", [], ["running"]), ("carrier", None, 1)])]),

@@ -216,12 +216,12 @@ class Rules(unittest.TestCase):
         (new,) = watch.message(message, host="h", time="t")
         self.assertEqual(new.json(), '{"time":"t","host":"h","change":"new","ifi-family":0,"ifi-index":7,'
                                      '"ifname":"\\u00e9"}')
-        self.assertEqual(json.loads(new.json({"type": "new", "x": "y", "host": "\udce9"})), {
+        self.assertEqual(json.loads(new.json("type=new x=y host=\udce9")), {
             "type": "new", "host": "e9", "change": "new", "ifi-family": 0, "ifi-index": 7, "ifname": "é"})
         (changed,) = watch.message(message + linkwire.build([(4, linkwire.u32(9))])[16:], host="h")
-        self.assertEqual(json.loads(changed.json({}))["changes"], [{"path": "mtu", "new": 9}])
+        self.assertEqual(json.loads(changed.json())["changes"], [{"path": "mtu", "new": 9}])
         (fault,) = watch.message(message + b"\5\0", host="h")
-        self.assertEqual(json.loads(fault.json({}))["fault"], "frame-short")
+        self.assertEqual(json.loads(fault.json())["fault"], "frame-short")
         (lost,) = watch.lost()
         self.assertEqual(lost.json(), '{"change":"lost"}')
 

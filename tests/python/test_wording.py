@@ -28,9 +28,9 @@ ROWS = [
     ("ifi-flags", ["up", "promisc"], ["up"], "flags -promisc"),
     ("ifi-flags", None, ["up"], "flags +up"),
     ("prop-list.alt-ifname", ["a", "b c"], ["a", "d"], 'altname -"b c" +d'),
-    ("vlan", frozenset({(1, "pvid")}), frozenset({(1, "")}), "vlan -1(pvid) +1"),
-    ("vlan", frozenset({(1, "a"), (2, "a"), (3, ""), (5, "")}), frozenset(), "vlan -1-2(a) -3 -5"),
-    ("vlan", frozenset(), frozenset((it, "untagged") for it in (10, 11, 12, 20)),
+    ("port.vlan", frozenset({(1, "pvid")}), frozenset({(1, "")}), "vlan -1(pvid) +1"),
+    ("port.vlan", frozenset({(1, "a"), (2, "a"), (3, ""), (5, "")}), frozenset(), "vlan -1-2(a) -3 -5"),
+    ("port.vlan", frozenset(), frozenset((it, "untagged") for it in (10, 11, 12, 20)),
      "vlan +10-12(untagged) +20(untagged)"),
 ]
 MTU, ALIAS = Change("mtu", 1500, 9000), Change("ifalias", None, "\x1b")
@@ -45,7 +45,8 @@ TOLD = [
     (("again", ""), (), "all is known: what changed meanwhile is told above"),
     (("fault", "e"), (), "too few bytes for the header of an attribute, at byte 36"),
 ]
-WIDTHS = [("abc", 3), ("日本", 4), ("e\u0301", 1), ("ü", 1), ("", 0)]
+WIDTHS = [("abc", 3), ("日本", 4), ("e\u0301", 1), ("ü", 1), ("", 0), ("\x1b[1;31m日本\x1b[0m", 4),
+          ("\x1b[36me\x1b[0m", 1)]
 BIDIRECTIONAL = [0x61c, *range(0x200e, 0x2010), *range(0x202a, 0x202f), *range(0x2066, 0x206a)]
 
 
@@ -53,7 +54,13 @@ class Wording(unittest.TestCase):
     def test_rows(self):
         words = Words()
         for path, old, new, wanted in ROWS:
-            self.assertEqual("".join(words.change(Change(path, old, new))), wanted)
+            self.assertEqual(words.change(Change(path, old, new)), wanted)
+
+    def test_marked(self):
+        """What stands behind an arrow is marked, and nothing else."""
+        words = Words(mark="<{}>".format)
+        self.assertEqual([words.change(MTU), words.change(MTU, True), words.change(Change("ifi-flags", [], ["up"]))],
+                         ["mtu 1500 → <9000>", "mtu 9000", "flags +up"])
 
     def test_whole(self):
         self.assertEqual(Words("utf-8", True).value("x" * 99), "x" * 99)
@@ -61,14 +68,14 @@ class Wording(unittest.TestCase):
     def test_other_encodings(self):
         for encoding, wanted in (("ascii", "alias \\u00fc -> \\u65e5"), ("latin-1", "alias ü -> \\u65e5"),
                                  ("utf-8", "alias ü → 日")):
-            self.assertEqual("".join(Words(encoding).change(Change("ifalias", "ü", "日"))), wanted)
+            self.assertEqual(Words(encoding).change(Change("ifalias", "ü", "日")), wanted)
         self.assertEqual(Words("ascii").value("a->b"), '"a->b"')
 
     def test_told(self):
         event = Event("fault", "", fault=Fault("frame-short", 36, (), b""))
         for (what, *of), changes, wanted in TOLD:
             told = Told(event, what, *of)._replace(changes=changes)
-            self.assertEqual("|".join(map("".join, Words().told(told))), wanted)
+            self.assertEqual("|".join(Words().told(told)), wanted)
 
     def test_names(self):
         self.assertEqual(Words().name("a b\n"), "a\\u0020b\\u000a")
