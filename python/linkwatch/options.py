@@ -61,9 +61,8 @@ class Options:
         while rest:
             word = rest.pop()
             if word == "--":
-                self.names += reversed(rest)
-                break
-            if word == "-" or not word.startswith("-"):
+                self.names, rest = self.names + rest[::-1], []
+            elif word == "-" or not word.startswith("-"):
                 self.names.append(word)
             elif word not in OPTIONS:
                 raise ValueError(f"there is no option {word}")
