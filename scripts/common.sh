@@ -5,14 +5,30 @@ set -euo pipefail
 self=${self:-$(basename "$0" .sh)}
 top=$(cd "$(dirname "${BASH_SOURCE[0]}")/.." && pwd)
 
-skips() {
+# lacks WHAT..: says that it is skipped, and goes on; `skips` ends there
+lacks() {
     echo "$self: skipped: $*"
+}
+
+skips() {
+    lacks "$@"
     exit 0
 }
 
+# fails WHY..: ends with that, and shows what `tries` and `runs` left
 fails() {
+    local it
+    for it in "$folder/out" "$folder/err" "${log:-}"; do
+        [ ! -f "$it" ] || tail -n 40 "$it" | cut -c 1-300 >&2
+    done
     echo "$self: $*" >&2
     exit 1
+}
+
+# tries COMMAND..: its status is `status`, and what it says is in $folder/out and $folder/err
+tries() {
+    status=0
+    "$@" >"$folder/out" 2>"$folder/err" || status=$?
 }
 
 # A script runs itself again as `SCRIPT --inside FOLDER WORD..`: `inside` is 1 there, and its words stay.
@@ -38,12 +54,26 @@ goes_inside() {
     skips 'a namespace: no right to make one, or to mount a sysfs'
 }
 
+# has WHAT COMMAND..: whether these are there, else it says that WHAT is skipped
+has() {
+    local it
+    for it in "${@:2}"; do
+        command -v "$it" >/dev/null || { lacks "$1: no $it"; return 1; }
+    done
+}
+
 # needs COMMAND..: else the script is skipped
 needs() {
     local it
     for it in "$@"; do
         command -v "$it" >/dev/null || skips "no $it"
     done
+}
+
+# has_namespace WHAT: whether a network namespace may be made, and ip is there, else it says that WHAT is skipped
+has_namespace() {
+    has "$1" ip || return 1
+    unshare -rn true 2>/dev/null || { lacks "$1: no right to make a network namespace"; return 1; }
 }
 
 # program NAME [FOLDER..]: where the program is, in these folders, else as the gate left it or in out/; nothing where it
@@ -90,7 +120,12 @@ waits() {
 # runs COMMAND..: what it says is in the file $log, and is shown where it fails
 log=$folder/log
 runs() {
-    "$@" >"$log" 2>&1 || { cat "$log" >&2; fails "$* fails"; }
+    "$@" >"$log" 2>&1 || fails "$* fails"
+}
+
+# passed: how many tests of cargo have, by what `runs` left
+passed() {
+    awk '/^test result: ok/ { ok += $4; not += $8 } END { print ok " tests passed, " not " ignored" }' "$log"
 }
 
 # says NAME COMMAND..: what it says where it fails, and `status` is 1 then, else that it is well

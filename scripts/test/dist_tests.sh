@@ -14,7 +14,7 @@ if [ -z "$inside" ]; then
         if unshare -rm sh -c "$hidden" 2>/dev/null; then
             command=(unshare -rm sh -c "$hidden && exec \"\$@\"" sh "${command[@]}")
         else
-            echo 'dist: the toolchain hidden by a mount: skipped: it is not allowed here'
+            lacks 'the toolchain hidden by a mount: it is not allowed here'
         fi
     fi
     "${command[@]}"
@@ -26,20 +26,9 @@ fi
 cd "$folder/tree"
 read -ra programs <<<"$(sed -n 's/^PROGRAMS = //p' dist/Makefile)"
 
-# has WHAT COMMAND..: whether these are installed, else it says that WHAT is skipped
-has() {
-    local it
-    for it in "${@:2}"; do
-        command -v "$it" >/dev/null || { echo "dist: $1: skipped: no $it"; return 1; }
-    done
-}
-
 # tests WHAT: the tests of what was built, of which one line is left
 tests() {
-    if ! sh tests/self_test.sh "${programs[@]}" >"$folder/log" 2>&1; then
-        cat "$folder/log" >&2
-        fails "$1 fails"
-    fi
+    runs sh tests/self_test.sh "${programs[@]}"
     grep skipped "$folder/log" | sed "s/^/dist: $1: /" || true
     echo "dist: $1: $(grep -c 'stored run' "$folder/log") stored runs, ${TESTS:-all tests of tests/c}: ok"
 }
@@ -47,9 +36,8 @@ tests() {
 # dumps WHAT COMMAND..: linkdump runs, and without libpcap it reads no captures
 dumps() {
     "${@:2}" --version | grep -qx "linkdump $(sed -n 's/^#define LINKWIRE_VERSION "\(.*\)"$/\1/p' include/linkwire.h)"
-    local status=0
-    "${@:2}" --read x 2>"$folder/log" || status=$?
-    [ "$status $(cat "$folder/log")" = '1 linkdump: x: this linkdump is built without libpcap, and reads no captures' ]
+    tries "${@:2}" --read x
+    [ "$status $(cat "$folder/err")" = '1 linkdump: x: this linkdump is built without libpcap, and reads no captures' ]
     echo "dist: $1: linkdump: ok"
 }
 
@@ -81,7 +69,7 @@ python3 scripts/test/readme.py out/liblinkwire.a out
 scripts/test/test_install.sh
 
 if [ "$(uname -m)" != x86_64 ]; then
-    echo 'dist: on an old processor: skipped: no x86_64'
+    lacks 'on an old processor: no x86_64'
 elif has 'on an old processor' qemu-x86_64; then
     RUN='qemu-x86_64 -cpu Conroe' TESTS=$few tests 'on an old processor'
 fi
@@ -119,14 +107,14 @@ make -s check >"$folder/log"
 tail -n 1 "$folder/log" | grep -qx 'self-test passed'
 cp dist/heap.c "$folder/heap.c"
 echo '/* changed */' >>dist/heap.c
-if make -s check >"$folder/log" 2>&1 || ! grep -q 'a file is not that of dist/SUMS' "$folder/log"; then
-    fails 'the archive: a file that changed is not told'
-fi
+# told TEXT COMMAND..: it fails, and says that
+told() {
+    tries "${@:2}"
+    { [ "$status" != 0 ] && grep -q "$1" "$folder/err"; } || fails "the archive: '$1' is not told"
+}
+told 'a file is not that of dist/SUMS' make -s check
 cp "$folder/heap.c" dist/heap.c
-if make -s PROVE=1 >"$folder/log" 2>&1 || ! grep -q 'the crates, which are not in this archive' "$folder/log"; then
-    cat "$folder/log" >&2
-    exit 1
-fi
+told 'the crates, which are not in this archive' make -s PROVE=1
 echo 'dist: the archive: the same bytes twice, built, tested, installed: ok'
 
 if has packages dpkg-buildpackage dh dh_python3 pkg-config; then
@@ -157,10 +145,8 @@ if has packages dpkg-buildpackage dh dh_python3 pkg-config; then
     fi
     echo 'dist: packages: the same bytes twice, unpacked and used by pkg-config: ok'
     if has 'packages: lintian' lintian; then
-        lintian --no-cfg --display-info "$folder"/deb/*.deb >"$folder/log" 2>&1 || true
-        if grep -v 'initial-upload-closes-no-bugs' "$folder/log" | grep '^[EW]:\|hardening-' >&2; then
-            exit 1
-        fi
+        tries lintian --no-cfg --display-info "$folder"/deb/*.deb
+        ! grep -hv 'initial-upload-closes-no-bugs' "$folder/out" "$folder/err" | grep '^[EW]:\|hardening-' >&2 || exit 1
         echo 'dist: packages: lintian: ok'
     fi
 fi

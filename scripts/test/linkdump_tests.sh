@@ -13,54 +13,44 @@ builds() {
     ${CC:-cc} "${flags[@]}" -o "$folder/$1" "$top"/programs/linkdump*.c "${@:2}"
 }
 if ! builds with "${pcap[@]}" 2>"$folder/err"; then
-    grep -q 'pcap' "$folder/err" || fails "$(cat "$folder/err")"
-    echo 'linkdump: skipped: captures: no libpcap'
+    grep -q 'pcap' "$folder/err" || fails 'linkdump does not compile'
+    lacks 'captures: no libpcap'
     pcap=()
 fi
 
 for compiler in gcc clang; do
-    if command -v "$compiler" >/dev/null; then
-        CC=$compiler builds "$compiler" -O2 "${pcap[@]}"
-        CC=$compiler builds "$compiler-without" -O0
-    else
-        echo "linkdump: skipped: no $compiler"
-    fi
+    has 'a compiler' "$compiler" || continue
+    CC=$compiler builds "$compiler" -O2 "${pcap[@]}"
+    CC=$compiler builds "$compiler-without" -O0
 done
 
 # without libpcap it says so, asks the kernel all the same, and needs the C library alone
 builds without -O2
-status=0
-said=$("$folder/without" --read x 2>&1) || status=$?
-[ "$status $said" = '1 linkdump: x: this linkdump is built without libpcap, and reads no captures' ] ||
-    fails "built without libpcap, --read: $said, status $status"
+tries "$folder/without" --read x
+[ "$status $(cat "$folder/err")" = '1 linkdump: x: this linkdump is built without libpcap, and reads no captures' ] ||
+    fails "built without libpcap, --read: status $status"
 "$folder/without" --help | grep -q 'built without libpcap' || fails 'built without libpcap, --help does not say so'
-if readelf -d "$folder/without" | grep NEEDED | grep -vE 'libc\.(so|musl)|ld-' >&2; then
+! readelf -d "$folder/without" | grep NEEDED | grep -vE 'libc\.(so|musl)|ld-' >&2 ||
     fails 'built without libpcap, it needs a library'
-fi
 
 builds linkdump -O2 "${pcap[@]}"
 sanitized=''
 if builds sanitized -O1 -g -fsanitize=address,undefined -fno-sanitize-recover=all "${pcap[@]}" 2>"$folder/err"; then
     sanitized=$folder/sanitized
 else
-    tail -n 3 "$folder/err" >&2
-    echo 'linkdump: skipped: no sanitizers'
+    lacks "sanitizers: $(tail -n 3 "$folder/err")"
 fi
 for program in "$folder/linkdump" ${sanitized:+"$sanitized"}; do
     "$top/tests/linkdump/live.sh" "$program"
 done
-if ! command -v python3 >/dev/null; then
-    echo 'linkdump: skipped: links that come and go, captures: no python3'
-    echo 'linkdump passed'
-    exit 0
-fi
+has 'links that come and go, captures' python3 || { echo 'linkdump passed' && exit; }
 python3 "$top/tests/linkdump/hosts.py"
 linkdiff=$(program linkdiff)
-[ -n "$linkdiff" ] || echo 'linkdump: skipped: what linkdiff tells of links that come and go: it is not built'
-if command -v ip >/dev/null && "$folder/linkdump" >/dev/null 2>&1; then
+[ -n "$linkdiff" ] || lacks 'what linkdiff tells of links that come and go: it is not built'
+if ! "$folder/linkdump" >/dev/null 2>&1; then
+    lacks 'links that come and go: no netlink'
+elif has 'links that come and go' ip; then
     python3 "$top/tests/linkdump/churn.py" ${linkdiff:+--linkdiff "$linkdiff"} "$folder/linkdump" "${1:-15}"
-else
-    echo 'linkdump: skipped: links that come and go: no command ip, or no netlink'
 fi
 if [ "${#pcap[@]}" != 0 ]; then
     python3 "$top/tests/linkdump/captures.py" "$folder/linkdump"

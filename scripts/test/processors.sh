@@ -46,7 +46,7 @@ makes_lines() {
     touch "$folder/asked"
     linkwire=$(program linkwire) linkstate=$(program linkstate)
     if [ -z "$linkwire" ] || [ -z "$linkstate" ]; then
-        echo 'processors: lines: skipped: the programs linkwire and linkstate are not built'
+        lacks 'lines: the programs linkwire and linkstate are not built'
         return
     fi
     runs "${CC:-cc}" -std=gnu11 -O2 -DLINES_ALONE -I"$top/include" -o "$folder/second" "$top/tests/second/lines.c"
@@ -105,9 +105,9 @@ tests() {
     local name=$1 target=$2 triplet=$3 qemu rustc variable loader runner is_turned=''
     qemu=$(command -v "qemu-$4" || command -v "qemu-$4-static" || true)
     rustc=$(rust_of "$target")
-    [ -n "$qemu" ] || { echo "$self: $name: skipped: no qemu-$4" && return; }
-    command -v "$triplet-gcc" >/dev/null || { echo "$self: $name: skipped: no $triplet-gcc" && return; }
-    [ -n "$rustc" ] || { echo "$self: $name: skipped: no library of $target for rustc" && return; }
+    [ -n "$qemu" ] || { lacks "$name: no qemu-$4" && return; }
+    has "$name" "$triplet-gcc" || return 0
+    [ -n "$rustc" ] || { lacks "$name: no library of $target for rustc" && return; }
     runner=("$qemu" -L "$sysroots/$triplet")
     loader=$sysroots/$triplet/lib/ld-linux.so.2
     if "$loader" --version >/dev/null 2>&1; then
@@ -120,8 +120,7 @@ tests() {
     "$rustc" --print cfg --target "$target" | grep -q '^target_endian="big"$' && is_turned=turned.canonical
     cd "$top/rust"
     runs cargo test --locked --target "$target" </dev/null
-    awk -v of="$self: $name: " '/^test result: ok/ { ok += $4; not += $8 }
-        END { print of ok " tests passed, " not " ignored" }' "$log"
+    echo "$self: $name: $(passed)"
     answers "${runner[@]}" "$CARGO_TARGET_DIR/$target/debug/examples/lines"
     [ "$is_turned" ] || tests_c "$target" "$triplet" "${runner[@]}"
     tested=$((tested + 1))

@@ -13,30 +13,22 @@ unset LINKWIRE PYTHONPATH CC
 export PYTHONDONTWRITEBYTECODE=1 PIP_DISABLE_PIP_VERSION_CHECK=1 PIP_ROOT_USER_ACTION=ignore
 export LINKDIFF=$programs/linkdiff
 
-# lacks WHAT: says so, and goes on
-lacks() {
-    echo "python: skipped: $*"
-}
-
 # offline COMMAND..: where there is no network, if that is allowed
 offline() {
     if unshare -rn true 2>/dev/null; then
-        unshare -rn "$@"
-    else
-        "$@"
+        set -- unshare -rn "$@"
     fi
+    "$@"
 }
 
-# says PATTERN: whether the last error does
-says() {
-    grep -q "$1" "$folder/err" || fails "it does not say '$1' but $(cat "$folder/err")"
+# refuses PATTERN COMMAND..: it fails, and its error says that
+refuses() {
+    tries "${@:2}"
+    { [ "$status" != 0 ] && grep -q "$1" "$folder/err"; } || fails "${*:2}: status $status, and it does not say '$1'"
 }
 
 types() {
-    if ! command -v mypy >/dev/null; then
-        lacks 'types: no mypy'
-        return
-    fi
+    has types mypy || return 0
     runs mypy --strict --cache-dir="$folder/mypy" python/linkwire
     echo "python: mypy --strict: $(tail -n 1 "$log")"
 }
@@ -50,30 +42,19 @@ wheels() {
     done
     cmp "$folder"/one/*.whl "$folder"/two/*.whl
     ln -s "$(python3 -c 'import sys; print(sys.executable)')" "$folder/tools/python3"
-    if PATH=$folder/tools LINKWIRE=/nothing python3 python/backend.py "$folder/none" 2>"$folder/err"; then
-        fails 'a wheel is built without a compiler and a library'
-    fi
-    says '^linkwire: there is no cc, and no installed liblinkwire.so.0: install'
+    refuses '^linkwire: there is no cc, and no installed liblinkwire.so.0: install' \
+        env PATH="$folder/tools" LINKWIRE=/nothing python3 python/backend.py "$folder/none"
     PATH=$folder/tools LINKWIRE=$programs/liblinkwire.so.0 python3 python/backend.py "$folder/none" >"$folder/name"
     grep -q -- '-any.whl$' "$folder/name" || fails "without a compiler: $(cat "$folder/name")"
-    if CC="$folder/tools/python3" python3 python/backend.py "$folder/none" >/dev/null 2>&1; then
-        fails 'a compiler that is none builds a wheel'
-    fi
-    if LINKWIRE=/nothing PYTHONPATH=python python3 -c 'import linkwire' 2>"$folder/err"; then
-        fails 'the package is imported without a library'
-    fi
-    says 'ImportError: linkwire: LINKWIRE names a library that does not load: /nothing: cannot open'
+    refuses '' env CC="$folder/tools/python3" python3 python/backend.py "$folder/none"
+    refuses 'ImportError: linkwire: LINKWIRE names a library that does not load: /nothing: cannot open' \
+        env LINKWIRE=/nothing PYTHONPATH=python python3 -c 'import linkwire'
     if PYTHONPATH=python python3 -c 'import linkwire' 2>"$folder/err"; then
         lacks 'what is said without a library: one is installed'
     else
-        says 'ImportError: linkwire: no shared library: install liblinkwire.so.0'
+        grep -q 'ImportError: linkwire: no shared library: install liblinkwire.so.0' "$folder/err"
     fi
     echo 'python: the wheel: the same bytes twice; without a compiler or a library what lacks is said'
-}
-
-# lists PATTERN FILE: whether the archive has such a name
-lists() {
-    python3 -m zipfile -l "$2" | grep -q "$1" || fails "$2 has no $1"
 }
 
 # builds CC TAG: a wheel by this compiler has this tag
@@ -88,13 +69,9 @@ builds() {
 compilers() {
     local it machine
     builds cc "linux_$(uname -m)"
-    lists linkwire-.*/LICENSE "$folder/linux_$(uname -m).whl"
+    python3 -m zipfile -l "$folder/linux_$(uname -m).whl" | grep -q 'linkwire-.*/LICENSE' || fails 'no LICENSE'
     while read -r it machine; do
-        if command -v "${it%% *}" >/dev/null; then
-            builds "$it" "$machine"
-        else
-            lacks "a wheel for $machine: no ${it%% *}"
-        fi
+        ! has "a wheel for $machine" "$it" || builds "$it" "$machine"
     done <<END
 aarch64-linux-gnu-gcc linux_aarch64
 musl-gcc musllinux_1_1_$(uname -m)
@@ -102,10 +79,8 @@ END
     for it in riscv64 arm s390x i686; do
         printf '#!/bin/sh\necho %s-linux-gnu\n' "$it" >"$folder/tools/cc"
         chmod +x "$folder/tools/cc"
-        if CC=$folder/tools/cc python3 python/backend.py "$folder" 2>"$folder/err"; then
-            fails "a wheel for $it"
-        fi
-        says "^linkwire: processors of $it-linux-gnu are not supported, only aarch64 and x86_64. linkdump is C"
+        refuses "^linkwire: processors of $it-linux-gnu are not supported, only aarch64 and x86_64. linkdump is C" \
+            env CC="$folder/tools/cc" python3 python/backend.py "$folder"
     done
     rm "$folder/tools/cc"
     mkdir "$folder/odd"
@@ -115,10 +90,8 @@ END
     else
         echo nothing >"$folder/odd/linkwire/liblinkwire.so.0"
     fi
-    if PYTHONPATH=$folder/odd python3 -c 'import linkwire' 2>"$folder/err"; then
-        fails 'a library of another processor is imported'
-    fi
-    says "ImportError: linkwire: the shared library is there and does not load: $folder/odd/linkwire/liblinkwire.so.0"
+    refuses "ImportError: linkwire: the shared library is there and does not load: $folder/odd/linkwire/liblinkw" \
+        env PYTHONPATH="$folder/odd" python3 -c 'import linkwire'
     echo 'python: the tag of a wheel is of its compiler, and what does not fit is said'
 }
 
@@ -143,10 +116,7 @@ sources() {
     (cd / && python3 "$folder"/sources/linkwire-*/backend.py "$folder/of-sources") >/dev/null
     cmp "$folder"/one/*.whl "$folder"/of-sources/*.whl
     cp -r python dist LICENSE "$folder/tree"
-    if ! makes "$env" python3; then
-        lacks 'an installation that follows the sources: no venv'
-        return
-    fi
+    makes "$env" python3 || { lacks 'an installation that follows the sources: no venv' && return; }
     runs offline "${pip[@]}" install --no-index -e "$folder/tree/python"
     echo 'added = 1' >>"$folder/tree/python/linkwire/numbers.py"
     (cd / && "$env/bin/python" -c 'import linkwire; linkwire.check(bytes(16)); print(linkwire.numbers.added)') \
@@ -158,10 +128,7 @@ sources() {
 # environment VERSION PYTHON: installs, and runs the tests
 environment() {
     local env=$folder/$1 start=$SECONDS pip log=$folder/$1.log
-    if ! makes "$env" "$2"; then
-        lacks "Python $1: no venv"
-        return
-    fi
+    makes "$env" "$2" || { lacks "Python $1: no venv" && return; }
     runs offline "${pip[@]}" install --no-index ./python
     runs env -u LINKWIRE "$env/bin/linkwatch" --version
     runs env -u LINKWIRE PYTHONPATH=tests/python "$env/bin/python" -m unittest discover -v -s tests/python
@@ -175,10 +142,7 @@ environments() {
     local it found waits=()
     for it in 3.9 3.10 3.11 3.12 3.13; do
         found=$(python "$it")
-        if [ -z "$found" ]; then
-            lacks "Python $it: it is not here"
-            continue
-        fi
+        [ -n "$found" ] || { lacks "Python $it: it is not here" && continue; }
         environment "$it" "$found" &
         waits+=("$!")
     done
@@ -196,10 +160,8 @@ ours() {
 }
 
 live() {
-    if ! command -v ip >/dev/null || ! unshare -n true 2>/dev/null; then
-        lacks 'the running kernel: no ip, or no right to make a namespace'
-        return
-    fi
+    has 'the running kernel' ip || return 0
+    unshare -n true 2>/dev/null || { lacks 'the running kernel: no right to make a namespace' && return; }
     ours unshare -n python3 tests/python/live.py
     ours unshare -n python3 tests/python/beside.py made
     ours python3 tests/python/pages.py README.md docs/PYTHON.md docs/FLEET.md

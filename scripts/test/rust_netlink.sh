@@ -8,22 +8,22 @@ registry=/usr/share/cargo/registry
 export CARGO_TARGET_DIR=$folder/target CARGO_NET_OFFLINE=true
 debian=(cargo --config "$top/rust/netlink/debian.toml")
 
-# has NAME..: whether Debian's packages of these crates are installed
-has() {
+# packed NAME..: whether Debian's packages of these crates are installed, else it says which is not
+packed() {
     local name
-    command -v cargo >/dev/null || return 1
     for name; do
-        compgen -G "$registry/$name-[0-9]*" >/dev/null || return 1
+        compgen -G "$registry/$name-[0-9]*" >/dev/null || { lacks "rust/: no crate $name of Debian"; return 1; }
     done
 }
 
-if has netlink-packet-core netlink-proto netlink-sys tokio tokio-macros futures libc; then
+needs cargo
+if packed netlink-packet-core netlink-proto netlink-sys tokio tokio-macros futures libc; then
     cp -r "$top/rust" "$folder/rust"
     cd "$folder/rust/netlink"
     runs "${debian[@]}" build --examples
     runs "${debian[@]}" test --doc
     echo 'rust: netlink: the examples are built'
-    if unshare -rn true 2>/dev/null; then
+    if has_namespace 'the examples of rust/netlink'; then
         for example in manage moved; do # an alias in Latin-1 hides no link
             # shellcheck disable=SC2016
             runs unshare -rn sh -c 'ip link set lo alias "$(printf "caf\351")"; exec "$0"' \
@@ -35,19 +35,13 @@ if has netlink-packet-core netlink-proto netlink-sys tokio tokio-macros futures 
             "$CARGO_TARGET_DIR/debug/examples/watch"
         [ "$(grep -c '^new ' "$folder/log") $(grep -c '^gone ' "$folder/log")" = '2 2' ]
         echo 'rust: netlink: the examples run: ok'
-    else
-        echo 'rust: netlink: to run: skipped: no network namespace may be made'
     fi
-else
-    echo 'rust: netlink: skipped: its crates are not installed'
 fi
-if has serde serde_derive serde_json; then
+if packed serde serde_derive serde_json; then
     [ -d "$folder/rust" ] || cp -r "$top/rust" "$folder/rust"
     cp -r "$top/bench" "$folder/bench"
     cd "$folder/rust/serde"
     runs "${debian[@]}" build # by itself: for the tests another crate asks serde for its std
     runs "${debian[@]}" test --tests
-    awk '/^test result: ok/ { sum += $4 } END { print "rust: serde: " sum " tests passed" }' "$folder/log"
-else
-    echo 'rust: serde: skipped: its crates are not installed'
+    echo "rust: serde: $(passed)"
 fi

@@ -14,7 +14,7 @@ export CARGO_TARGET_DIR=$folder/target CARGO_NET_OFFLINE=true
 
 cd "$top/rust"
 runs cargo test --locked
-awk '/^test result: ok/ { sum += $4 } END { print "rust: " sum " tests passed" }' "$folder/log"
+echo "rust: $(passed)"
 
 # by the oldest rustc that the crate is said to need: a toolchain of rustup, or the distribution's
 oldest=$(sed -n 's/^rust-version = "\(.*\)"/\1/p' Cargo.toml)
@@ -27,11 +27,10 @@ elif [[ $(/usr/bin/rustc --version 2>/dev/null) = "rustc $oldest."* ]] && [ -x /
 fi
 if [ "${#old[@]}" != 0 ]; then
     CARGO_TARGET_DIR=$folder/oldest runs "${old[@]}" test --locked
-    awk -v old="$oldest" '/^test result: ok/ { sum += $4 } END { print "rust: " sum " tests passed by rustc " old }' \
-        "$folder/log"
+    echo "rust: by rustc $oldest: $(passed)"
     rm -rf "$folder/oldest"
 else
-    echo "rust: the tests by rustc $oldest: skipped: no such rustc"
+    lacks "the tests by rustc $oldest: no such rustc"
 fi
 
 "$top/scripts/test/rust_netlink.sh"
@@ -75,7 +74,7 @@ echo "rust: the page's program: ok"
 
 # the three programs of the first page of the docs, on the kernel
 runs cargo build --locked --example list --example watch --example change
-if unshare -rn true 2>/dev/null; then
+if has_namespace 'list, watch and change'; then
     # shellcheck disable=SC2016
     runs unshare -rn sh -ec 'cd "$0"; timeout 30 ./watch 2 & sleep 2
         ip link add v0 type veth peer name v1; ./change v0 1400; wait; ./list
@@ -84,8 +83,6 @@ if unshare -rn true 2>/dev/null; then
     grep -q '^Error: Os { code: 19' "$folder/log"
     grep -q 'usage: change NAME MTU' "$folder/log"
     echo 'rust: list, watch and change run: ok'
-else
-    echo 'rust: list, watch and change: skipped: no network namespace may be made'
 fi
 
 # a call of a trait that is not named: rustc names the trait, and says of none that it is private

@@ -14,18 +14,16 @@ text=dist/$arch/linkwire.s
 
 # tells TEXT COMMAND..: it ends with status 2, or 1 of a script, and its one line has the text
 tells() {
-    local status=0
-    "${@:2}" >"$folder/out" 2>&1 </dev/null || status=$?
-    if [ "$status" = 0 ] || ! grep -qF "$1" "$folder/out" || [ "$(grep -c . "$folder/out")" != 1 ] ||
+    tries "${@:2}" </dev/null
+    if [ "$status" = 0 ] || ! grep -qF "$1" "$folder/err" || [ "$(cat "$folder/out" "$folder/err" | grep -c .)" != 1 ] ||
         { [ "$2" = make ] && [ "$status" != 2 ]; }; then
-        cat "$folder/out" >&2
         fails "status $status of '${*:2}', which was to tell '$1'"
     fi
     echo "test_dist: $1: ok"
 }
 
-# lacks FILE COMMAND..: runs the rest without this file
-lacks() {
+# without FILE COMMAND..: runs the rest without this file
+without() {
     mv "$1" "$folder/away"
     "${@:2}"
     mv "$folder/away" "$1"
@@ -56,20 +54,16 @@ changes crates.txt 's/^link_msg: /link_msg: memchr /' \
 touch crates/link_msg/src/another.rt
 told 'crates/link_msg/src/another.rt changed since dist/ was made'
 rm crates/link_msg/src/another.rt
-lacks crates/link_msg/src/lib.rt told 'crates/link_msg/src/lib.rt changed since dist/ was made'
-lacks crates.txt told 'crates.txt is missing'
+without crates/link_msg/src/lib.rt told 'crates/link_msg/src/lib.rt changed since dist/ was made'
+without crates.txt told 'crates.txt is missing'
 by_hand() {
     tells "$1 is not the file of dist/SUMS: make sums writes its sum anew" scripts/make/sums.sh check
     tells "$1 is not the file of dist/SUMS: make sums writes its sum anew" make -s all
 }
-changes dist/heap.c 's/malloc(count != 0 ? count : align)/malloc(count)/' by_hand dist/heap.c
-changes dist/errno.c '$a/* changed */' by_hand dist/errno.c
-changes dist/liblinkwire.map 's/linkwire_\*/*/' by_hand dist/liblinkwire.map
-changes dist/Makefile '$a# changed' by_hand dist/Makefile
-changes Makefile '$a# changed' by_hand Makefile
-changes include/linkwire.h 's/uint16_t kind; /uint32_t kind; /' by_hand include/linkwire.h
-changes programs/linkdump_lines.c '$a/* changed */' by_hand programs/linkdump_lines.c
-lacks dist/heap.c tells 'dist/heap.c is missing' scripts/make/sums.sh check
+for it in dist/heap.c dist/errno.c dist/liblinkwire.map dist/Makefile Makefile include/linkwire.h programs/linkdump.c; do
+    changes "$it" '1s/$/ /' by_hand "$it"
+done
+without dist/heap.c tells 'dist/heap.c is missing' scripts/make/sums.sh check
 # its sum is made anew, and no other
 summed() {
     cp dist/SUMS "$folder/sums"
@@ -110,7 +104,7 @@ for it in bash sha256sum; do
     untold "$it"
     changes "$read_rt" '$a// changed' untold "$it"
 done
-lacks scripts/make/sums.sh untold none
+without scripts/make/sums.sh untold none
 chmod -x scripts/make/sums.sh
 changes "$read_rt" '$a// changed' tells "$read_rt changed since dist/ was made" make -s run
 chmod +x scripts/make/sums.sh
@@ -121,11 +115,9 @@ forged() {
     sum=$(sha256sum "$text")
     sed -i "s/.*  dist\/$arch\/linkwire\.s$/${sum%% *}  dist\/$arch\/linkwire.s/" dist/SUMS
     scripts/make/sums.sh check >/dev/null
-    if scripts/make/dist.sh --against "$top/out/texts" linkwire >"$folder/out" 2>&1 ||
-        ! grep -q "$text is not what is made of the crates" "$folder/out"; then
-        cat "$folder/out" >&2
+    tries scripts/make/dist.sh --against "$top/out/texts" linkwire
+    { [ "$status" != 0 ] && grep -q "$text is not what is made of the crates" "$folder/err"; } ||
         fails 'a text with its sum is not refused'
-    fi
     echo 'test_dist: an instruction changed, and its sum: ok'
 }
 if [ -e "$top/out/texts/$arch/linkwire.s" ]; then
@@ -133,7 +125,7 @@ if [ -e "$top/out/texts/$arch/linkwire.s" ]; then
     changes "$text" "$instruction" forged
     cp "$folder/sums" dist/SUMS
 else
-    echo 'test_dist: an instruction changed, and its sum: skipped: no texts were made'
+    lacks 'an instruction changed, and its sum: no texts were made'
 fi
 
 # what is no source of a text changes nothing: proofs, a crate above
@@ -224,10 +216,10 @@ for goal in dump out/linkdump; do
     tells 'there is no nocc: install a C compiler and binutils, or set CC' make -s "$goal" CC=nocc
 done
 for file in "$text" dist/heap.c man/linkwire.1 include/linkwire.h dist/linkwire.pc.in programs/*; do
-    lacks "$file" tells "$file is missing" "${installs[@]}"
+    without "$file" tells "$file is missing" "${installs[@]}"
 done
 for file in include/linkwire.h programs/linkdump.h programs/linkdump_capture.c; do
-    lacks "$file" tells "$file is missing" make -s dump
+    without "$file" tells "$file is missing" make -s dump
 done
 for goal in check dist edits; do
     tells "make $goal proves the crates by the command rt, which is not on the path: make self-test" make -s "$goal"
