@@ -61,20 +61,24 @@ def lines_of(edit):
 
 def read(path):
     """Returns the edits of a list, as headline and lines, or stops and says which is not of the form."""
-    text = text_of(path)
-    edits, in_group, faults = {}, False, []
+    text = text_of(path) + "\n"
+    edits, groups, faults = {}, {}, []
     for found in re.finditer(r"(?:.+\n)+", text):
         paragraph = found[0].replace("\n" + " " * 8, " ")
+        where = f"{path}:{text.count(chr(10), 0, found.start()) + 1}"
         if GROUP.fullmatch(paragraph):
-            in_group = True
-        elif in_group or not re.fullmatch("(#.*\n)+", paragraph):
+            if paragraph in groups:
+                faults.append(f"{where}: there is another group of this title")
+            groups[paragraph] = len(edits)
+        elif groups or not re.fullmatch("(#.*\n)+", paragraph):
             headline, *lines = paragraph.rstrip("\n").split("\n")
-            where = f"{path}:{text.count(chr(10), 0, found.start()) + 1}"
-            if not in_group or not EDIT.fullmatch(paragraph):
+            if not groups or not EDIT.fullmatch(paragraph):
                 faults.append(f"{where}: {FORM}")
             if name_of(headline) in edits:
                 faults.append(f"{where}: another edit has a headline in these words: {headline}")
             edits[name_of(headline)] = headline, lines
+    if len({*groups.values(), len(edits)}) <= len(groups):
+        faults.append(f"{path}: a group has no edit")
     if faults or not edits:
         sys.exit("\n".join(faults) or f"{path}: it has no edit")
     return list(edits.values())
