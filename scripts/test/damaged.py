@@ -7,8 +7,9 @@
 FOLDER has linkwire, linkstate and linkshow. The lines are those of linkshow's stored run, those of linkwire's tests,
 the messages of tests/state/pairs.txt, and a few that are as long as a list can be. Any byte is damaged, of the header
 too, and now and then a digit. tests/second/check.py compares the answers, strictly and leniently. Each of linkshow's is
-a JSON object on one line in UTF-8 with no control character and no name twice in one object. With --write so many lines
-of bench/make_lines.py are written, each damaged, and after them every tenth as it was.
+a JSON object on one line in UTF-8 with no control character and no name twice in one object. With --lenient each is, to
+the byte, what a model here makes of the answers without it to one attribute at a time. With --write so many lines of
+bench/make_lines.py are written, each damaged, and after them every tenth as it was.
 """
 
 import glob
@@ -20,7 +21,7 @@ import sys
 import tempfile
 from itertools import islice
 
-from shared import TOP, answers, pairs, read
+from shared import HEADER_SIZE, TOP, answers, attribute, compare, frames, pairs, read
 
 HEADER = "00" * 16
 LONG = [
@@ -29,6 +30,10 @@ LONG = [
     HEADER + "f4ff1600" + "100001000c0004000000000001000000" * 4095,  # functions
     HEADER + "0800040001000000" * 16000,  # one name at one place
 ]
+# the attributes that hold others, by their numbers: the kernel's name, of which small letters are the one that is shown
+HOLDERS = {12: "IFLA_PROTINFO", 18: "IFLA_LINKINFO", 22: "IFLA_VFINFO_LIST", 24: "IFLA_VF_PORTS", 25: "IFLA_PORT_SELF",
+           26: "IFLA_AF_SPEC", 43: "IFLA_XDP", 52: "IFLA_PROP_LIST", 55: "IFLA_PROTO_DOWN_REASON",
+           62: "IFLA_DEVLINK_PORT", 65: "IFLA_DPLL_PIN"}
 LINE_BYTES = 2600  # a line of make_lines.py has fewer on average
 HELD = "linkwire,linkstate,linkstate-lenient,linkshow,linkshow-lenient"
 
@@ -86,29 +91,79 @@ def object_of(pairs):
     return dict(pairs)
 
 
-def look(line, answer):
-    """Looks whether an answer is an object of JSON."""
+def fault_of(line, answer):
+    """Returns the fault that an answer tells, or nothing; it has to be an object of JSON."""
     try:
         if min(answer) < 32:
             raise ValueError("a control character")
-        json.loads(answer.decode(), object_pairs_hook=object_of)
+        return json.loads(answer.decode(), object_pairs_hook=object_of).get("fault")
     except ValueError as error:
         sys.exit(f"damaged: {line[:300]}: {error}: {answer[:300]}")
 
 
+# ** what linkshow --lenient says, by what it says without it of one attribute at a time
+
+def parts(message):
+    """Returns offset and line of a message of each attribute alone; None without a header, or where one is no frame."""
+    found, end = frames(message)
+    if len(message) < HEADER_SIZE or end < len(message):
+        return None
+    return [(at, (message[:HEADER_SIZE] + attribute(kind, payload)).hex()) for at, kind, payload in found]
+
+
+def refused_as(at, line, answer):
+    """Returns what stands under refused of an attribute there, by the answer to it alone; nothing if it is accepted."""
+    alone = json.loads(answer)
+    if "fault" not in alone:
+        return None
+    (_, kind, payload), = frames(bytes.fromhex(line))[0]
+    holder = HOLDERS.get(kind & 0x3FFF, "")
+    told = {"at": alone["at"], "fault": alone["fault"]}
+    told |= {it: alone[it] for it in ("got", "need", "want", "left", "length") if it in alone}
+    told["offset"] = alone["offset"] - HEADER_SIZE + at
+    if alone["offset"] > HEADER_SIZE and alone["at"] != holder:
+        told["in"] = holder.removeprefix("IFLA_").lower().replace("_", "-")
+    told["payload"] = payload.hex()
+    # numbers in the order of the answer
+    order = [it for it in ("at", "fault", *alone, "in", "payload") if it in told]
+    return json.dumps({it: told[it] for it in dict.fromkeys(order)}, separators=(",", ":")).encode()
+
+
+def leniently(show, lines, shown):
+    """Returns what the model says with --lenient, of most lines as without it, and of how many it is another answer."""
+    faults = [fault_of(line, answer) for line, answer in zip(lines, shown)]
+    split = {n: parts(bytes.fromhex(line)) for n, (line, fault) in enumerate(zip(lines, faults))
+             if fault not in (None, "not-hex")}
+    split = {n: found for n, found in split.items() if found is not None}
+    asked = list({line for found in split.values() for _, line in found})
+    alone, accepted, refused = dict(zip(asked, answers(show, asked))), [], []
+    for n, found in split.items():
+        told = [(line, refused_as(at, line, alone[line])) for at, line in found]
+        accepted.append(lines[n][:2 * HEADER_SIZE] + "".join(it[2 * HEADER_SIZE:] for it, why in told if why is None))
+        refused.append(b",".join(why for _, why in told if why is not None))
+    wanted = list(shown)
+    for n, answer, why in zip(split, answers(show, accepted), refused):
+        wanted[n] = answer[:-1] + b',"refused":[' + why + b"]}"
+    return wanted, len(split)
+
+
 def main(folder, rounds="100"):
     chance, messages = random.Random(1), [it.hex() for _, *pair in pairs() for it in pair]
-    lines = sources() + LONG + messages + [damaged(chance, it) for it in sources() + messages
-                                           for _ in range(int(rounds))]
-    for options in (), ("--lenient",):
-        for line, answer in zip(lines, answers(f"{folder}/linkshow", lines, *options)):
-            look(line, answer)
+    whole = sources() + messages
+    lines = whole + LONG + [damaged(chance, it) for it in whole + messages for _ in range(int(rounds))]
+    lines += [damaged(chance, it) for it in LONG for _ in range(int(rounds) // 10)]
+    show = f"{folder}/linkshow"
+    wanted, count = leniently(show, lines, answers(show, lines))
+    found = answers(show, lines, "--lenient")
+    compare("damaged: --lenient", lines, found, wanted)
+    for line, answer in zip(lines, found):
+        fault_of(line, answer)
     with tempfile.NamedTemporaryFile("w", encoding="utf-8", newline="") as it:
         it.writelines(line + "\n" for line in lines)
         it.flush()
         subprocess.run([sys.executable, f"{TOP}/tests/second/check.py", "--only", HELD, "--lines", it.name, folder, "-"],
                        check=True, cwd=TOP)
-    print(f"damaged: {len(lines)} lines, damaged and whole: ok")
+    print(f"damaged: {len(lines)} lines, damaged and whole, of which {count} are shown with --lenient alone: ok")
 
 
 def write(path, count):
