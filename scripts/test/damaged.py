@@ -161,7 +161,7 @@ def main(folder, rounds="100"):
     with tempfile.NamedTemporaryFile("w", encoding="utf-8", newline="") as it:
         it.writelines(line + "\n" for line in lines)
         it.flush()
-        subprocess.run([sys.executable, f"{TOP}/tests/second/check.py", "--only", HELD, "--lines", it.name, folder, "-"],
+        subprocess.run(["python3", f"{TOP}/tests/second/check.py", "--only", HELD, "--lines", it.name, folder, "-"],
                        check=True, cwd=TOP)
     print(f"damaged: {len(lines)} lines, damaged and whole, of which {count} are shown with --lenient alone: ok")
 

@@ -15,8 +15,8 @@ text=dist/$arch/linkwire.s
 # tells TEXT COMMAND..: it ends with status 2, or 1 of a script, and its one line has the text
 tells() {
     tries "${@:2}" </dev/null
-    if [ "$status" = 0 ] || ! grep -qF "$1" "$folder/err" || [ "$(cat "$folder/out" "$folder/err" | grep -c .)" != 1 ] ||
-        { [ "$2" = make ] && [ "$status" != 2 ]; }; then
+    if [ "$status" = 0 ] || ! grep -qF "$1" "$folder/err" || { [ "$2" = make ] && [ "$status" != 2 ]; } ||
+        [ "$(cat "$folder/out" "$folder/err" | grep -c .)" != 1 ]; then
         fails "status $status of '${*:2}', which was to tell '$1'"
     fi
     echo "test_dist: $1: ok"
@@ -60,7 +60,7 @@ by_hand() {
     tells "$1 is not the file of dist/SUMS: make sums writes its sum anew" scripts/make/sums.sh check
     tells "$1 is not the file of dist/SUMS: make sums writes its sum anew" make -s all
 }
-for it in dist/heap.c dist/errno.c dist/liblinkwire.map dist/Makefile Makefile include/linkwire.h programs/linkdump.c; do
+for it in dist/{heap.c,errno.c,liblinkwire.map,Makefile} Makefile include/linkwire.h programs/linkdump.c; do
     changes "$it" '1s/$/ /' by_hand "$it"
 done
 without dist/heap.c tells 'dist/heap.c is missing' scripts/make/sums.sh check
