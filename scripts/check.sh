@@ -72,6 +72,7 @@ programs() {
     stage compilers.sh scripts/test/compilers.sh out
     scripts/test/parallel_test.sh
     scripts/test/parallel_hosts.sh
+    scripts/test/test_progress.sh
     scripts/test/refused_memory.sh
     scripts/test/refused_parse.sh
     scripts/refused_info.sh

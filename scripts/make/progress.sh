@@ -14,6 +14,10 @@ is_kept() {
     [ -e "$stamp" ] && [ -z "$(find "${sources[@]}" -name out -prune -o -newer "$stamp" -type f -print -quit)" ]
 }
 
+# whatever ends this script ends what it started
+trap 'kill $(jobs -p) 2>/dev/null || true; rm -rf "$folder"' EXIT
+trap 'exit 143' INT TERM HUP
+
 is_new=no
 for at in "${!order[@]}"; do
     name=${order[at]} command=(rt lib)
@@ -24,8 +28,8 @@ for at in "${!order[@]}"; do
     fi
     is_new=yes label="$crate: $((at + 1)) of ${#order[@]} $name" start=$SECONDS
     echo "$label .." >&2
-    (cd "$top/crates/$name" && "${command[@]}") </dev/null >>"$log" 2>&1 ||
-        { tail -n 40 "$log" >&2; fails "$label .. failed after $((SECONDS - start)) s"; }
+    (cd "$top/crates/$name" && exec "${command[@]}") </dev/null >>"$log" 2>&1 &
+    wait $! || fails "$label .. failed after $((SECONDS - start)) s"
     echo "$label .. $((SECONDS - start)) s" >&2
 done
 grep '^logic=proved' "$log" | tail -n 1 | sed "s/^/$crate: /" >&2 || true
