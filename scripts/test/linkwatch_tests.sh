@@ -19,26 +19,21 @@ tables() {
 waits=()
 for it in 3.9 3.10 3.11 3.12 3.13; do
     found=$(python "$it")
-    if [ -z "$found" ]; then
-        echo "linkwatch: skipped: Python $it: it is not here"
-        continue
-    fi
+    [ -n "$found" ] || { lacks "Python $it: it is not here" && continue; }
     tables "$it" "$found" &
     waits+=("$!")
 done
-if command -v mypy >/dev/null; then
+if has types mypy; then
     runs mypy --strict --cache-dir="$folder/mypy" python/linkwatch
     echo "linkwatch: mypy --strict: $(tail -n 1 "$log")"
-else
-    echo 'linkwatch: skipped: types: no mypy'
 fi
 for it in command terminal; do
     runs python3 "tests/linkwatch/test_$it.py"
     echo "linkwatch: $it: $(sed -n 's/^Ran \([0-9]* tests\).*/\1/p' "$log"): ok"
 done
-if ! command -v ip >/dev/null || ! unshare -n true 2>/dev/null; then
-    echo 'linkwatch: skipped: the running kernel: no ip, or no right to make a namespace'
-else
+if ! unshare -n true 2>/dev/null; then
+    lacks 'the running kernel: no right to make a namespace'
+elif has 'the running kernel' ip; then
     mkdir "$folder/completions"
     unshare -mn tests/linkwatch/completions.sh "$folder/completions" "$programs"
     unshare -n python3 tests/linkwatch/live.py "$programs/linkdump" "$programs/linkdiff"

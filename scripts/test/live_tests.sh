@@ -8,7 +8,6 @@ self=live
 # tells FAULT MESSAGE EXAMPLE ..: it prints nothing else, and fails
 tells() {
     if with "$1" "$folder/$3" "${@:4}" >"$folder/out" || [ -s "$folder/out" ] || ! grep -qx "$3: $2" "$folder/err"; then
-        cat "$folder/out" "$folder/err" >&2
         fails "$3 does not tell: $1"
     fi
 }
@@ -38,7 +37,6 @@ refused() {
     if "$manager" "${@:3}" >"$folder/out" 2>"$folder/err" || [ -s "$folder/out" ] ||
         ! grep -qx "manager: $2" "$folder/err" ||
         { [ -n "$1" ] && ! grep -qx "manager: the kernel says: $1" "$folder/err"; }; then
-        cat "$folder/out" "$folder/err" >&2
         fails "manager ${*:3} does not tell: $1: $2"
     fi
 }
@@ -52,13 +50,11 @@ shown() {
 keeps() {
     local line
     if ! ip link set "$1" alias "$(printf 'caf\351')" 2>/dev/null || [ ! -s "/sys/class/net/$1/ifalias" ]; then
-        echo 'live: skipped: manager: an alias in Latin-1'
-        return
+        lacks 'manager: an alias in Latin-1' && return
     fi
     line="manager: IFLA_IFALIAS of link $(cat "/sys/class/net/$1/ifindex") is refused: a text that is not UTF-8"
     if ! "$manager" >"$folder/out" 2>"$folder/err" || ! grep -q "^$1 " "$folder/out" ||
         [ "$(cat "$folder/err")" != "$line" ]; then
-        cat "$folder/out" "$folder/err" >&2
         fails 'manager does not keep a link of which the alias is refused'
     fi
     ip link set "$1" alias ''
@@ -95,8 +91,8 @@ manages() {
 
 if [ -n "$inside" ]; then
     manager=$1
-    ip link add veth0 type veth peer name port0 2>/dev/null || echo 'live: skipped: the kernel knows no veth'
-    ip link add bridge0 type bridge 2>/dev/null || echo 'live: skipped: the kernel knows no bridge'
+    ip link add veth0 type veth peer name port0 2>/dev/null || lacks 'the kernel knows no veth'
+    ip link add bridge0 type bridge 2>/dev/null || lacks 'the kernel knows no bridge'
     meets_faults
     keeps lo
     manages
@@ -111,7 +107,7 @@ if ${CC:-cc} "${flags[@]}" -fsanitize=address,undefined -fno-sanitize-recover=al
     "$top/examples/c/manager.c" "$library" -lmnl 2>"$folder/err"; then
     manager=$folder/sanitized
 else
-    echo 'live: skipped: manager with sanitizers'
+    lacks 'manager with sanitizers'
 fi
 makes_linkdump
 needs_netlink "$folder/linkdump"

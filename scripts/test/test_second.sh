@@ -8,6 +8,12 @@ programs=$(realpath "$1")
 "${CC:-cc}" -std=gnu11 -O2 -DLINES_ALONE -Iinclude -o "$folder/lines" tests/second/lines.c
 "$folder/lines" all >"$folder/all"
 
+# told WHAT TEXT COMMAND..: it fails, and says that
+told() {
+    tries "${@:3}"
+    { [ "$status" != 0 ] && grep -qF -- "$2" "$folder/out" "$folder/err"; } || fails "$1 is not told"
+}
+
 # slip FILE OLD NEW: a copy of the tables in which a row is changed, by which the reader has to differ from linkwire
 slip() {
     rm -rf "$folder/crates"
@@ -24,11 +30,8 @@ path, old, new = sys.argv[1:]
 text = open(path, encoding="utf-8").read()
 open(path, "w", encoding="utf-8").write(text.replace(old, new, 1))
 END
-    if CRATES=$folder/crates python3 tests/second/check.py --only linkwire,linkstate --lines "$folder/few" "$programs" \
-        "$folder/lines" >"$folder/out" 2>&1 || ! grep -q 'answers differ' "$folder/out"; then
-        cat "$folder/out" >&2
-        fails "$1: '$2' as '$3' is not told"
-    fi
+    CRATES=$folder/crates told "$1: '$2' as '$3'" 'answers differ' python3 tests/second/check.py \
+        --only linkwire,linkstate --lines "$folder/few" "$programs" "$folder/lines"
 }
 # every fortieth line, and all of the types of link layers
 awk 'NR % 40 == 0 || length($0) == 32' "$folder/all" >"$folder/few"
@@ -41,11 +44,7 @@ echo 'second: rows that are changed on one side: each is told'
 
 # differs NAME WHAT: the answers in $folder/answers are told to be others than the stored ones, in a line with that
 differs() {
-    if "$folder/lines" all compare linkwire "$folder/stored" <"$folder/answers" >"$folder/out" 2>&1 ||
-        ! grep -qF -- "$2" "$folder/out"; then
-        cat "$folder/out" >&2
-        fails "$1 is not told"
-    fi
+    told "$1" "$2" "$folder/lines" all compare linkwire "$folder/stored" <"$folder/answers"
 }
 cp tests/second/stored.txt "$folder/stored"
 "$programs/linkwire" <"$folder/all" >"$folder/right"
@@ -65,18 +64,13 @@ echo 'second: answers that are changed: each is told'
 python3 tests/second/laws.py --slips "$programs"
 
 # a number of the crate in rust/
-if ! command -v cargo >/dev/null; then
-    echo 'second: a slip in rust/: skipped: no cargo'
-    exit
-fi
+has 'a slip in rust/' cargo || exit 0
 cp -r rust "$folder/rust"
 sed -i 's/\(IFLA_GSO_MAX_SEGS: u16 =\) 40;/\1 90;/' "$folder/rust/src/generated/link_msg/numbers.rs"
 ! cmp -s rust/src/generated/link_msg/numbers.rs "$folder/rust/src/generated/link_msg/numbers.rs" ||
     fails 'rust/: the number that is to be changed is not there'
 export CARGO_NET_OFFLINE=true CARGO_TARGET_DIR=$folder/target
-cargo build --quiet --locked --example lines --manifest-path "$folder/rust/Cargo.toml" 2>"$folder/out" ||
-    { cat "$folder/out" >&2; exit 1; }
-python3 tests/second/check.py --rust "$CARGO_TARGET_DIR/debug/examples/lines" --only linkwire --lines "$folder/few" \
-    "$programs" "$folder/lines" >"$folder/out" 2>&1 && fails 'a slip in rust/ is not told'
-grep -q "answers differ: {'rust'" "$folder/out" || { cat "$folder/out" >&2; fails 'a slip in rust/ is not told'; }
+runs cargo build --quiet --locked --example lines --manifest-path "$folder/rust/Cargo.toml"
+told 'a slip in rust/' "answers differ: {'rust'" python3 tests/second/check.py --only linkwire --lines "$folder/few" \
+    --rust "$CARGO_TARGET_DIR/debug/examples/lines" "$programs" "$folder/lines"
 echo 'second: a number that is changed in rust/: it is told'

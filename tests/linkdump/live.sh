@@ -7,16 +7,9 @@ tests=$top/tests/linkdump
 # a program with a sanitizer does not look whether that was loaded first: what is preloaded is
 export ASAN_OPTIONS=${ASAN_OPTIONS:-verify_asan_link_order=0}
 
-fails() {
-    echo "live: linkdump: $*" >&2
-    head -c 2000 "$folder/out" "$folder/err" >&2 || true
-    exit 1
-}
-
 # wants STATUS OUTPUT ERRORS WORD..: what linkdump with these words has to leave
 wants() {
-    local status=0
-    timeout 20 "$linkdump" "${@:4}" >"$folder/out" 2>"$folder/err" || status=$?
+    tries timeout 20 "$linkdump" "${@:4}"
     if [ "$status" != "$1" ] || [ "$(cat "$folder/out")" != "$2" ] || [ "$(cat "$folder/err")" != "$3" ]; then
         fails "${*:4}: status $status, and not: $1, '$2', '$3'"
     fi
@@ -319,8 +312,7 @@ enters() {
     wants 1 '' 'linkdump: --netns red: no network namespace' --netns red
     wants 1 '' 'linkdump: --netns /proc/self/ns/uts: no network namespace' --netns /proc/self/ns/uts
     if setpriv --bounding-set=-all --inh-caps=-all true 2>/dev/null; then
-        local status=0
-        setpriv --bounding-set=-all --inh-caps=-all "$linkdump" --netns blue >"$folder/out" 2>"$folder/err" || status=$?
+        tries setpriv --bounding-set=-all --inh-caps=-all "$linkdump" --netns blue
         [ "$status $(cat "$folder/err")" = '1 linkdump: --netns blue: Operation not permitted' ] || fails 'no right'
     fi
     umount -l /run
@@ -525,7 +517,7 @@ tells_of_links() {
         ! ip link set port0 master bridge0; then
         skips 'families, --monitor: the kernel knows no veth, or no bridge'
     fi
-    ip link add link "$base" name vlan0 type vlan id 5 2>/dev/null || echo 'live: skipped: a vlan: not of this kernel'
+    ip link add link "$base" name vlan0 type vlan id 5 2>/dev/null || lacks 'a vlan: not of this kernel'
     python3 "$tests/beside.py" "$linkdump"
     "$linkdump" --plain >"$folder/lines"
     chooses
