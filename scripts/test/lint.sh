@@ -28,7 +28,7 @@ is_oldest() {
     [[ $("$rustc" --version) = "rustc $oldest."* ]]
 }
 says 'scripts/erase' python3 scripts/erase/test_erase.py
-says 'as it is made' python3 scripts/erase/erase.py check rust
+where 'as it is made' 'rustfmt --version' python3 scripts/erase/erase.py check rust
 cd rust
 where 'no feature' 'cargo --version' cargo check --no-default-features
 where "rustc $oldest" is_oldest "$rustc" --edition 2021 --crate-type lib --cfg 'feature="std"' --emit metadata \
