@@ -52,7 +52,8 @@ wheels() {
     if PYTHONPATH=python python3 -c 'import linkwire' 2>"$folder/err"; then
         lacks 'what is said without a library: one is installed'
     else
-        grep -q 'ImportError: linkwire: no shared library: install liblinkwire.so.0' "$folder/err"
+        grep -q 'ImportError: linkwire: no shared library: install liblinkwire.so.0' "$folder/err" ||
+            fails 'it is not said that there is no library'
     fi
     echo 'python: the wheel: the same bytes twice; without a compiler or a library what lacks is said'
 }
@@ -69,7 +70,7 @@ builds() {
 compilers() {
     local it machine
     builds cc "linux_$(uname -m)"
-    python3 -m zipfile -l "$folder/linux_$(uname -m).whl" | grep -q 'linkwire-.*/LICENSE' || fails 'no LICENSE'
+    grep -q 'linkwire-.*/LICENSE' <(python3 -m zipfile -l "$folder/linux_$(uname -m).whl") || fails 'no LICENSE'
     while read -r it machine; do
         ! has "a wheel for $machine" "$it" || builds "$it" "$machine"
     done <<END
