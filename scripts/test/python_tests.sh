@@ -91,7 +91,8 @@ END
     else
         echo nothing >"$folder/odd/linkwire/liblinkwire.so.0"
     fi
-    refuses "ImportError: linkwire: the shared library is there and does not load: $folder/odd/linkwire/liblinkw" \
+    it=$folder/odd/linkwire/liblinkwire.so.0
+    refuses "ImportError: linkwire: the shared library is there and does not load: $it" \
         env PYTHONPATH="$folder/odd" python3 -c 'import linkwire'
     echo 'python: the tag of a wheel is of its compiler, and what does not fit is said'
 }
