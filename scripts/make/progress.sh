@@ -16,7 +16,8 @@ is_kept() {
 
 # whatever ends this script ends what it started
 trap 'kill $(jobs -p) 2>/dev/null || true; rm -rf "$folder"' EXIT
-trap 'exit 143' INT TERM HUP
+trap 'exit 130' INT
+trap 'exit 143' TERM HUP
 
 is_new=no
 for at in "${!order[@]}"; do
