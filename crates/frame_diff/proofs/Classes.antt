@@ -22,7 +22,8 @@ use Rattle.frame_diff.specs.Walked.{Holding, HoldsApart, Showing, reading_at}
 use Rattle.frame_diff.specs.declared.side.Side.{Side}
 use Rattle.frame_diff.specs.declared.walk.Attributes.{Attributes}
 use Rattle.frame_diff.proofs.Apart.{find_none, left_apart, list_members_apart}
-use Rattle.frame_diff.proofs.Inside.{AreAt, append_at, at_weaker, fields_lack, find_left, forest_all, forest_some, left_some}
+use Rattle.frame_diff.proofs.Inside.{AreAt, append_at, at_weaker, fields_lack, find_left, forest_all, forest_some}
+use Rattle.frame_diff.proofs.Inside.{left_some}
 use Rattle.frame_diff.proofs.Inside.{left_told, none_at, same_told}
 use Rattle.frame_diff.proofs.Parts.{AreNames, NoneComes, named_names}
 

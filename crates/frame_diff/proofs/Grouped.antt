@@ -324,7 +324,8 @@ one_told : (side : Side) (text : List ℕ) (s : Step) (h : Held) (ms : List Memb
     ≡ held_items side (joined text (step_text s)) h (find s g) ++ items_told side text (forest ms) g
 one_told side text s h ms g once =
     last_further side text g (s, h) ms
-    ∙ ap (λ b. cond b [] (held_items side (joined text (step_text s)) h (find s g)) ++ items_told side text (forest ms) g)
+    ∙ ap (λ b. cond b [] (held_items side (joined text (step_text s)) h (find s g))
+    ++ items_told side text (forest ms) g)
     once
 
 pub listed_told : (side : Side) (text : List ℕ) (r : Reading) (list : Shape) (fs : List Frame) (g : Forest)
@@ -468,7 +469,8 @@ module _ (nest : Showing) (inner : Holding) (is_state : Bool) where
   pub rest_taken : (list : Shape) (cx : Around) (f : Frame) (e : Option Attribute) (it next : List Item)
       (p : List ℕ) (all : List (Option Held)) → it ≡ Ok f ∷ next
       → picked nest inner is_state e ≡ values_by (reading_at nest inner is_state cx) list f
-      → group_values (reading_at nest inner is_state cx) list (frames_in it) ≡ all → items p ≡ next → is_some_value e ≡ true
+      → group_values (reading_at nest inner is_state cx) list (frames_in it) ≡ all → items p ≡ next
+      → is_some_value e ≡ true
       → group_values (reading_at nest inner is_state cx) list (frames_in (items p)) ≡ rest_of all
   rest_taken list cx f None it next p all here looked was left some = absurd cc
   rest_taken list cx f (Some a) it next p all here looked was left some =

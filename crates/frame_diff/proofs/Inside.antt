@@ -1,5 +1,6 @@
 -- What stands inside values beside each other.
-use Rattle.std.proofs.Common.{◌≡◌, ℕ, zero, suc, Bool, true, false, List, [], ◌∷◌, ◌++◌, refl, sym, ap, ◌∙◌, arith, length, map}
+use Rattle.std.proofs.Common.{◌≡◌, ℕ, zero, suc, Bool, true, false, List, [], ◌∷◌, ◌++◌, refl, sym, ap, ◌∙◌, arith}
+use Rattle.std.proofs.Common.{length, map}
 use Rattle.std.specs.Prelude.{Option, Some, None, ◌==◌, ◌&&◌, cond}
 use Rattle.json.specs.Token.{Token}
 use Rattle.shown.specs.Drafts.{Draft, Members, with_members}

@@ -13,7 +13,8 @@ use Rattle.link_info.specs.declared.style.Style.{Style}
 use Rattle.link_info.specs.declared.style.Style.TheVariants as S
 use Rattle.shown.specs.Values.{BitNames, hardware_address, name_else_number, name_in_row, name_or_number}
 use Rattle.shown.specs.Values.{named_number}
-use Rattle.frame_shown.specs.Values.{Nesting, choice_number, choice_token, choices, field_shown, form_shown, hexadecimal}
+use Rattle.frame_shown.specs.Values.{Nesting, choice_number, choice_token, choices, field_shown, form_shown}
+use Rattle.frame_shown.specs.Values.{hexadecimal}
 use Rattle.frame_shown.specs.Values.{ipv6_counters_shown, meaning_shown, number_shown, plain_in, plain_shown, texts_of}
 use Rattle.frame_shown.specs.declared.form.Around.{Around}
 use Rattle.frame_shown.specs.declared.form.Choice.{Choice}

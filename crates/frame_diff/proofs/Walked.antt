@@ -154,8 +154,8 @@ held_same side text v Forest.none apart = leaf_same side text v
 held_same side text v Forest.passed apart = refl
 held_same side text v (Forest.tree a b c d) apart = tree_same side text (Forest.tree a b c d) apart
 
-pub last_same : (side : Side) (text : List ℕ) (behind : List Member) (m : Member) (beside : Option Held) → AreApart m.1.1
-    → beside ≡ Some m.1 → last_items side text behind m beside ≡ []
+pub last_same : (side : Side) (text : List ℕ) (behind : List Member) (m : Member) (beside : Option Held)
+    → AreApart m.1.1 → beside ≡ Some m.1 → last_items side text behind m beside ≡ []
 last_same side text behind m beside apart is = by (comes m.0 behind)
   where
     by : (b : Bool) → cond b [] (held_items side (joined text (step_text m.0)) m.1 beside) ≡ []

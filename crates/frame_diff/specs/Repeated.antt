@@ -1,5 +1,6 @@
 -- What is told of attributes behind which another one of their name stands: each by its place among those.
-use Rattle.std.specs.Prelude.{◌≡◌, ℕ, ◌+◌, List, [], ◌∷◌, Bool, true, false, Option, None, Some, cond, decimal, option_map}
+use Rattle.std.specs.Prelude.{◌≡◌, ℕ, ◌+◌, List, [], ◌∷◌, Bool, true, false, Option, None, Some, cond, decimal}
+use Rattle.std.specs.Prelude.{option_map}
 use Rattle.nla_wire.specs.Frames.{Frame, number}
 use Rattle.nla_wire.specs.Items.{items}
 use Rattle.link_info.specs.Tables.{frames_in}

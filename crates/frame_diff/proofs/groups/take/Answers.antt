@@ -39,6 +39,7 @@ loop-item-preserved c =
       behind = left;
       same = λ nest inner. none_taken nest inner c.args.is_state list.list list.around.now c.in-Ok.frame
           c.pick-value.result c.loop-item.item-iterator c.next.new.self (group_at nest inner c.args.is_state list)
-          here (c.pick-value.ensures.values nest inner) (none_there c.pick-value.result (sym c.is_some.ensures ∙ c.if-is_some.false))
+          here (c.pick-value.ensures.values nest inner)
+          (none_there c.pick-value.result (sym c.is_some.ensures ∙ c.if-is_some.false))
           (c.loop-item.invariant.same nest inner);
     }

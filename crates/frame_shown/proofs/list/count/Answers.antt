@@ -25,7 +25,8 @@ overflow_add-counts g c =
     let here : c.loop-item.item-iterator ≡ Ok c.in-Ok.frame ∷ c.next.new.self = rw c.in-Ok.is at
     c.in-Some.ensures.steps in
     let m = c.in-Some-number_in.number in
-    let is : number_in (frame_item (g.D.Depth.nest c.args.cx.now) c.args.cx.now c.args.list.now c.in-Ok.frame) ≡ Some m =
+    let is : number_in (frame_item (g.D.Depth.nest c.args.cx.now) c.args.cx.now c.args.list.now c.in-Ok.frame)
+    ≡ Some m =
     sym c.number_in.ensures.value ∙ c.in-Some-number_in.is in
     let few : 4 * frame_count (read c.args.bytes.now) ≤ length c.args.bytes.now =
     rw c.new-item-items.ensures.value at c.new-item-items.ensures.few in
@@ -40,7 +41,8 @@ loop-item-preserved-in-Some-number_in g c =
     let here : c.loop-item.item-iterator ≡ Ok c.in-Ok.frame ∷ c.next.new.self = rw c.in-Ok.is at
     c.in-Some.ensures.steps in
     let m = c.in-Some-number_in.number in
-    let is : number_in (frame_item (g.D.Depth.nest c.args.cx.now) c.args.cx.now c.args.list.now c.in-Ok.frame) ≡ Some m =
+    let is : number_in (frame_item (g.D.Depth.nest c.args.cx.now) c.args.cx.now c.args.list.now c.in-Ok.frame)
+    ≡ Some m =
     sym c.number_in.ensures.value ∙ c.in-Some-number_in.is in
     record {
       size = length-set c.loop-item.counts m _ ∙ c.loop-item.invariant.size;

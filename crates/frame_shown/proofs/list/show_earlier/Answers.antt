@@ -15,7 +15,8 @@ overflow_sub-left g c =
     let here : c.loop-item.item-iterator ≡ Ok c.in-Ok.frame ∷ c.next.new.self = rw c.in-Ok.is at
     c.in-Some.ensures.steps in
     let m = c.in-Some-number_in.number in
-    let is : number_in (frame_item (g.D.Depth.nest c.args.cx.now) c.args.cx.now c.args.list.now c.in-Ok.frame) ≡ Some m =
+    let is : number_in (frame_item (g.D.Depth.nest c.args.cx.now) c.args.cx.now c.args.list.now c.in-Ok.frame)
+    ≡ Some m =
     sym c.number_in.ensures.value ∙ c.in-Some-number_in.is in
     one_left (g.D.Depth.nest c.args.cx.now) c.args.cx.now c.args.list.now c.in-Ok.frame c.loop-item.item-iterator
     c.next.new.self here c.loop-item.left m c.in-Some-number_in.ensures.small is c.loop-item.invariant.told
@@ -25,7 +26,8 @@ loop-item-preserved-in-Continue-branch-3 g c =
     let here : c.loop-item.item-iterator ≡ Ok c.in-Ok.frame ∷ c.next.new.self = rw c.in-Ok.is at
     c.in-Some.ensures.steps in
     let m = c.in-Some-number_in.number in
-    let is : number_in (frame_item (g.D.Depth.nest c.args.cx.now) c.args.cx.now c.args.list.now c.in-Ok.frame) ≡ Some m =
+    let is : number_in (frame_item (g.D.Depth.nest c.args.cx.now) c.args.cx.now c.args.list.now c.in-Ok.frame)
+    ≡ Some m =
     sym c.number_in.ensures.value ∙ c.in-Some-number_in.is in
     let left = lessened (g.D.Depth.nest c.args.cx.now) c.args.cx.now c.args.list.now c.in-Ok.frame
     c.loop-item.item-iterator c.next.new.self here c.loop-item.left m c.loop-item.invariant.size
@@ -50,7 +52,8 @@ loop-item-preserved-else-left-number-ne0 g c =
     let here : c.loop-item.item-iterator ≡ Ok c.in-Ok.frame ∷ c.next.new.self = rw c.in-Ok.is at
     c.in-Some.ensures.steps in
     let m = c.in-Some-number_in.number in
-    let is : number_in (frame_item (g.D.Depth.nest c.args.cx.now) c.args.cx.now c.args.list.now c.in-Ok.frame) ≡ Some m =
+    let is : number_in (frame_item (g.D.Depth.nest c.args.cx.now) c.args.cx.now c.args.list.now c.in-Ok.frame)
+    ≡ Some m =
     sym c.number_in.ensures.value ∙ c.in-Some-number_in.is in
     let left = lessened (g.D.Depth.nest c.args.cx.now) c.args.cx.now c.args.list.now c.in-Ok.frame
     c.loop-item.item-iterator c.next.new.self here c.loop-item.left m c.loop-item.invariant.size

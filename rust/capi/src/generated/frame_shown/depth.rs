@@ -14,7 +14,7 @@ pub trait Depth {
         cx: &Around<'_>,
         page: &mut Page,
         name: &str,
-        list: List,
+        list: &List,
         bytes: &[u8],
     ) -> Result<(), AllocError>;
 }
@@ -27,7 +27,7 @@ impl Depth for Bottom {
         _cx: &Around<'_>,
         page: &mut Page,
         name: &str,
-        _list: List,
+        _list: &List,
         bytes: &[u8],
     ) -> Result<(), AllocError> {
         page.hex(name, bytes)
@@ -42,7 +42,7 @@ impl<D: Depth> Depth for Above<D> {
         cx: &Around<'_>,
         page: &mut Page,
         name: &str,
-        list: List,
+        list: &List,
         bytes: &[u8],
     ) -> Result<(), AllocError> {
         show_list_by::<D>(cx, page, name, list, bytes)

@@ -231,6 +231,22 @@ pub enum Way {
 /// A name, and how a payload is shown.
 pub type Known = (&'static str, Way);
 
+/// How a payload is shown that a row is known of, as it stands in a table: no row is copied.
+#[derive(Clone, Copy)]
+pub enum Manner {
+    /// By a row of this crate.
+    Own(&'static Form),
+    /// By a style of link data.
+    By(&'static Style),
+    /// The data of a kind of link, by the rows of its place.
+    Nest(Place),
+    /// The counters that a kind of link has beside its data.
+    Counters(&'static [Member]),
+}
+
+/// A name, and how a payload is shown, as both stand in a table.
+pub type Found = (&'static str, Manner);
+
 /// Which order the counters of IPv6 have. It changed between Linux 6.12 and 6.16, and no message says which one it has.
 #[derive(Clone, Copy)]
 pub enum Order {
@@ -255,87 +271,140 @@ pub struct Around<'a> {
     pub address_len: usize,
 }
 
-/// Where there is no row.
-const NO_ROW: Known = ("", Way::Own(Form::Kept));
+/// The form of what has no row, or none in this family.
+const KEPT: Form = Form::Kept;
+
+/// The form of the settings by family, in families that have none.
+const UNFLAGGED: Form = Form::Unflagged;
+
+/// The form of the name of a kind of link.
+const TEXT: Form = Form::Text;
+
+/// The form of the settings by family, of all families.
+const FAMILY_LIST: Form = Form::List(List::Own(Table::Families));
+
+/// The form of the settings of a bridge.
+const BRIDGE_SPEC: Form = Form::List(List::Of(Place::BridgeSpec));
+
+/// The form of what a bridge says of a port.
+const BRIDGE_PORT: Form = Form::List(List::Of(Place::BridgePort));
+
+/// The form of what IPv6 says of a link.
+const INET6_LIST: Form = Form::List(List::ProtoInet6);
 
 /// How many numbers can have a row.
 pub(crate) const NUMBERS: usize = 256;
 
+impl Manner {
+    /// The same by value.
+    pub fn way(self) -> Way {
+        match self {
+            Manner::Own(form) => Way::Own(*form),
+            Manner::By(style) => Way::By(*style),
+            Manner::Nest(place) => Way::By(Style::Nest(place)),
+            Manner::Counters(members) => Way::By(Style::Record(members)),
+        }
+    }
+}
+
+/// Where there is no row.
+#[inline(always)]
+fn no_row() -> Found {
+    ("", Manner::Own(&KEPT))
+}
+
 /// The row at a place; behind the last one there is none.
-fn row_at(rows: &[(&'static str, Form)], number: u16) -> Known {
+#[inline(always)]
+fn row_at(rows: &'static [(&'static str, Form)], number: u16) -> Found {
     if (number as usize) < rows.len() {
-        let (name, form) = rows[number as usize];
-        (name, Way::Own(form))
+        let row = &rows[number as usize];
+        (row.0, Manner::Own(&row.1))
     } else {
-        NO_ROW
+        no_row()
     }
 }
 
 /// The first row of a number.
-fn row_by(rows: &[Row], number: u16) -> Known {
+fn row_by(rows: &'static [Row], number: u16) -> Found {
     for row in rows {
         if row.0 == number {
-            return (row.1, Way::Own(row.2));
+            return (row.1, Manner::Own(&row.2));
         }
     }
-    NO_ROW
+    no_row()
+}
+
+/// The row of a number in a table that has all numbers from the first on.
+#[inline(always)]
+fn row_from(rows: &'static [Row], first: u16, number: u16) -> Found {
+    if number < first {
+        return no_row();
+    }
+    let place = (number - first) as usize;
+    if place < rows.len() {
+        let row = &rows[place];
+        return (row.1, Manner::Own(&row.2));
+    }
+    no_row()
 }
 
 /// The row of a number in a table.
-fn table_row(table: Table, number: u16) -> Known {
+fn table_row(table: Table, number: u16) -> Found {
     match table {
         Table::Families => row_by(&FAMILIES, number),
-        Table::Inet => row_by(&INET, number),
-        Table::Inet6 => row_by(&INET6, number),
-        Table::Mctp => row_by(&MCTP, number),
-        Table::Xdp => row_by(&XDP, number),
-        Table::Props => row_by(&PROPS, number),
+        Table::Inet => row_from(&INET, 1, number),
+        Table::Inet6 => row_from(&INET6, 1, number),
+        Table::Mctp => row_from(&MCTP, 1, number),
+        Table::Xdp => row_from(&XDP, 1, number),
+        Table::Props => row_from(&PROPS, 53, number),
         Table::DevlinkPort => row_by(&DEVLINK_PORT, number),
-        Table::DpllPin => row_by(&DPLL_PIN, number),
-        Table::DownReason => row_by(&DOWN_REASON, number),
-        Table::Function => row_by(&FUNCTION, number),
-        Table::FunctionStats => row_by(&FUNCTION_STATS, number),
-        Table::FunctionVlans => row_by(&FUNCTION_VLANS, number),
+        Table::DpllPin => row_from(&DPLL_PIN, 1, number),
+        Table::DownReason => row_from(&DOWN_REASON, 1, number),
+        Table::Function => row_from(&FUNCTION, 1, number),
+        Table::FunctionStats => row_from(&FUNCTION_STATS, 0, number),
+        Table::FunctionVlans => row_from(&FUNCTION_VLANS, 1, number),
     }
 }
 
 /// How the settings by family are shown.
-fn af_spec_form(family: u8) -> Form {
+fn af_spec_form(family: u8) -> &'static Form {
     match family {
-        0 => Form::List(List::Own(Table::Families)),
-        7 => Form::List(List::Of(Place::BridgeSpec)),
-        _ => Form::Unflagged,
+        0 => &FAMILY_LIST,
+        7 => &BRIDGE_SPEC,
+        _ => &UNFLAGGED,
     }
 }
 
 /// How what a protocol says is shown.
-fn proto_info_form(family: u8) -> Form {
+fn proto_info_form(family: u8) -> &'static Form {
     match family {
-        7 => Form::List(List::Of(Place::BridgePort)),
-        10 => Form::List(List::ProtoInet6),
-        _ => Form::Kept,
+        7 => &BRIDGE_PORT,
+        10 => &INET6_LIST,
+        _ => &KEPT,
     }
 }
 
 /// The row of an attribute of a link.
-fn message_row(family: u8, number: u16) -> Known {
+#[inline(always)]
+fn message_row(family: u8, number: u16) -> Found {
     match number {
-        26 => ("af-spec", Way::Own(af_spec_form(family))),
-        12 => ("protinfo", Way::Own(proto_info_form(family))),
+        26 => ("af-spec", Manner::Own(af_spec_form(family))),
+        12 => ("protinfo", Manner::Own(proto_info_form(family))),
         _ => row_at(&MESSAGE, number),
     }
 }
 
 /// The row of link data.
-fn place_row(cx: &Around<'_>, place: Place, number: u16) -> Known {
+#[inline(always)]
+fn place_row(cx: &Around<'_>, place: Place, number: u16) -> Found {
     match row_of(place.rows_in(cx.tables), number) {
-        Some(row) => (row.1, Way::By(row.2)),
-        None => NO_ROW,
+        Some(row) => (row.1, Manner::By(&row.2)),
+        None => no_row(),
     }
 }
 
 /// The row of what IPv6 says of a link.
-fn proto_inet6_row(cx: &Around<'_>, number: u16) -> Known {
+fn proto_inet6_row(cx: &Around<'_>, number: u16) -> Found {
     match number {
         2 => table_row(Table::Inet6, number),
         3 => table_row(Table::Inet6, number),
@@ -345,30 +414,41 @@ fn proto_inet6_row(cx: &Around<'_>, number: u16) -> Known {
 }
 
 /// The row of a list, where its place is known.
-fn nest_row(name: &'static str, place: Option<Place>) -> Known {
+fn nest_row(name: &'static str, place: Option<Place>) -> Found {
     match place {
-        Some(place) => (name, Way::By(Style::Nest(place))),
-        None => (name, Way::Own(Form::Kept)),
+        Some(place) => (name, Manner::Nest(place)),
+        None => (name, Manner::Own(&KEPT)),
     }
 }
 
 /// The row of the counters that a place has beside its data.
-fn xstats_row(cx: &Around<'_>, link: Option<Place>) -> Known {
+fn xstats_row(cx: &Around<'_>, link: Option<Place>) -> Found {
     match link {
-        Some(Place::Can) => ("xstats", Way::By(Style::Record(cx.can_stats))),
-        _ => ("xstats", Way::Own(Form::Kept)),
+        Some(Place::Can) => ("xstats", Manner::Counters(cx.can_stats)),
+        _ => ("xstats", Manner::Own(&KEPT)),
     }
 }
 
 /// The row of a link's kinds.
-fn info_row(cx: &Around<'_>, link: Option<Place>, port: Option<Place>, number: u16) -> Known {
+fn info_row(cx: &Around<'_>, link: Option<Place>, port: Option<Place>, number: u16) -> Found {
     match number {
-        1 => ("kind", Way::Own(Form::Text)),
+        1 => ("kind", Manner::Own(&TEXT)),
         2 => nest_row("data", link),
         3 => xstats_row(cx, link),
-        4 => ("slave-kind", Way::Own(Form::Text)),
+        4 => ("slave-kind", Manner::Own(&TEXT)),
         5 => nest_row("slave-data", port),
-        _ => NO_ROW,
+        _ => no_row(),
+    }
+}
+
+/// Whether an attribute of this form with this payload is kept as it is.
+#[inline(always)]
+fn is_kept_form(form: &Form, payload: &[u8]) -> bool {
+    match *form {
+        Form::Kept => true,
+        Form::Unflagged => true,
+        Form::Exact(size) => payload.len() != size.bytes(),
+        _ => false,
     }
 }
 
@@ -376,34 +456,47 @@ fn info_row(cx: &Around<'_>, link: Option<Place>, port: Option<Place>, number: u
 #[inline(always)]
 pub fn is_kept(way: Way, payload: &[u8]) -> bool {
     match way {
-        Way::Own(Form::Kept) => true,
-        Way::Own(Form::Unflagged) => true,
-        Way::Own(Form::Exact(size)) => payload.len() != size.bytes(),
+        Way::Own(form) => is_kept_form(&form, payload),
+        _ => false,
+    }
+}
+
+/// Whether an attribute with this payload is kept as it is, by the row where it stands.
+#[inline(always)]
+pub(crate) fn is_kept_by(manner: Manner, payload: &[u8]) -> bool {
+    match manner {
+        Manner::Own(form) => is_kept_form(form, payload),
         _ => false,
     }
 }
 
 /// The kind that is shown of one that is kept.
 #[inline(always)]
-pub(crate) fn kind_shown(way: Way, kind: u16) -> u16 {
-    match way {
-        Way::Own(Form::Unflagged) => kind & NLA_TYPE_MASK,
+pub(crate) fn kind_shown(manner: Manner, kind: u16) -> u16 {
+    match manner {
+        Manner::Own(Form::Unflagged) => kind & NLA_TYPE_MASK,
         _ => kind,
     }
 }
 
-/// The row of a number in a list.
+/// The row of a number in a list, where it stands.
 #[inline(always)]
-pub fn row_in(cx: &Around<'_>, list: List, number: u16) -> Known {
+pub(crate) fn found_in(cx: &Around<'_>, list: &List, number: u16) -> Found {
     if number as usize >= NUMBERS {
-        return NO_ROW;
+        return no_row();
     }
-    match list {
+    match *list {
         List::Own(table) | List::Listed(_, table) => table_row(table, number),
-        List::Entries(_) => NO_ROW,
+        List::Entries(_) => no_row(),
         List::Message(family) => message_row(family, number),
         List::Of(place) => place_row(cx, place, number),
         List::ProtoInet6 => proto_inet6_row(cx, number),
         List::Info(link, port) => info_row(cx, link, port, number),
     }
+}
+
+/// The row of a number in a list.
+pub fn row_in(cx: &Around<'_>, list: List, number: u16) -> Known {
+    let (name, manner) = found_in(cx, &list, number);
+    (name, manner.way())
 }

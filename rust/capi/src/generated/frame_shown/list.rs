@@ -2,9 +2,12 @@
 //! Lists of attributes.
 
 use crate::frame_shown::depth::Depth;
-use crate::frame_shown::form::{Around, Group, List, NUMBERS, Way, is_kept, kind_shown, row_in};
+use crate::frame_shown::form::{
+    Around, Form, Group, List, Manner, NUMBERS, Way, found_in, is_kept_by, kind_shown,
+};
 use crate::frame_shown::kept::show_kept;
-use crate::frame_shown::value::{show_form, show_style};
+use crate::frame_shown::value::{number_at, show_form, show_style};
+use crate::link_info::{Member, Place, Style};
 use crate::nla_wire::{NlaBuffer, NlasIterator};
 use crate::shown::{Nest, Page};
 use crate::rattle::alloc::AllocError;
@@ -19,8 +22,64 @@ pub fn show_way<D: Depth>(
     payload: &[u8],
 ) -> Result<(), AllocError> {
     match way {
-        Way::Own(form) => show_form::<D>(cx, page, name, form, payload),
-        Way::By(style) => show_style::<D>(cx, page, name, style, payload),
+        Way::Own(form) => show_form::<D>(cx, page, name, &form, payload),
+        Way::By(style) => show_style::<D>(cx, page, name, &style, payload),
+    }
+}
+
+/// Adds a value by a form: most are numbers.
+#[inline(always)]
+fn show_own<D: Depth>(
+    cx: &Around<'_>,
+    page: &mut Page,
+    name: &str,
+    form: &Form,
+    payload: &[u8],
+) -> Result<(), AllocError> {
+    match *form {
+        Form::Number(size) => page.keyed_number(name, number_at(size, payload, 0)),
+        _ => show_form::<D>(cx, page, name, form, payload),
+    }
+}
+
+/// Adds the data of a kind of link.
+#[inline(never)]
+fn show_data<D: Depth>(
+    cx: &Around<'_>,
+    page: &mut Page,
+    name: &str,
+    place: Place,
+    payload: &[u8],
+) -> Result<(), AllocError> {
+    show_style::<D>(cx, page, name, &Style::Nest(place), payload)
+}
+
+/// Adds the counters that a kind of link has beside its data.
+#[inline(never)]
+fn show_counters<D: Depth>(
+    cx: &Around<'_>,
+    page: &mut Page,
+    name: &str,
+    members: &'static [Member],
+    payload: &[u8],
+) -> Result<(), AllocError> {
+    show_style::<D>(cx, page, name, &Style::Record(members), payload)
+}
+
+/// Adds a value by the row where it stands.
+#[inline(always)]
+fn show_manner<D: Depth>(
+    cx: &Around<'_>,
+    page: &mut Page,
+    name: &str,
+    manner: Manner,
+    payload: &[u8],
+) -> Result<(), AllocError> {
+    match manner {
+        Manner::Own(form) => show_own::<D>(cx, page, name, form, payload),
+        Manner::By(style) => show_style::<D>(cx, page, name, style, payload),
+        Manner::Nest(place) => show_data::<D>(cx, page, name, place, payload),
+        Manner::Counters(members) => show_counters::<D>(cx, page, name, members, payload),
     }
 }
 
@@ -29,23 +88,23 @@ pub fn show_way<D: Depth>(
 fn show_frame<D: Depth>(
     cx: &Around<'_>,
     page: &mut Page,
-    list: List,
+    list: &List,
     frame: &NlaBuffer<'_>,
 ) -> Result<bool, AllocError> {
-    let (name, way) = row_in(cx, list, frame.kind());
-    if is_kept(way, frame.value()) {
+    let (name, manner) = found_in(cx, list, frame.kind());
+    if is_kept_by(manner, frame.value()) {
         return Ok(true);
     }
-    show_way::<D>(cx, page, name, way, frame.value())?;
+    show_manner::<D>(cx, page, name, manner, frame.value())?;
     Ok(false)
 }
 
 /// The number of an attribute that is shown under a name.
 #[inline(always)]
-fn number_in<D: Depth>(cx: &Around<'_>, list: List, frame: &NlaBuffer<'_>) -> Option<usize> {
+fn number_in<D: Depth>(cx: &Around<'_>, list: &List, frame: &NlaBuffer<'_>) -> Option<usize> {
     let number = frame.kind();
-    let (_, way) = row_in(cx, list, number);
-    if is_kept(way, frame.value()) {
+    let (_, manner) = found_in(cx, list, number);
+    if is_kept_by(manner, frame.value()) {
         return None;
     }
     Some(number as usize)
@@ -59,7 +118,7 @@ fn small_number(frame: &NlaBuffer<'_>) -> Option<usize> {
 }
 
 /// Whether a number that can have a row stands twice in a list. Where none does, no attribute comes again.
-fn has_twice(bytes: &[u8]) -> bool {
+pub fn has_twice(bytes: &[u8]) -> bool {
     let mut seen = [0u8; NUMBERS];
     for item in NlasIterator::new(bytes) {
         let frame = match item {
@@ -85,7 +144,7 @@ struct Survey {
 }
 
 /// Goes over the attributes of a list once.
-fn look_over<D: Depth>(cx: &Around<'_>, list: List, bytes: &[u8]) -> Survey {
+fn look_over<D: Depth>(cx: &Around<'_>, list: &List, bytes: &[u8]) -> Survey {
     let mut seen = [0u8; NUMBERS];
     let mut is_any_repeated = false;
     let mut is_any_kept = false;
@@ -111,7 +170,7 @@ fn look_over<D: Depth>(cx: &Around<'_>, list: List, bytes: &[u8]) -> Survey {
 fn show_named<D: Depth>(
     cx: &Around<'_>,
     page: &mut Page,
-    list: List,
+    list: &List,
     bytes: &[u8],
 ) -> Result<bool, AllocError> {
     let mut is_any_kept = false;
@@ -130,17 +189,17 @@ fn show_named<D: Depth>(
 fn show_kept_frame<D: Depth>(
     cx: &Around<'_>,
     page: &mut Page,
-    list: List,
+    list: &List,
     frame: &NlaBuffer<'_>,
 ) -> Result<(), AllocError> {
-    let (name, way) = row_in(cx, list, frame.kind());
-    if !is_kept(way, frame.value()) {
+    let (name, manner) = found_in(cx, list, frame.kind());
+    if !is_kept_by(manner, frame.value()) {
         return Ok(());
     }
     show_kept(
         page,
         name,
-        kind_shown(way, frame.kind_with_flags()),
+        kind_shown(manner, frame.kind_with_flags()),
         frame.value(),
     )
 }
@@ -149,7 +208,7 @@ fn show_kept_frame<D: Depth>(
 fn show_kept_frames<D: Depth>(
     cx: &Around<'_>,
     page: &mut Page,
-    list: List,
+    list: &List,
     bytes: &[u8],
 ) -> Result<(), AllocError> {
     for item in NlasIterator::new(bytes) {
@@ -162,26 +221,38 @@ fn show_kept_frames<D: Depth>(
     Ok(())
 }
 
+/// Adds the list of the attributes that are kept.
+#[inline(never)]
+fn show_some<D: Depth>(
+    cx: &Around<'_>,
+    page: &mut Page,
+    list: &List,
+    bytes: &[u8],
+) -> Result<(), AllocError> {
+    page.begin("other", Nest::List)?;
+    show_kept_frames::<D>(cx, page, list, bytes)?;
+    page.end()
+}
+
 /// Adds the list of the attributes that are kept, if there are any.
+#[inline(always)]
 fn show_others<D: Depth>(
     cx: &Around<'_>,
     page: &mut Page,
-    list: List,
+    list: &List,
     bytes: &[u8],
     is_any_kept: bool,
 ) -> Result<(), AllocError> {
     if !is_any_kept {
         return Ok(());
     }
-    page.begin("other", Nest::List)?;
-    show_kept_frames::<D>(cx, page, list, bytes)?;
-    page.end()
+    show_some::<D>(cx, page, list, bytes)
 }
 
 /// How many attributes there are of each number that has a name.
 #[cold]
 #[inline(never)]
-fn count<D: Depth>(cx: &Around<'_>, list: List, bytes: &[u8]) -> [usize; NUMBERS] {
+fn count<D: Depth>(cx: &Around<'_>, list: &List, bytes: &[u8]) -> [usize; NUMBERS] {
     let mut counts = [0usize; NUMBERS];
     for item in NlasIterator::new(bytes) {
         let frame = match item {
@@ -201,7 +272,7 @@ fn count<D: Depth>(cx: &Around<'_>, list: List, bytes: &[u8]) -> [usize; NUMBERS
 fn show_last<D: Depth>(
     cx: &Around<'_>,
     page: &mut Page,
-    list: List,
+    list: &List,
     bytes: &[u8],
     counts: &[usize; NUMBERS],
 ) -> Result<(), AllocError> {
@@ -227,7 +298,7 @@ fn show_last<D: Depth>(
 fn show_earlier<D: Depth>(
     cx: &Around<'_>,
     page: &mut Page,
-    list: List,
+    list: &List,
     bytes: &[u8],
     counts: &[usize; NUMBERS],
 ) -> Result<(), AllocError> {
@@ -256,7 +327,7 @@ fn show_earlier<D: Depth>(
 fn show_repeated<D: Depth>(
     cx: &Around<'_>,
     page: &mut Page,
-    list: List,
+    list: &List,
     bytes: &[u8],
 ) -> Result<(), AllocError> {
     let counts = count::<D>(cx, list, bytes);
@@ -270,7 +341,7 @@ fn show_repeated<D: Depth>(
 fn show_all<D: Depth>(
     cx: &Around<'_>,
     page: &mut Page,
-    list: List,
+    list: &List,
     bytes: &[u8],
     is_any_repeated: bool,
 ) -> Result<(), AllocError> {
@@ -286,7 +357,7 @@ fn show_all<D: Depth>(
 fn show_surveyed<D: Depth>(
     cx: &Around<'_>,
     page: &mut Page,
-    list: List,
+    list: &List,
     bytes: &[u8],
 ) -> Result<(), AllocError> {
     let survey = look_over::<D>(cx, list, bytes);
@@ -298,7 +369,7 @@ fn show_surveyed<D: Depth>(
 pub fn show_members<D: Depth>(
     cx: &Around<'_>,
     page: &mut Page,
-    list: List,
+    list: &List,
     bytes: &[u8],
 ) -> Result<(), AllocError> {
     if has_twice(bytes) {
@@ -313,7 +384,7 @@ fn show_object<D: Depth>(
     cx: &Around<'_>,
     page: &mut Page,
     name: &str,
-    list: List,
+    list: &List,
     bytes: &[u8],
 ) -> Result<(), AllocError> {
     page.begin(name, Nest::Object)?;
@@ -326,7 +397,7 @@ pub fn show_one_list<D: Depth>(
     cx: &Around<'_>,
     page: &mut Page,
     name: &str,
-    list: List,
+    list: &List,
     bytes: &[u8],
 ) -> Result<bool, AllocError> {
     page.begin(name, Nest::List)?;
@@ -341,7 +412,7 @@ fn show_listed<D: Depth>(
     page: &mut Page,
     name: &str,
     group: Group,
-    list: List,
+    list: &List,
     bytes: &[u8],
 ) -> Result<(), AllocError> {
     page.begin(name, Nest::Object)?;
@@ -354,7 +425,7 @@ fn show_listed<D: Depth>(
 fn show_entries<D: Depth>(
     cx: &Around<'_>,
     page: &mut Page,
-    list: List,
+    list: &List,
     bytes: &[u8],
 ) -> Result<(), AllocError> {
     for item in NlasIterator::new(bytes) {
@@ -379,7 +450,7 @@ fn show_entry_list<D: Depth>(
 ) -> Result<(), AllocError> {
     page.begin(name, Nest::Object)?;
     page.begin(group.name(), Nest::List)?;
-    show_entries::<D>(cx, page, group.entry(), bytes)?;
+    show_entries::<D>(cx, page, &group.entry(), bytes)?;
     page.end()?;
     page.end()
 }
@@ -389,10 +460,10 @@ pub fn show_list_by<D: Depth>(
     cx: &Around<'_>,
     page: &mut Page,
     name: &str,
-    list: List,
+    list: &List,
     bytes: &[u8],
 ) -> Result<(), AllocError> {
-    match list {
+    match *list {
         List::Listed(group, _) => show_listed::<D>(cx, page, name, group, list, bytes),
         List::Entries(group) => show_entry_list::<D>(cx, page, name, group, bytes),
         _ => show_object::<D>(cx, page, name, list, bytes),

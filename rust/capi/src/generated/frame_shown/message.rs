@@ -59,7 +59,7 @@ pub fn address_len(bytes: &[u8]) -> usize {
 
 /// Adds what attributes say of a message of this family.
 fn show_frames(cx: &Around<'_>, page: &mut Page, family: u8, bytes: &[u8]) -> Result<(), AllocError> {
-    show_members::<Whole>(cx, page, List::Message(family), bytes)
+    show_members::<Whole>(cx, page, &List::Message(family), bytes)
 }
 
 /// Adds what the attributes of a message of this family say.

@@ -123,8 +123,24 @@ fn show_list(page: &mut Page, name: &str, plain: Plain, bytes: &[u8]) -> Result<
     page.end()
 }
 
-/// Adds a payload by its style.
+/// Adds a payload by its style: most are numbers.
 pub fn show_style<D: Depth>(
+    cx: &Around<'_>,
+    page: &mut Page,
+    name: &str,
+    style: &Style,
+    payload: &[u8],
+) -> Result<(), AllocError> {
+    match *style {
+        Style::Plain(Plain::Unsigned(size)) if payload.len() == size.bytes() => {
+            page.number(name, number_at(size, payload, 0))
+        }
+        _ => show_meaning::<D>(cx, page, name, *style, payload),
+    }
+}
+
+/// Adds a payload by what it means.
+fn show_meaning<D: Depth>(
     cx: &Around<'_>,
     page: &mut Page,
     name: &str,
@@ -135,7 +151,7 @@ pub fn show_style<D: Depth>(
         Value::Record(parts, bytes) => show_record(page, name, parts, bytes),
         Value::Array(plain, bytes) => show_array(page, name, plain, bytes),
         Value::List(plain, bytes) => show_list(page, name, plain, bytes),
-        Value::Nest(place, bytes) => D::show_list(cx, page, name, List::Of(place), bytes),
+        Value::Nest(place, bytes) => D::show_list(cx, page, name, &List::Of(place), bytes),
         value => show_plain(page, name, plain_in(style), value),
     }
 }
@@ -217,6 +233,17 @@ pub fn show_field(
     }
 }
 
+/// Adds a field of a record: most are numbers.
+#[inline(always)]
+fn show_part(cx: &Around<'_>, page: &mut Page, part: &Part, bytes: &[u8]) -> Result<(), AllocError> {
+    match part.2 {
+        Field::Number(size) => {
+            page.keyed_number(part.0, number_at(size, bytes, usize::from(part.1)))
+        }
+        field => show_field(cx, page, part.0, field, bytes, part.1),
+    }
+}
+
 /// Adds the fields of a record.
 fn show_fields(
     cx: &Around<'_>,
@@ -225,7 +252,7 @@ fn show_fields(
     bytes: &[u8],
 ) -> Result<(), AllocError> {
     for part in parts {
-        show_field(cx, page, part.0, part.2, bytes, part.1)?;
+        show_part(cx, page, part, bytes)?;
     }
     Ok(())
 }
@@ -543,10 +570,10 @@ pub fn show_form<D: Depth>(
     cx: &Around<'_>,
     page: &mut Page,
     name: &str,
-    form: Form,
+    form: &Form,
     payload: &[u8],
 ) -> Result<(), AllocError> {
-    match form {
+    match *form {
         Form::Number(size) => page.keyed_number(name, number_at(size, payload, 0)),
         Form::Text => show_text(page, name, payload),
         Form::Signed => page.keyed_signed(name, i32_at(payload, 0).into()),
@@ -563,8 +590,8 @@ pub fn show_form<D: Depth>(
         Form::Record(record) => show_parts_of(cx, page, name, record, payload),
         Form::Field(field) => show_field(cx, page, name, field, payload, 0),
         Form::Wireless => show_wireless(page, name, payload),
-        Form::List(list) => D::show_list(cx, page, name, list, payload),
-        Form::Info => D::show_list(cx, page, name, info_of(payload), payload),
+        Form::List(ref list) => D::show_list(cx, page, name, list, payload),
+        Form::Info => D::show_list(cx, page, name, &info_of(payload), payload),
         Form::Kept | Form::Unflagged => page.hex(name, payload),
     }
 }

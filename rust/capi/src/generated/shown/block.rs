@@ -60,12 +60,18 @@ fn put_long(buf: &mut [u8], at: usize, text: &[u8]) -> bool {
 /// Stores a text at a place of the buffer; whether none of its bytes may need an escape.
 #[inline(always)]
 pub(crate) fn put_text(buf: &mut [u8], at: usize, text: &[u8]) -> bool {
-    match text.len() {
-        8..=15 => put_ends::<8>(buf, at, text),
-        4..=7 => put_ends::<4>(buf, at, text),
-        2..=3 => put_ends::<2>(buf, at, text),
-        1 => put_ends::<1>(buf, at, text),
-        0 => true,
-        _ => put_long(buf, at, text),
+    let len = text.len();
+    if len >= 16 {
+        return put_long(buf, at, text);
     }
+    if len >= 8 {
+        return put_ends::<8>(buf, at, text);
+    }
+    if len >= 4 {
+        return put_ends::<4>(buf, at, text);
+    }
+    if len >= 2 {
+        return put_ends::<2>(buf, at, text);
+    }
+    len == 0 || put_ends::<1>(buf, at, text)
 }

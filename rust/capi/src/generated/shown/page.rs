@@ -6,6 +6,7 @@ use crate::shown::address::{DOTTED, address_text, put_address, put_hex, put_ipv4
 use crate::shown::marks::Marks;
 use crate::shown::sheet::Sheet;
 use crate::rattle::alloc::{AllocError, Global};
+use std::fmt::InlineText;
 use std::net::{Ipv4Addr, Ipv6Addr};
 
 /// How many bytes a page has room for at first: those of most messages.
@@ -13,6 +14,12 @@ pub(crate) const ROOM: usize = 8192;
 
 /// The most bytes that are written as digits without asking for memory: those of any hardware address.
 const FEW: usize = 32;
+
+/// The room that an IPv6 address is written in: eight groups of four digits with colons between them have 39 bytes.
+const GROUPS: usize = 64;
+
+/// What a text ends in that had no room.
+const CUT: &[u8] = b"...";
 
 /// What is open in a text.
 #[derive(Clone, Copy)]
@@ -485,10 +492,22 @@ impl Page {
         self.ipv4_late(name, address)
     }
 
-    /// Adds an IPv6 address, as RFC 5952 writes it.
-    pub fn ipv6_address(&mut self, name: &str, address: &Ipv6Addr) -> Result<(), AllocError> {
+    /// Adds an IPv6 address where it is not written without memory.
+    #[cold]
+    #[inline(never)]
+    fn ipv6_late(&mut self, name: &str, address: &Ipv6Addr) -> Result<(), AllocError> {
         let text = format!(in self.alloc; "{address}")?;
         self.string(name, text.as_str())
+    }
+
+    /// Adds an IPv6 address, as RFC 5952 writes it. It takes no memory.
+    pub fn ipv6_address(&mut self, name: &str, address: &Ipv6Addr) -> Result<(), AllocError> {
+        let groups = InlineText::<GROUPS>::of(*address);
+        let text = groups.as_str();
+        if text.as_bytes().ends_with(CUT) {
+            return self.ipv6_late(name, address);
+        }
+        self.string(name, text)
     }
 
     /// Adds the name that a number has in a table, or the number where it has none there.

@@ -74,20 +74,55 @@ fn put_quoted(buf: &mut [u8], at: usize, comma: bool, text: &[u8]) -> Option<usi
     Some(put_byte(buf, start + text.len(), b'"'))
 }
 
-/// Stores the digits of a number. It is a function of its own, so that its caller saves few registers.
-#[inline(never)]
-fn put_digits(buf: &mut [u8], at: usize, value: u64) -> usize {
+/// Stores the digit of a number below 10.
+#[inline(always)]
+fn put_one(buf: &mut [u8], at: usize, value: u64) -> usize {
+    put_byte(buf, at, b'0' + value as u8)
+}
+
+/// Stores the digits of a number below 100.
+#[inline(always)]
+fn put_two(buf: &mut [u8], at: usize, value: u64) -> usize {
+    if value < 10 {
+        return put_one(buf, at, value);
+    }
+    let end = put_one(buf, at, value / 10);
+    put_byte(buf, end, b'0' + (value % 10) as u8)
+}
+
+/// Stores the digits of a number below 1,000.
+#[inline(always)]
+fn put_three(buf: &mut [u8], at: usize, value: u64) -> usize {
+    if value < 100 {
+        return put_two(buf, at, value);
+    }
+    let end = put_two(buf, at, value / 10);
+    put_byte(buf, end, b'0' + (value % 10) as u8)
+}
+
+/// Stores the digits of a number of any length.
+#[inline(always)]
+fn put_long(buf: &mut [u8], at: usize, value: u64) -> usize {
     let mut digits = Buffer::new();
     let text = digits.format(value).as_bytes();
     put_text(buf, at, text);
     at + text.len()
 }
 
+/// Stores the digits of a number. It is a function of its own, so that its caller saves few registers.
+#[inline(never)]
+fn put_digits(buf: &mut [u8], at: usize, value: u64) -> usize {
+    if value < 1000 {
+        return put_three(buf, at, value);
+    }
+    put_long(buf, at, value)
+}
+
 /// Stores a number. Most of a link's have one digit.
 #[inline(always)]
 pub(crate) fn put_number(buf: &mut [u8], at: usize, value: u64) -> usize {
     if value < 10 {
-        return put_byte(buf, at, b'0' + value as u8);
+        return put_one(buf, at, value);
     }
     put_digits(buf, at, value)
 }
