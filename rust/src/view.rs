@@ -91,11 +91,11 @@
 //!
 //! # What is proved
 //!
-//! A key and `iter` call proved code: the check of the message, the search for the last attribute of a number, and the
-//! reading of its value. By contract that value is the variant and the value that `parse` gives, in a message and in
-//! each list inside. Written by hand are the choice of the variant that a key names, the pass of a tuple over the
-//! attributes, the entries of the lists of virtual functions and ports, and the data of kinds. Tests compare all of it
-//! with what `parse` gives, on every stored message.
+//! Keys and `iter` call proved code: the check of the message, the search for the last attribute of a number, or of
+//! each of several in one pass, and the reading of its value. By contract that value is the variant and the value that
+//! `parse` gives, in a message and in each list inside. Written by hand are the choice of the variant that a key names,
+//! the entries of the lists of virtual functions and ports, and the data of kinds. Tests compare all of it with what
+//! `parse` gives, on every stored message.
 
 #[macro_use]
 mod macros;
@@ -104,6 +104,7 @@ mod read;
 
 use crate::link_view::attributes::BorrowedAttributes;
 use crate::link_view::message_view::last_in;
+use crate::link_view::sought::{Sought, frame_of, last_each};
 use crate::nla_wire::{NlaBuffer, NlasIterator};
 use crate::{AddressFamily, Attribute, Attributes, DecodeError, LinkAttribute};
 use core::fmt;
@@ -202,6 +203,24 @@ pub trait Key<'a> {
     {
         value::<Self>(last_in(list, Self::NUMBER)?, AddressFamily::Unspec)
     }
+
+    #[doc(hidden)]
+    #[inline]
+    fn found_in_message(view: &LinkView<'a>, sought: Sought) -> Result<Option<Self::Value>, DecodeError>
+    where
+        Self: Sized,
+    {
+        value::<Self>(view.found(sought)?, view.header().interface_family)
+    }
+
+    #[doc(hidden)]
+    #[inline]
+    fn found_in_list(list: &'a [u8], sought: Sought) -> Result<Option<Self::Value>, DecodeError>
+    where
+        Self: Sized,
+    {
+        value::<Self>(frame_of(list, sought)?, AddressFamily::Unspec)
+    }
 }
 
 /// A key, or a tuple of up to eight of one list.
@@ -220,19 +239,6 @@ pub trait Keys<'a> {
     #[doc(hidden)]
     fn of_list(self, list: &'a [u8]) -> Result<Self::Values, DecodeError>;
 }
-
-mod sealed {
-    use super::*;
-
-    /// Keys that are read in one pass.
-    pub trait Pass<'a> {
-        type Values;
-
-        fn pass(self, frames: NlasIterator<'a>, family: AddressFamily) -> Result<Self::Values, DecodeError>;
-    }
-}
-
-use sealed::Pass;
 
 impl<'a, K: Key<'a>> Keys<'a> for K {
     type Place = K::Place;
@@ -259,53 +265,38 @@ fn value<'a, K: Key<'a>>(found: Option<NlaBuffer<'a>>, family: AddressFamily) ->
 }
 
 macro_rules! tuples {
-    ($first:ident $first_found:ident $($key:ident $found:ident)*) => {
-        impl<'a, $first: Key<'a>, $($key: Key<'a, Place = $first::Place>),*> Keys<'a> for ($first, $($key,)*) {
+    ($($key:ident $sought:ident)+; $first:ident $($other:ident)*) => {
+        impl<'a, $first: Key<'a>, $($other: Key<'a, Place = $first::Place>),*> Keys<'a> for ($first, $($other,)*) {
             type Place = $first::Place;
-            type Values = (Option<$first::Value>, $(Option<$key::Value>,)*);
+            type Values = ($(Option<$key::Value>,)+);
 
             #[inline]
             fn of_message(self, view: &LinkView<'a>) -> Result<Self::Values, DecodeError> {
-                self.pass(view.frames(), view.header().interface_family)
+                let mut sought = [$(Sought::new($key::NUMBER)),+];
+                view.find(&mut sought)?;
+                let [$($sought),+] = sought;
+                Ok(($($key::found_in_message(view, $sought)?,)+))
             }
 
             #[inline]
             fn of_list(self, list: &'a [u8]) -> Result<Self::Values, DecodeError> {
-                self.pass(NlasIterator::new(list), AddressFamily::Unspec)
-            }
-        }
-
-        impl<'a, $first: Key<'a>, $($key: Key<'a>),*> Pass<'a> for ($first, $($key,)*) {
-            type Values = (Option<$first::Value>, $(Option<$key::Value>,)*);
-
-            #[inline]
-            fn pass(self, frames: NlasIterator<'a>, family: AddressFamily) -> Result<Self::Values, DecodeError> {
-                let mut $first_found = None;
-                $(let mut $found = None;)*
-                for frame in frames {
-                    let frame = frame?;
-                    let number = frame.kind();
-                    if number == $first::NUMBER {
-                        $first_found = Some(frame);
-                    }
-                    $(if number == $key::NUMBER {
-                        $found = Some(frame);
-                    })*
-                }
-                Ok((value::<$first>($first_found, family)?, $(value::<$key>($found, family)?,)*))
+                let mut sought = [$(Sought::new($key::NUMBER)),+];
+                last_each(list, &mut sought)?;
+                let [$($sought),+] = sought;
+                Ok(($($key::found_in_list(list, $sought)?,)+))
             }
         }
     };
 }
 
-tuples!(A a);
-tuples!(A a B b);
-tuples!(A a B b C c);
-tuples!(A a B b C c D d);
-tuples!(A a B b C c D d E e);
-tuples!(A a B b C c D d E e F f);
-tuples!(A a B b C c D d E e F f G g);
-tuples!(A a B b C c D d E e F f G g H h);
+tuples!(A a; A);
+tuples!(A a B b; A B);
+tuples!(A a B b C c; A B C);
+tuples!(A a B b C c D d; A B C D);
+tuples!(A a B b C c D d E e; A B C D E);
+tuples!(A a B b C c D d E e F f; A B C D E F);
+tuples!(A a B b C c D d E e F f G g; A B C D E F G);
+tuples!(A a B b C c D d E e F f G g H h; A B C D E F G H);
 
 impl<'a> LinkView<'a> {
     /// The value of a key, or those of a tuple of up to eight keys in one pass: that of the last attribute of its
@@ -501,6 +492,7 @@ mod keys {
     use crate::link_view::LinkView;
     use crate::link_view::attributes::{BorrowedAttributes, borrow_frame};
     use crate::link_view::borrowed::BorrowedAttribute;
+    use crate::link_view::sought::Sought;
     use crate::rattle::net::{Ipv4Addr, Ipv6Addr};
     use crate::{AddressFamily, Attribute, DecodeError, LinkAttribute, typed};
 

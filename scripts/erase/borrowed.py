@@ -263,6 +263,23 @@ impl<'a> Borrowed{enum}<'a> {{
         }}
     }}
 
+    /// The member that `last_each` found: what `last` gives of its number.
+    #[inline(always)]
+    pub fn found(list: &'a [u8], sought: Sought) -> Result<Option<Borrowed{enum}<'a>>, DecodeError>
+        requires {{ IsFound list.now sought }}
+        ensures {{ told_found owned_{snake} result
+            ≡ read_found {place}.grammar.reads (latest sought.number None (items list.now)) }}
+    {{
+        match frame_of(list, sought) {{
+            Ok(Some(frame)) => match Self::borrow(sought.number, frame) {{
+                Ok(value) => Ok(Some(value)),
+                Err(fault) => Err(fault),
+            }},
+            Ok(None) => Ok(None),
+            Err(fault) => Err(fault),
+        }}
+    }}
+
     /// The next member of a list, front to back; `None` after the last.
     #[inline(always)]
     pub fn next(left: &mut NlasIterator<'a>) -> Option<Result<Borrowed{enum}<'a>, DecodeError>>
@@ -287,6 +304,7 @@ ghost use Rattle.nla_wire.specs.Frames.{{number}};
 ghost use Rattle.nla_wire.specs.Items.{{items}};
 {ghosts}
 ghost use Rattle.link_view.specs.Views.{{latest}};
+ghost use Rattle.link_view.specs.Search.{{IsFound}};
 ghost use Rattle.link_view.specs.Told.{{told, told_found, read_found, IsNext}};
 
 {uses}
@@ -356,6 +374,7 @@ def members(crate):
     places = [place_of(crate, enum) for enum in enums]
     ghosts = "\n".join(f"ghost {one};" for one in imports(f"Rattle.{crate}.specs.Tables", places, 90))
     uses = ["use crate::message_view::last_in;", use("crate::payload", [*own, "within"]),
+            "use crate::sought::{Sought, frame_of};",
             f"use {crate}::numbers::*;", use(crate, enums)]
     uses += [use(name, ones) for name, ones in
              (("link_recs", recs), ("link_vals", vals), ("link_vfrec", vf), ("nla_wire", wire)) if ones]

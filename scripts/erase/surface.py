@@ -5,12 +5,13 @@ from source import Source
 HIDDEN_NAMES = {
     "Action", "BorrowedAfSpecInet", "BorrowedAfSpecInet6", "BorrowedAfSpecMctp", "BorrowedAfSpecUnspec",
     "BorrowedAttribute", "BorrowedAttributes", "BorrowedDevlinkPort", "BorrowedDpllPin", "BorrowedLinkInfo",
-    "BorrowedLinkProtoInfoInet6", "BorrowedLinkProtocolDownReason", "BorrowedLinkXdp", "BorrowedProp", "BorrowedVfInfo",
-    "BorrowedVfPort", "BorrowedVfStats", "BorrowedVfVlan", "Entry", "Kind", "Level", "Nla", "NlaBuffer", "NlaRead",
-    "NlasIterator", "WirelessEventView", "borrow_frame", "canonical_into", "canonical_lenient_into", "check_string",
-    "clear", "emit_i32", "emit_nlas", "emit_u16", "emit_u32", "emit_u64", "fill", "last_in", "list_measure",
-    "nlas_buffer_len", "nlas_fill", "nlas_fit", "nlas_measure", "nlas_write", "same_refusal", "same_room_refusal",
-    "state_into", "state_lenient_into", "thin_families", "thin_inet6", "write_list",
+    "BorrowedLinkProtoInfoInet6", "BorrowedLinkProtocolDownReason", "BorrowedLinkXdp", "BorrowedProp",
+    "BorrowedVfInfo", "BorrowedVfPort", "BorrowedVfStats", "BorrowedVfVlan", "Entry", "Kind", "Level", "Nla",
+    "NlaBuffer", "NlaRead", "NlasIterator", "Sought", "WirelessEventView", "borrow_frame", "canonical_into",
+    "canonical_lenient_into", "check_string", "clear", "emit_i32", "emit_nlas", "emit_u16", "emit_u32", "emit_u64",
+    "fill", "frame_of", "last_each", "last_in", "list_measure", "nlas_buffer_len", "nlas_fill", "nlas_fit",
+    "nlas_measure", "nlas_write", "same_refusal", "same_room_refusal", "state_into", "state_lenient_into",
+    "thin_families", "thin_inet6", "write_list",
 }
 # Calls of types that serve the crates alone, or that the trait `Emitable` has, as in netlink-packet-route.
 HIDDEN_CALLS = {
@@ -21,8 +22,8 @@ HIDDEN_CALLS = {
 }
 
 # Calls of one type that serve the crates alone, by the type and the name.
-HIDDEN_OF = {("FlatView", "len"), ("LinkView", "frames"), ("LinkView", "last"), ("LinkView", "last_value"),
-             ("LinkView", "values")}
+HIDDEN_OF = {("FlatView", "len"), ("LinkView", "find"), ("LinkView", "found"), ("LinkView", "found_value"),
+             ("LinkView", "frames"), ("LinkView", "last"), ("LinkView", "last_value"), ("LinkView", "values")}
 
 # Calls for which the crate has one by hand, which calls them: the names that they have then.
 BY_HAND = {("Info", "set"): "set_value"}

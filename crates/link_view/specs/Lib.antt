@@ -1,5 +1,6 @@
 pub mod Told
 pub mod Views
+pub mod Search
 pub mod Events
 pub mod Borrowed
 pub mod Nest

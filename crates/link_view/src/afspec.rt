@@ -8,10 +8,12 @@ ghost use Rattle.link_afspec.specs.Tables.{af_spec_inet_place, af_spec_inet6_pla
 ghost use Rattle.link_afspec.specs.Tables.{af_spec_mctp_place, link_proto_info_inet6_place};
 ghost use Rattle.link_afspec.specs.Tables.{af_spec_unspec_place};
 ghost use Rattle.link_view.specs.Views.{latest};
+ghost use Rattle.link_view.specs.Search.{IsFound};
 ghost use Rattle.link_view.specs.Told.{told, told_found, read_found, IsNext};
 
 use crate::message_view::last_in;
 use crate::payload::{binding_of, borrow, flags_of, mode_of, some, within};
+use crate::sought::{Sought, frame_of};
 use link_afspec::numbers::*;
 use link_afspec::{AfSpecInet, AfSpecInet6, AfSpecMctp, AfSpecUnspec, LinkProtoInfoInet6};
 use link_recs::{Icmp6Stats, Inet6CacheInfo, Inet6DevConf, Inet6Stats, InetDevConf};
@@ -67,6 +69,26 @@ impl<'a> BorrowedAfSpecInet<'a> {
     {
         match last_in(list, number) {
             Ok(Some(frame)) => match Self::borrow(number, frame) {
+                Ok(value) => Ok(Some(value)),
+                Err(fault) => Err(fault),
+            },
+            Ok(None) => Ok(None),
+            Err(fault) => Err(fault),
+        }
+    }
+
+    /// The member that `last_each` found: what `last` gives of its number.
+    #[inline(always)]
+    pub fn found(
+        list: &'a [u8],
+        sought: Sought,
+    ) -> Result<Option<BorrowedAfSpecInet<'a>>, DecodeError>
+        requires { IsFound list.now sought }
+        ensures { told_found owned_af_spec_inet result
+            ≡ read_found af_spec_inet_place.grammar.reads (latest sought.number None (items list.now)) }
+    {
+        match frame_of(list, sought) {
+            Ok(Some(frame)) => match Self::borrow(sought.number, frame) {
                 Ok(value) => Ok(Some(value)),
                 Err(fault) => Err(fault),
             },
@@ -163,6 +185,26 @@ impl<'a> BorrowedAfSpecInet6<'a> {
         }
     }
 
+    /// The member that `last_each` found: what `last` gives of its number.
+    #[inline(always)]
+    pub fn found(
+        list: &'a [u8],
+        sought: Sought,
+    ) -> Result<Option<BorrowedAfSpecInet6<'a>>, DecodeError>
+        requires { IsFound list.now sought }
+        ensures { told_found owned_af_spec_inet6 result
+            ≡ read_found af_spec_inet6_place.grammar.reads (latest sought.number None (items list.now)) }
+    {
+        match frame_of(list, sought) {
+            Ok(Some(frame)) => match Self::borrow(sought.number, frame) {
+                Ok(value) => Ok(Some(value)),
+                Err(fault) => Err(fault),
+            },
+            Ok(None) => Ok(None),
+            Err(fault) => Err(fault),
+        }
+    }
+
     /// The next member of a list, front to back; `None` after the last.
     #[inline(always)]
     pub fn next(left: &mut NlasIterator<'a>) -> Option<Result<BorrowedAfSpecInet6<'a>, DecodeError>>
@@ -226,6 +268,26 @@ impl<'a> BorrowedAfSpecMctp<'a> {
     {
         match last_in(list, number) {
             Ok(Some(frame)) => match Self::borrow(number, frame) {
+                Ok(value) => Ok(Some(value)),
+                Err(fault) => Err(fault),
+            },
+            Ok(None) => Ok(None),
+            Err(fault) => Err(fault),
+        }
+    }
+
+    /// The member that `last_each` found: what `last` gives of its number.
+    #[inline(always)]
+    pub fn found(
+        list: &'a [u8],
+        sought: Sought,
+    ) -> Result<Option<BorrowedAfSpecMctp<'a>>, DecodeError>
+        requires { IsFound list.now sought }
+        ensures { told_found owned_af_spec_mctp result
+            ≡ read_found af_spec_mctp_place.grammar.reads (latest sought.number None (items list.now)) }
+    {
+        match frame_of(list, sought) {
+            Ok(Some(frame)) => match Self::borrow(sought.number, frame) {
                 Ok(value) => Ok(Some(value)),
                 Err(fault) => Err(fault),
             },
@@ -304,6 +366,26 @@ impl<'a> BorrowedLinkProtoInfoInet6<'a> {
         }
     }
 
+    /// The member that `last_each` found: what `last` gives of its number.
+    #[inline(always)]
+    pub fn found(
+        list: &'a [u8],
+        sought: Sought,
+    ) -> Result<Option<BorrowedLinkProtoInfoInet6<'a>>, DecodeError>
+        requires { IsFound list.now sought }
+        ensures { told_found owned_link_proto_info_inet6 result
+            ≡ read_found link_proto_info_inet6_place.grammar.reads (latest sought.number None (items list.now)) }
+    {
+        match frame_of(list, sought) {
+            Ok(Some(frame)) => match Self::borrow(sought.number, frame) {
+                Ok(value) => Ok(Some(value)),
+                Err(fault) => Err(fault),
+            },
+            Ok(None) => Ok(None),
+            Err(fault) => Err(fault),
+        }
+    }
+
     /// The next member of a list, front to back; `None` after the last.
     #[inline(always)]
     pub fn next(
@@ -374,6 +456,26 @@ impl<'a> BorrowedAfSpecUnspec<'a> {
     {
         match last_in(list, number) {
             Ok(Some(frame)) => match Self::borrow(number, frame) {
+                Ok(value) => Ok(Some(value)),
+                Err(fault) => Err(fault),
+            },
+            Ok(None) => Ok(None),
+            Err(fault) => Err(fault),
+        }
+    }
+
+    /// The member that `last_each` found: what `last` gives of its number.
+    #[inline(always)]
+    pub fn found(
+        list: &'a [u8],
+        sought: Sought,
+    ) -> Result<Option<BorrowedAfSpecUnspec<'a>>, DecodeError>
+        requires { IsFound list.now sought }
+        ensures { told_found owned_af_spec_unspec result
+            ≡ read_found af_spec_unspec_place.grammar.reads (latest sought.number None (items list.now)) }
+    {
+        match frame_of(list, sought) {
+            Ok(Some(frame)) => match Self::borrow(sought.number, frame) {
                 Ok(value) => Ok(Some(value)),
                 Err(fault) => Err(fault),
             },

@@ -7,6 +7,7 @@ pub mod borrowed;
 pub mod message_view;
 pub mod nest;
 pub mod payload;
+pub mod sought;
 pub mod vf;
 
 pub use afspec::{
@@ -21,4 +22,5 @@ pub use nest::{
     BorrowedLinkXdp, BorrowedProp,
 };
 pub use payload::WirelessEventView;
+pub use sought::{Sought, frame_of, last_each};
 pub use vf::{BorrowedVfInfo, BorrowedVfPort, BorrowedVfStats, BorrowedVfVlan};

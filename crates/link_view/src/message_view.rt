@@ -12,11 +12,13 @@ ghost use Rattle.link_msg.specs.Tables.{attribute_place};
 ghost use Rattle.link_msg.specs.Messages.{Means, FirstFault, MeansNothing, read_message};
 ghost use Rattle.link_msg.specs.declared.message.LinkMessage.{LinkMessage};
 ghost use Rattle.link_view.specs.Views.{parsed, latest, last_of, HasNumber, IsLastOf, AreFramesOf};
+ghost use Rattle.link_view.specs.Search.{IsFound, AreFound};
 ghost use Rattle.link_view.specs.Told.{told_found, read_found, each_read, all_read};
 ghost use Rattle.link_view.specs.Borrowed.{owned};
 
 use crate::attributes::{BorrowedAttributes, borrow_frame};
 use crate::borrowed::BorrowedAttribute;
+use crate::sought::{Sought, frame_of, last_each};
 use link_msg::header::HEADER_SIZE;
 use link_msg::{LinkHeader, LinkMessage};
 use nla_wire::{DecodeError, NlaBuffer, NlasIterator};
@@ -147,6 +149,60 @@ impl<'a> LinkView<'a> {
     {
         are_bytes(self.list);
         self.read_last(number)
+    }
+
+    /// Finds the last attribute of each of these numbers, as `last` does, in one pass.
+    #[inline(always)]
+    pub fn find(&self, sought: &mut [Sought]) -> Result<(), DecodeError>
+        ensures { AreFound self.now.list sought.old sought.new result }
+    {
+        last_each(self.list, sought)
+    }
+
+    /// The attribute that `find` found: what `last` gives of its number.
+    #[inline(always)]
+    pub fn found(&self, sought: Sought) -> Result<Option<NlaBuffer<'a>>, DecodeError>
+        requires { IsFound self.now.list sought }
+        ensures found { without_place result ≡ latest sought.number None (items self.now.list) }
+        ensures parsed { (m : LinkMessage) → parsed self.now ≡ Ok m
+            → IsLastOf m sought.number result }
+        ensures numbered { IfOk result (λ found. HasNumber sought.number found) }
+    {
+        are_bytes(self.list);
+        frame_of(self.list, sought)
+    }
+
+    /// What `found_value` does; for the proof: its clause cites the reader alone, and that of a message follows.
+    #[inline(always)]
+    fn read_found(&self, sought: Sought) -> Result<Option<BorrowedAttribute<'a>>, DecodeError>
+        requires { IsFound self.now.list sought }
+        ensures { told_found owned result
+            ≡ read_found (attribute_place self.now.header.interface_family).reads
+            (latest sought.number None (items self.now.list)) }
+    {
+        let family = self.header.interface_family;
+        match frame_of(self.list, sought) {
+            Ok(Some(frame)) => match borrow_frame(sought.number, frame, family) {
+                Ok(read) => Ok(Some(read)),
+                Err(fault) => Err(fault),
+            },
+            Ok(None) => Ok(None),
+            Err(fault) => Err(fault),
+        }
+    }
+
+    /// The attribute that `find` found, over borrowed bytes: what `last_value` gives of its number.
+    #[inline(always)]
+    pub fn found_value(&self, sought: Sought) -> Result<Option<BorrowedAttribute<'a>>, DecodeError>
+        requires { IsFound self.now.list sought }
+        ensures parsed { (m : LinkMessage) → parsed self.now ≡ Ok m
+            → told_found owned result ≡ Ok (last_of sought.number None m.attributes) }
+        ensures found { told_found owned result
+            ≡ read_found (attribute_place self.now.header.interface_family).reads
+            (latest sought.number None (items self.now.list)) }
+    {
+        are_bytes(self.list);
+        self.read_found(sought)
     }
 
     /// What `values` does; for the proof: its clause cites the reader alone, and that of a message follows.

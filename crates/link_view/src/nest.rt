@@ -7,10 +7,12 @@ ghost use Rattle.nla_wire.specs.Items.{items};
 ghost use Rattle.link_nest.specs.Tables.{devlink_port_place, down_reason_place, dpll_pin_place};
 ghost use Rattle.link_nest.specs.Tables.{link_info_place, prop_place, xdp_place};
 ghost use Rattle.link_view.specs.Views.{latest};
+ghost use Rattle.link_view.specs.Search.{IsFound};
 ghost use Rattle.link_view.specs.Told.{told, told_found, read_found, IsNext};
 
 use crate::message_view::last_in;
 use crate::payload::{attached_of, borrow, text_of, within};
+use crate::sought::{Sought, frame_of};
 use link_nest::numbers::*;
 use link_nest::{DevlinkPort, DpllPin, LinkInfo, LinkProtocolDownReason, LinkXdp, Prop};
 use link_vals::XdpAttached;
@@ -65,6 +67,26 @@ impl<'a> BorrowedDevlinkPort<'a> {
     {
         match last_in(list, number) {
             Ok(Some(frame)) => match Self::borrow(number, frame) {
+                Ok(value) => Ok(Some(value)),
+                Err(fault) => Err(fault),
+            },
+            Ok(None) => Ok(None),
+            Err(fault) => Err(fault),
+        }
+    }
+
+    /// The member that `last_each` found: what `last` gives of its number.
+    #[inline(always)]
+    pub fn found(
+        list: &'a [u8],
+        sought: Sought,
+    ) -> Result<Option<BorrowedDevlinkPort<'a>>, DecodeError>
+        requires { IsFound list.now sought }
+        ensures { told_found owned_devlink_port result
+            ≡ read_found devlink_port_place.grammar.reads (latest sought.number None (items list.now)) }
+    {
+        match frame_of(list, sought) {
+            Ok(Some(frame)) => match Self::borrow(sought.number, frame) {
                 Ok(value) => Ok(Some(value)),
                 Err(fault) => Err(fault),
             },
@@ -159,6 +181,26 @@ impl<'a> BorrowedLinkProtocolDownReason<'a> {
         }
     }
 
+    /// The member that `last_each` found: what `last` gives of its number.
+    #[inline(always)]
+    pub fn found(
+        list: &'a [u8],
+        sought: Sought,
+    ) -> Result<Option<BorrowedLinkProtocolDownReason<'a>>, DecodeError>
+        requires { IsFound list.now sought }
+        ensures { told_found owned_link_protocol_down_reason result
+            ≡ read_found down_reason_place.grammar.reads (latest sought.number None (items list.now)) }
+    {
+        match frame_of(list, sought) {
+            Ok(Some(frame)) => match Self::borrow(sought.number, frame) {
+                Ok(value) => Ok(Some(value)),
+                Err(fault) => Err(fault),
+            },
+            Ok(None) => Ok(None),
+            Err(fault) => Err(fault),
+        }
+    }
+
     /// The next member of a list, front to back; `None` after the last.
     #[inline(always)]
     pub fn next(
@@ -222,6 +264,23 @@ impl<'a> BorrowedDpllPin<'a> {
     {
         match last_in(list, number) {
             Ok(Some(frame)) => match Self::borrow(number, frame) {
+                Ok(value) => Ok(Some(value)),
+                Err(fault) => Err(fault),
+            },
+            Ok(None) => Ok(None),
+            Err(fault) => Err(fault),
+        }
+    }
+
+    /// The member that `last_each` found: what `last` gives of its number.
+    #[inline(always)]
+    pub fn found(list: &'a [u8], sought: Sought) -> Result<Option<BorrowedDpllPin<'a>>, DecodeError>
+        requires { IsFound list.now sought }
+        ensures { told_found owned_dpll_pin result
+            ≡ read_found dpll_pin_place.grammar.reads (latest sought.number None (items list.now)) }
+    {
+        match frame_of(list, sought) {
+            Ok(Some(frame)) => match Self::borrow(sought.number, frame) {
                 Ok(value) => Ok(Some(value)),
                 Err(fault) => Err(fault),
             },
@@ -299,6 +358,26 @@ impl<'a> BorrowedLinkInfo<'a> {
         }
     }
 
+    /// The member that `last_each` found: what `last` gives of its number.
+    #[inline(always)]
+    pub fn found(
+        list: &'a [u8],
+        sought: Sought,
+    ) -> Result<Option<BorrowedLinkInfo<'a>>, DecodeError>
+        requires { IsFound list.now sought }
+        ensures { told_found owned_link_info result
+            ≡ read_found link_info_place.grammar.reads (latest sought.number None (items list.now)) }
+    {
+        match frame_of(list, sought) {
+            Ok(Some(frame)) => match Self::borrow(sought.number, frame) {
+                Ok(value) => Ok(Some(value)),
+                Err(fault) => Err(fault),
+            },
+            Ok(None) => Ok(None),
+            Err(fault) => Err(fault),
+        }
+    }
+
     /// The next member of a list, front to back; `None` after the last.
     #[inline(always)]
     pub fn next(left: &mut NlasIterator<'a>) -> Option<Result<BorrowedLinkInfo<'a>, DecodeError>>
@@ -360,6 +439,23 @@ impl<'a> BorrowedProp<'a> {
     {
         match last_in(list, number) {
             Ok(Some(frame)) => match Self::borrow(number, frame) {
+                Ok(value) => Ok(Some(value)),
+                Err(fault) => Err(fault),
+            },
+            Ok(None) => Ok(None),
+            Err(fault) => Err(fault),
+        }
+    }
+
+    /// The member that `last_each` found: what `last` gives of its number.
+    #[inline(always)]
+    pub fn found(list: &'a [u8], sought: Sought) -> Result<Option<BorrowedProp<'a>>, DecodeError>
+        requires { IsFound list.now sought }
+        ensures { told_found owned_prop result
+            ≡ read_found prop_place.grammar.reads (latest sought.number None (items list.now)) }
+    {
+        match frame_of(list, sought) {
+            Ok(Some(frame)) => match Self::borrow(sought.number, frame) {
                 Ok(value) => Ok(Some(value)),
                 Err(fault) => Err(fault),
             },
@@ -443,6 +539,23 @@ impl<'a> BorrowedLinkXdp<'a> {
     {
         match last_in(list, number) {
             Ok(Some(frame)) => match Self::borrow(number, frame) {
+                Ok(value) => Ok(Some(value)),
+                Err(fault) => Err(fault),
+            },
+            Ok(None) => Ok(None),
+            Err(fault) => Err(fault),
+        }
+    }
+
+    /// The member that `last_each` found: what `last` gives of its number.
+    #[inline(always)]
+    pub fn found(list: &'a [u8], sought: Sought) -> Result<Option<BorrowedLinkXdp<'a>>, DecodeError>
+        requires { IsFound list.now sought }
+        ensures { told_found owned_link_xdp result
+            ≡ read_found xdp_place.grammar.reads (latest sought.number None (items list.now)) }
+    {
+        match frame_of(list, sought) {
+            Ok(Some(frame)) => match Self::borrow(sought.number, frame) {
                 Ok(value) => Ok(Some(value)),
                 Err(fault) => Err(fault),
             },

@@ -7,10 +7,12 @@ ghost use Rattle.nla_wire.specs.Items.{items};
 ghost use Rattle.link_vf.specs.Tables.{vf_stats_place, vf_info_place, vf_port_place};
 ghost use Rattle.link_vf.specs.Tables.{vf_vlan_place};
 ghost use Rattle.link_view.specs.Views.{latest};
+ghost use Rattle.link_view.specs.Search.{IsFound};
 ghost use Rattle.link_view.specs.Told.{told, told_found, read_found, IsNext};
 
 use crate::message_view::last_in;
 use crate::payload::{borrow, within};
+use crate::sought::{Sought, frame_of};
 use link_vf::numbers::*;
 use link_vf::{VfInfo, VfPort, VfStats, VfVlan};
 use link_vfrec::{
@@ -78,6 +80,23 @@ impl<'a> BorrowedVfStats<'a> {
     {
         match last_in(list, number) {
             Ok(Some(frame)) => match Self::borrow(number, frame) {
+                Ok(value) => Ok(Some(value)),
+                Err(fault) => Err(fault),
+            },
+            Ok(None) => Ok(None),
+            Err(fault) => Err(fault),
+        }
+    }
+
+    /// The member that `last_each` found: what `last` gives of its number.
+    #[inline(always)]
+    pub fn found(list: &'a [u8], sought: Sought) -> Result<Option<BorrowedVfStats<'a>>, DecodeError>
+        requires { IsFound list.now sought }
+        ensures { told_found owned_vf_stats result
+            ≡ read_found vf_stats_place.grammar.reads (latest sought.number None (items list.now)) }
+    {
+        match frame_of(list, sought) {
+            Ok(Some(frame)) => match Self::borrow(sought.number, frame) {
                 Ok(value) => Ok(Some(value)),
                 Err(fault) => Err(fault),
             },
@@ -191,6 +210,23 @@ impl<'a> BorrowedVfInfo<'a> {
         }
     }
 
+    /// The member that `last_each` found: what `last` gives of its number.
+    #[inline(always)]
+    pub fn found(list: &'a [u8], sought: Sought) -> Result<Option<BorrowedVfInfo<'a>>, DecodeError>
+        requires { IsFound list.now sought }
+        ensures { told_found owned_vf_info result
+            ≡ read_found vf_info_place.grammar.reads (latest sought.number None (items list.now)) }
+    {
+        match frame_of(list, sought) {
+            Ok(Some(frame)) => match Self::borrow(sought.number, frame) {
+                Ok(value) => Ok(Some(value)),
+                Err(fault) => Err(fault),
+            },
+            Ok(None) => Ok(None),
+            Err(fault) => Err(fault),
+        }
+    }
+
     /// The next member of a list, front to back; `None` after the last.
     #[inline(always)]
     pub fn next(left: &mut NlasIterator<'a>) -> Option<Result<BorrowedVfInfo<'a>, DecodeError>>
@@ -247,6 +283,23 @@ impl<'a> BorrowedVfPort<'a> {
     {
         match last_in(list, number) {
             Ok(Some(frame)) => match Self::borrow(number, frame) {
+                Ok(value) => Ok(Some(value)),
+                Err(fault) => Err(fault),
+            },
+            Ok(None) => Ok(None),
+            Err(fault) => Err(fault),
+        }
+    }
+
+    /// The member that `last_each` found: what `last` gives of its number.
+    #[inline(always)]
+    pub fn found(list: &'a [u8], sought: Sought) -> Result<Option<BorrowedVfPort<'a>>, DecodeError>
+        requires { IsFound list.now sought }
+        ensures { told_found owned_vf_port result
+            ≡ read_found vf_port_place.grammar.reads (latest sought.number None (items list.now)) }
+    {
+        match frame_of(list, sought) {
+            Ok(Some(frame)) => match Self::borrow(sought.number, frame) {
                 Ok(value) => Ok(Some(value)),
                 Err(fault) => Err(fault),
             },
@@ -316,6 +369,23 @@ impl<'a> BorrowedVfVlan<'a> {
     {
         match last_in(list, number) {
             Ok(Some(frame)) => match Self::borrow(number, frame) {
+                Ok(value) => Ok(Some(value)),
+                Err(fault) => Err(fault),
+            },
+            Ok(None) => Ok(None),
+            Err(fault) => Err(fault),
+        }
+    }
+
+    /// The member that `last_each` found: what `last` gives of its number.
+    #[inline(always)]
+    pub fn found(list: &'a [u8], sought: Sought) -> Result<Option<BorrowedVfVlan<'a>>, DecodeError>
+        requires { IsFound list.now sought }
+        ensures { told_found owned_vf_vlan result
+            ≡ read_found vf_vlan_place.grammar.reads (latest sought.number None (items list.now)) }
+    {
+        match frame_of(list, sought) {
+            Ok(Some(frame)) => match Self::borrow(sought.number, frame) {
                 Ok(value) => Ok(Some(value)),
                 Err(fault) => Err(fault),
             },

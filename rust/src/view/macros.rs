@@ -47,6 +47,15 @@ macro_rules! keys {
                         Err(fault) => Err(fault),
                     }
                 }
+
+                #[inline]
+                fn found_in_message(view: &LinkView<'a>, sought: Sought) -> Result<Option<$value>, DecodeError> {
+                    match view.found_value(sought) {
+                        Ok(Some(BorrowedAttribute::$name(value))) => Ok(Some(shown!($how value))),
+                        Ok(_) => Ok(None),
+                        Err(fault) => Err(fault),
+                    }
+                }
             }
         )+
 
@@ -96,7 +105,7 @@ macro_rules! members {
         $(#[$docs])+
         pub mod $module {
             #[allow(unused_imports)]
-            use super::{AddressFamily, Attribute, BorrowedAttributes, DecodeError, Key, ListView, Place};
+            use super::{AddressFamily, Attribute, BorrowedAttributes, DecodeError, Key, ListView, Place, Sought};
             #[allow(unused_imports)]
             use crate::$numbers::numbers;
             use crate::link_view::$file::$borrowed as Borrowed;
@@ -124,6 +133,15 @@ macro_rules! members {
                     #[inline]
                     fn of_list(list: &'a [u8]) -> Result<Option<$value>, DecodeError> {
                         match Borrowed::last(list, numbers::$number) {
+                            Ok(Some(Borrowed::$name(value))) => Ok(Some(shown!($how value))),
+                            Ok(_) => Ok(None),
+                            Err(fault) => Err(fault),
+                        }
+                    }
+
+                    #[inline]
+                    fn found_in_list(list: &'a [u8], sought: Sought) -> Result<Option<$value>, DecodeError> {
+                        match Borrowed::found(list, sought) {
                             Ok(Some(Borrowed::$name(value))) => Ok(Some(shown!($how value))),
                             Ok(_) => Ok(None),
                             Err(fault) => Err(fault),

@@ -8,6 +8,7 @@ use crate::link_recs::{Icmp6Stats, Inet6CacheInfo, Inet6DevConf, Inet6Stats, Ine
 use crate::link_vals::{In6AddrGenMode, Inet6IfaceFlags, MctpPhysBinding};
 use crate::link_view::message_view::last_in;
 use crate::link_view::payload::{binding_of, borrow, flags_of, mode_of, some, within};
+use crate::link_view::sought::{Sought, frame_of};
 use crate::nla_wire::{
     DecodeError, NlaBuffer, NlasIterator, PlainRecord, Record, empty_list, parse_ipv6_addr, parse_u32,
 };
@@ -46,6 +47,19 @@ impl<'a> BorrowedAfSpecInet<'a> {
     pub fn last(list: &'a [u8], number: u16) -> Result<Option<BorrowedAfSpecInet<'a>>, DecodeError> {
         match last_in(list, number) {
             Ok(Some(frame)) => match Self::borrow(number, frame) {
+                Ok(value) => Ok(Some(value)),
+                Err(fault) => Err(fault),
+            },
+            Ok(None) => Ok(None),
+            Err(fault) => Err(fault),
+        }
+    }
+
+    /// The member that `last_each` found: what `last` gives of its number.
+    #[cfg_attr(not(debug_assertions), inline(always))]
+    pub fn found(list: &'a [u8], sought: Sought) -> Result<Option<BorrowedAfSpecInet<'a>>, DecodeError> {
+        match frame_of(list, sought) {
+            Ok(Some(frame)) => match Self::borrow(sought.number, frame) {
                 Ok(value) => Ok(Some(value)),
                 Err(fault) => Err(fault),
             },
@@ -123,6 +137,19 @@ impl<'a> BorrowedAfSpecInet6<'a> {
         }
     }
 
+    /// The member that `last_each` found: what `last` gives of its number.
+    #[cfg_attr(not(debug_assertions), inline(always))]
+    pub fn found(list: &'a [u8], sought: Sought) -> Result<Option<BorrowedAfSpecInet6<'a>>, DecodeError> {
+        match frame_of(list, sought) {
+            Ok(Some(frame)) => match Self::borrow(sought.number, frame) {
+                Ok(value) => Ok(Some(value)),
+                Err(fault) => Err(fault),
+            },
+            Ok(None) => Ok(None),
+            Err(fault) => Err(fault),
+        }
+    }
+
     /// The next member of a list, front to back; `None` after the last.
     #[cfg_attr(not(debug_assertions), inline(always))]
     pub fn next(left: &mut NlasIterator<'a>) -> Option<Result<BorrowedAfSpecInet6<'a>, DecodeError>> {
@@ -180,6 +207,19 @@ impl<'a> BorrowedAfSpecMctp<'a> {
         }
     }
 
+    /// The member that `last_each` found: what `last` gives of its number.
+    #[cfg_attr(not(debug_assertions), inline(always))]
+    pub fn found(list: &'a [u8], sought: Sought) -> Result<Option<BorrowedAfSpecMctp<'a>>, DecodeError> {
+        match frame_of(list, sought) {
+            Ok(Some(frame)) => match Self::borrow(sought.number, frame) {
+                Ok(value) => Ok(Some(value)),
+                Err(fault) => Err(fault),
+            },
+            Ok(None) => Ok(None),
+            Err(fault) => Err(fault),
+        }
+    }
+
     /// The next member of a list, front to back; `None` after the last.
     #[cfg_attr(not(debug_assertions), inline(always))]
     pub fn next(left: &mut NlasIterator<'a>) -> Option<Result<BorrowedAfSpecMctp<'a>, DecodeError>> {
@@ -222,6 +262,19 @@ impl<'a> BorrowedLinkProtoInfoInet6<'a> {
     pub fn last(list: &'a [u8], number: u16) -> Result<Option<BorrowedLinkProtoInfoInet6<'a>>, DecodeError> {
         match last_in(list, number) {
             Ok(Some(frame)) => match Self::borrow(number, frame) {
+                Ok(value) => Ok(Some(value)),
+                Err(fault) => Err(fault),
+            },
+            Ok(None) => Ok(None),
+            Err(fault) => Err(fault),
+        }
+    }
+
+    /// The member that `last_each` found: what `last` gives of its number.
+    #[cfg_attr(not(debug_assertions), inline(always))]
+    pub fn found(list: &'a [u8], sought: Sought) -> Result<Option<BorrowedLinkProtoInfoInet6<'a>>, DecodeError> {
+        match frame_of(list, sought) {
+            Ok(Some(frame)) => match Self::borrow(sought.number, frame) {
                 Ok(value) => Ok(Some(value)),
                 Err(fault) => Err(fault),
             },
@@ -281,6 +334,19 @@ impl<'a> BorrowedAfSpecUnspec<'a> {
     pub fn last(list: &'a [u8], number: u16) -> Result<Option<BorrowedAfSpecUnspec<'a>>, DecodeError> {
         match last_in(list, number) {
             Ok(Some(frame)) => match Self::borrow(number, frame) {
+                Ok(value) => Ok(Some(value)),
+                Err(fault) => Err(fault),
+            },
+            Ok(None) => Ok(None),
+            Err(fault) => Err(fault),
+        }
+    }
+
+    /// The member that `last_each` found: what `last` gives of its number.
+    #[cfg_attr(not(debug_assertions), inline(always))]
+    pub fn found(list: &'a [u8], sought: Sought) -> Result<Option<BorrowedAfSpecUnspec<'a>>, DecodeError> {
+        match frame_of(list, sought) {
+            Ok(Some(frame)) => match Self::borrow(sought.number, frame) {
                 Ok(value) => Ok(Some(value)),
                 Err(fault) => Err(fault),
             },

@@ -5,6 +5,7 @@ use crate::link_msg::header::HEADER_SIZE;
 use crate::link_msg::{LinkHeader, LinkMessage};
 use crate::link_view::attributes::{BorrowedAttributes, borrow_frame};
 use crate::link_view::borrowed::BorrowedAttribute;
+use crate::link_view::sought::{Sought, frame_of, last_each};
 use crate::nla_wire::{DecodeError, NlaBuffer, NlasIterator};
 
 /// A message over borrowed bytes: its header, and the attributes after it, which are not copied.
@@ -114,6 +115,40 @@ impl<'a> LinkView<'a> {
     pub(crate) fn last_value(&self, number: u16) -> Result<Option<BorrowedAttribute<'a>>, DecodeError> {
         are_bytes(self.list);
         self.read_last(number)
+    }
+
+    /// Finds the last attribute of each of these numbers, as `last` does, in one pass.
+    #[cfg_attr(not(debug_assertions), inline(always))]
+    pub(crate) fn find(&self, sought: &mut [Sought]) -> Result<(), DecodeError> {
+        last_each(self.list, sought)
+    }
+
+    /// The attribute that `find` found: what `last` gives of its number.
+    #[cfg_attr(not(debug_assertions), inline(always))]
+    pub(crate) fn found(&self, sought: Sought) -> Result<Option<NlaBuffer<'a>>, DecodeError> {
+        are_bytes(self.list);
+        frame_of(self.list, sought)
+    }
+
+    /// What `found_value` does.
+    #[cfg_attr(not(debug_assertions), inline(always))]
+    fn read_found(&self, sought: Sought) -> Result<Option<BorrowedAttribute<'a>>, DecodeError> {
+        let family = self.header.interface_family;
+        match frame_of(self.list, sought) {
+            Ok(Some(frame)) => match borrow_frame(sought.number, frame, family) {
+                Ok(read) => Ok(Some(read)),
+                Err(fault) => Err(fault),
+            },
+            Ok(None) => Ok(None),
+            Err(fault) => Err(fault),
+        }
+    }
+
+    /// The attribute that `find` found, over borrowed bytes: what `last_value` gives of its number.
+    #[cfg_attr(not(debug_assertions), inline(always))]
+    pub(crate) fn found_value(&self, sought: Sought) -> Result<Option<BorrowedAttribute<'a>>, DecodeError> {
+        are_bytes(self.list);
+        self.read_found(sought)
     }
 
     /// What `values` does.

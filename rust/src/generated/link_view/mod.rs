@@ -7,6 +7,7 @@ pub(crate) mod borrowed;
 pub(crate) mod message_view;
 pub(crate) mod nest;
 pub(crate) mod payload;
+pub(crate) mod sought;
 pub(crate) mod vf;
 
 pub use message_view::LinkView;

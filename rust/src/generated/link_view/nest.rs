@@ -7,6 +7,7 @@ use crate::link_nest::{DevlinkPort, DpllPin, LinkInfo, LinkProtocolDownReason, L
 use crate::link_vals::XdpAttached;
 use crate::link_view::message_view::last_in;
 use crate::link_view::payload::{attached_of, borrow, text_of, within};
+use crate::link_view::sought::{Sought, frame_of};
 use crate::nla_wire::{DecodeError, NlaBuffer, NlasIterator, parse_i32, parse_u32};
 
 /// A member of IFLA_DEVLINK_PORT over borrowed bytes: a variant for each of `DevlinkPort`.
@@ -46,6 +47,19 @@ impl<'a> BorrowedDevlinkPort<'a> {
     pub fn last(list: &'a [u8], number: u16) -> Result<Option<BorrowedDevlinkPort<'a>>, DecodeError> {
         match last_in(list, number) {
             Ok(Some(frame)) => match Self::borrow(number, frame) {
+                Ok(value) => Ok(Some(value)),
+                Err(fault) => Err(fault),
+            },
+            Ok(None) => Ok(None),
+            Err(fault) => Err(fault),
+        }
+    }
+
+    /// The member that `last_each` found: what `last` gives of its number.
+    #[cfg_attr(not(debug_assertions), inline(always))]
+    pub fn found(list: &'a [u8], sought: Sought) -> Result<Option<BorrowedDevlinkPort<'a>>, DecodeError> {
+        match frame_of(list, sought) {
+            Ok(Some(frame)) => match Self::borrow(sought.number, frame) {
                 Ok(value) => Ok(Some(value)),
                 Err(fault) => Err(fault),
             },
@@ -111,6 +125,19 @@ impl<'a> BorrowedLinkProtocolDownReason<'a> {
         }
     }
 
+    /// The member that `last_each` found: what `last` gives of its number.
+    #[cfg_attr(not(debug_assertions), inline(always))]
+    pub fn found(list: &'a [u8], sought: Sought) -> Result<Option<BorrowedLinkProtocolDownReason<'a>>, DecodeError> {
+        match frame_of(list, sought) {
+            Ok(Some(frame)) => match Self::borrow(sought.number, frame) {
+                Ok(value) => Ok(Some(value)),
+                Err(fault) => Err(fault),
+            },
+            Ok(None) => Ok(None),
+            Err(fault) => Err(fault),
+        }
+    }
+
     /// The next member of a list, front to back; `None` after the last.
     #[cfg_attr(not(debug_assertions), inline(always))]
     pub fn next(left: &mut NlasIterator<'a>) -> Option<Result<BorrowedLinkProtocolDownReason<'a>, DecodeError>> {
@@ -158,6 +185,19 @@ impl<'a> BorrowedDpllPin<'a> {
     pub fn last(list: &'a [u8], number: u16) -> Result<Option<BorrowedDpllPin<'a>>, DecodeError> {
         match last_in(list, number) {
             Ok(Some(frame)) => match Self::borrow(number, frame) {
+                Ok(value) => Ok(Some(value)),
+                Err(fault) => Err(fault),
+            },
+            Ok(None) => Ok(None),
+            Err(fault) => Err(fault),
+        }
+    }
+
+    /// The member that `last_each` found: what `last` gives of its number.
+    #[cfg_attr(not(debug_assertions), inline(always))]
+    pub fn found(list: &'a [u8], sought: Sought) -> Result<Option<BorrowedDpllPin<'a>>, DecodeError> {
+        match frame_of(list, sought) {
+            Ok(Some(frame)) => match Self::borrow(sought.number, frame) {
                 Ok(value) => Ok(Some(value)),
                 Err(fault) => Err(fault),
             },
@@ -221,6 +261,19 @@ impl<'a> BorrowedLinkInfo<'a> {
         }
     }
 
+    /// The member that `last_each` found: what `last` gives of its number.
+    #[cfg_attr(not(debug_assertions), inline(always))]
+    pub fn found(list: &'a [u8], sought: Sought) -> Result<Option<BorrowedLinkInfo<'a>>, DecodeError> {
+        match frame_of(list, sought) {
+            Ok(Some(frame)) => match Self::borrow(sought.number, frame) {
+                Ok(value) => Ok(Some(value)),
+                Err(fault) => Err(fault),
+            },
+            Ok(None) => Ok(None),
+            Err(fault) => Err(fault),
+        }
+    }
+
     /// The next member of a list, front to back; `None` after the last.
     #[cfg_attr(not(debug_assertions), inline(always))]
     pub fn next(left: &mut NlasIterator<'a>) -> Option<Result<BorrowedLinkInfo<'a>, DecodeError>> {
@@ -268,6 +321,19 @@ impl<'a> BorrowedProp<'a> {
     pub fn last(list: &'a [u8], number: u16) -> Result<Option<BorrowedProp<'a>>, DecodeError> {
         match last_in(list, number) {
             Ok(Some(frame)) => match Self::borrow(number, frame) {
+                Ok(value) => Ok(Some(value)),
+                Err(fault) => Err(fault),
+            },
+            Ok(None) => Ok(None),
+            Err(fault) => Err(fault),
+        }
+    }
+
+    /// The member that `last_each` found: what `last` gives of its number.
+    #[cfg_attr(not(debug_assertions), inline(always))]
+    pub fn found(list: &'a [u8], sought: Sought) -> Result<Option<BorrowedProp<'a>>, DecodeError> {
+        match frame_of(list, sought) {
+            Ok(Some(frame)) => match Self::borrow(sought.number, frame) {
                 Ok(value) => Ok(Some(value)),
                 Err(fault) => Err(fault),
             },
@@ -337,6 +403,19 @@ impl<'a> BorrowedLinkXdp<'a> {
     pub fn last(list: &'a [u8], number: u16) -> Result<Option<BorrowedLinkXdp<'a>>, DecodeError> {
         match last_in(list, number) {
             Ok(Some(frame)) => match Self::borrow(number, frame) {
+                Ok(value) => Ok(Some(value)),
+                Err(fault) => Err(fault),
+            },
+            Ok(None) => Ok(None),
+            Err(fault) => Err(fault),
+        }
+    }
+
+    /// The member that `last_each` found: what `last` gives of its number.
+    #[cfg_attr(not(debug_assertions), inline(always))]
+    pub fn found(list: &'a [u8], sought: Sought) -> Result<Option<BorrowedLinkXdp<'a>>, DecodeError> {
+        match frame_of(list, sought) {
+            Ok(Some(frame)) => match Self::borrow(sought.number, frame) {
                 Ok(value) => Ok(Some(value)),
                 Err(fault) => Err(fault),
             },

@@ -10,6 +10,7 @@ use crate::link_vfrec::{
 };
 use crate::link_view::message_view::last_in;
 use crate::link_view::payload::{borrow, within};
+use crate::link_view::sought::{Sought, frame_of};
 use crate::nla_wire::{DecodeError, NlaBuffer, NlasIterator, Record, parse_u64};
 
 /// A member of IFLA_VF_STATS over borrowed bytes: a variant for each of `VfStats`.
@@ -59,6 +60,19 @@ impl<'a> BorrowedVfStats<'a> {
     pub fn last(list: &'a [u8], number: u16) -> Result<Option<BorrowedVfStats<'a>>, DecodeError> {
         match last_in(list, number) {
             Ok(Some(frame)) => match Self::borrow(number, frame) {
+                Ok(value) => Ok(Some(value)),
+                Err(fault) => Err(fault),
+            },
+            Ok(None) => Ok(None),
+            Err(fault) => Err(fault),
+        }
+    }
+
+    /// The member that `last_each` found: what `last` gives of its number.
+    #[cfg_attr(not(debug_assertions), inline(always))]
+    pub fn found(list: &'a [u8], sought: Sought) -> Result<Option<BorrowedVfStats<'a>>, DecodeError> {
+        match frame_of(list, sought) {
+            Ok(Some(frame)) => match Self::borrow(sought.number, frame) {
                 Ok(value) => Ok(Some(value)),
                 Err(fault) => Err(fault),
             },
@@ -146,6 +160,19 @@ impl<'a> BorrowedVfInfo<'a> {
         }
     }
 
+    /// The member that `last_each` found: what `last` gives of its number.
+    #[cfg_attr(not(debug_assertions), inline(always))]
+    pub fn found(list: &'a [u8], sought: Sought) -> Result<Option<BorrowedVfInfo<'a>>, DecodeError> {
+        match frame_of(list, sought) {
+            Ok(Some(frame)) => match Self::borrow(sought.number, frame) {
+                Ok(value) => Ok(Some(value)),
+                Err(fault) => Err(fault),
+            },
+            Ok(None) => Ok(None),
+            Err(fault) => Err(fault),
+        }
+    }
+
     /// The next member of a list, front to back; `None` after the last.
     #[cfg_attr(not(debug_assertions), inline(always))]
     pub fn next(left: &mut NlasIterator<'a>) -> Option<Result<BorrowedVfInfo<'a>, DecodeError>> {
@@ -188,6 +215,19 @@ impl<'a> BorrowedVfPort<'a> {
     pub fn last(list: &'a [u8], number: u16) -> Result<Option<BorrowedVfPort<'a>>, DecodeError> {
         match last_in(list, number) {
             Ok(Some(frame)) => match Self::borrow(number, frame) {
+                Ok(value) => Ok(Some(value)),
+                Err(fault) => Err(fault),
+            },
+            Ok(None) => Ok(None),
+            Err(fault) => Err(fault),
+        }
+    }
+
+    /// The member that `last_each` found: what `last` gives of its number.
+    #[cfg_attr(not(debug_assertions), inline(always))]
+    pub fn found(list: &'a [u8], sought: Sought) -> Result<Option<BorrowedVfPort<'a>>, DecodeError> {
+        match frame_of(list, sought) {
+            Ok(Some(frame)) => match Self::borrow(sought.number, frame) {
                 Ok(value) => Ok(Some(value)),
                 Err(fault) => Err(fault),
             },
@@ -243,6 +283,19 @@ impl<'a> BorrowedVfVlan<'a> {
     pub fn last(list: &'a [u8], number: u16) -> Result<Option<BorrowedVfVlan<'a>>, DecodeError> {
         match last_in(list, number) {
             Ok(Some(frame)) => match Self::borrow(number, frame) {
+                Ok(value) => Ok(Some(value)),
+                Err(fault) => Err(fault),
+            },
+            Ok(None) => Ok(None),
+            Err(fault) => Err(fault),
+        }
+    }
+
+    /// The member that `last_each` found: what `last` gives of its number.
+    #[cfg_attr(not(debug_assertions), inline(always))]
+    pub fn found(list: &'a [u8], sought: Sought) -> Result<Option<BorrowedVfVlan<'a>>, DecodeError> {
+        match frame_of(list, sought) {
+            Ok(Some(frame)) => match Self::borrow(sought.number, frame) {
                 Ok(value) => Ok(Some(value)),
                 Err(fault) => Err(fault),
             },

@@ -1,0 +1,6 @@
+use Rattle.std.proofs.Common.{◌≡◌, ◌++◌, map, take, drop}
+use Rattle.link_view.specs.Search.{cleared}
+use Rattle.link_view.proofs.sought.clear.Given as goal
+
+abbrev pub invariant-loop-place : goal.invariant-loop-place
+invariant-loop-place l = l.sought ≡ map cleared (take l.place-index l.fn.sought) ++ drop l.place-index l.fn.sought
