@@ -377,6 +377,18 @@ fn by_size_and_family() {
     assert_eq!(view.get(AfSpecUnknown), Ok(Some(&frame(12, &[])[..])));
 }
 
+#[test]
+fn keys_of_one_number() {
+    let mtu = |it: u32| it.to_ne_bytes();
+    let attributes = [frame(4, &mtu(1)), frame(4, &mtu(2)), frame(16, &[6]), frame(13, &[])].concat();
+    let bytes = [vec![0; HEADER_SIZE], attributes].concat();
+    let view = LinkView::peek(&bytes).unwrap();
+    let found = view.get((Mtu, OperState, Mtu, Link)).unwrap();
+    assert_eq!(found, (Some(2), Some(linkwire::State::Up), Some(2), None));
+    assert_eq!(view.get((TxQueueLen, Mtu)), view.get(TxQueueLen).map(|it| (it, Some(2))));
+    assert!(view.get((TxQueueLen, Mtu)).is_err());
+}
+
 /// The bytes of an attribute.
 fn frame(kind: u16, payload: &[u8]) -> Vec<u8> {
     let mut bytes = ((payload.len() + 4) as u16).to_ne_bytes().to_vec();
