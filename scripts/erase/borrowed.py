@@ -9,7 +9,6 @@ for are made of one row, and the proof refuses a row that does not fit the table
 """
 import os
 import re
-import sys
 import textwrap
 
 import keys
@@ -283,7 +282,8 @@ impl<'a> Borrowed{enum}<'a> {{
     /// The next member of a list, front to back; `None` after the last.
     #[inline(always)]
     pub fn next(left: &mut NlasIterator<'a>) -> Option<Result<Borrowed{enum}<'a>, DecodeError>>
-        ensures {{ IsNext owned_{snake} {place}.grammar.reads left.old result left.new }}
+        ensures {{ IsNext owned_{snake} {place}.grammar.reads
+            left.old result left.new }}
     {{
         match left.next() {{
             Some(Ok(frame)) => {{
@@ -309,8 +309,8 @@ ghost use Rattle.link_view.specs.Told.{{told, told_found, read_found, IsNext}};
 
 {uses}
 {members}"""
-MEMBER_SPECS = """-- What members of the lists of {crate} stand for over borrowed bytes, {said}
--- its enums: do not edit.
+MEMBER_SPECS = """-- What members of the lists of {crate} stand for over borrowed bytes,
+-- {said} its enums: do not edit.
 {uses}
 {members}"""
 STANDS_FOR = """

@@ -1,5 +1,5 @@
--- What calls return over borrowed bytes, as `parse` reads it. `owned` says of a value what it stands for, and `reads` of
--- a frame what `parse` reads of it.
+-- What calls return over borrowed bytes, as `parse` reads it. `owned` says of a value what it stands for, and `reads`
+-- of a frame what `parse` reads of it.
 use Rattle.std.specs.Prelude.{◌≡◌, List, [], ◌∷◌, map, Option, None, Some, Result, Ok, Err}
 use Rattle.nla_wire.specs.Frames.{Frame}
 use Rattle.nla_wire.specs.Items.{Item}

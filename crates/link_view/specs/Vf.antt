@@ -1,5 +1,5 @@
--- What members of the lists of link_vf stand for over borrowed bytes, made by scripts/erase/borrowed.py of the rows of
--- its enums: do not edit.
+-- What members of the lists of link_vf stand for over borrowed bytes,
+-- made by scripts/erase/borrowed.py of the rows of its enums: do not edit.
 use Rattle.std.specs.Prelude.{Result, Ok}
 use Rattle.nla_wire.specs.declared.error.Cause.{Cause}
 use Rattle.nla_wire.specs.Reading.{◌>>=◌}

@@ -391,7 +391,8 @@ impl<'a> BorrowedLinkProtoInfoInet6<'a> {
     pub fn next(
         left: &mut NlasIterator<'a>,
     ) -> Option<Result<BorrowedLinkProtoInfoInet6<'a>, DecodeError>>
-        ensures { IsNext owned_link_proto_info_inet6 link_proto_info_inet6_place.grammar.reads left.old result left.new }
+        ensures { IsNext owned_link_proto_info_inet6 link_proto_info_inet6_place.grammar.reads
+            left.old result left.new }
     {
         match left.next() {
             Some(Ok(frame)) => {
