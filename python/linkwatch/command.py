@@ -52,14 +52,21 @@ def lines_of(path: str, watch: Watch, is_strict: bool) -> Iterator[Tuple[List[Ev
                 says(f"line {row}: {error}")
 
 
+def looked_for(output: Output, status: int, missed: int) -> int:
+    """Says which of the names no link has or had. Returns the one status, or the other if there is such a name."""
+    for name in output.view.missing(ever=True):
+        says(f"no link {name}")
+    return missed if output.view.missing(ever=True) else status
+
+
 def recorded(options: Options, output: Output) -> int:
-    """Tells what lines of linkdump(1) say, as they come."""
+    """Tells what lines of linkdump(1) say, as they come. Returns 1 if one of the names is of no link in them."""
     for events, line in lines_of(options.read or "", Watch(lenient=True, dumps=True), False):
         for event in events:
             output.tell(event, line)
         sys.stdout.flush()
     output.lines(output.settling.release())
-    return 0
+    return looked_for(output, 0, 1)
 
 
 def ended(path: str) -> Tuple[Watch, Set[str]]:
@@ -71,7 +78,8 @@ def ended(path: str) -> Tuple[Watch, Set[str]]:
 
 
 def compared(options: Options, output: Output) -> int:
-    """Tells how the ends of two recordings differ. Returns 1 if they do, and 2 if that cannot be told."""
+    """Tells how the ends of two recordings differ. Returns 1 if they do, and 2 if that cannot be told, as of a name
+    that no link has in either."""
     (old, all_old), (new, all_new) = map(ended, options.diff)
     output.time, output.settling, status = "none", Settling(0), 0
     for host in sorted({*old.hosts(), *new.hosts()}):
@@ -82,7 +90,9 @@ def compared(options: Options, output: Output) -> int:
         output.view.learn(old.links(host), host)
         told = [output.tell(it) for it in old.compared(new, host, host in all_old, host in all_new)]
         status = status or int(any(told))
-    return status
+        if output.view.missing(ever=True):  # of a link in the new file nothing is told if what came is not
+            output.view.learn(new.links(host), host)
+    return looked_for(output, status, 2)
 
 
 def row(link: Dict[str, Any], output: Output) -> List[str]:
@@ -108,9 +118,7 @@ def once(options: Options, output: Output) -> int:
         cells[0] = output.paint("name", cells[0]) if at else cells[0]
         cells[4] = output.paint(rows[at][4], cells[4])
         output.write("  ".join(cells).rstrip())
-    for name in output.view.missing():
-        says(f"no link {name}")
-    return 1 if output.view.missing() else 0
+    return looked_for(output, 0, 1)
 
 
 def run(arguments: List[str]) -> int:

@@ -75,7 +75,7 @@ class View:
     """
 
     def __init__(self, names: Sequence[str] = (), details: bool = False) -> None:
-        self._patterns, self._details = names, details
+        self._patterns, self._details, self._unmet = names, details, list(names)
         # by host and index: values by their paths, and beside them `names` and `selected`
         self._links: Dict[Tuple[str, int], Dict[str, Any]] = {}
 
@@ -91,8 +91,10 @@ class View:
         """Whether one of these links is there, and has or had a name that is asked for."""
         return any(self._links.get((host, it or 0), {}).get("selected") for it in indices)
 
-    def missing(self) -> List[str]:
-        """The names that are asked for and that no link has."""
+    def missing(self, ever: bool = False) -> List[str]:
+        """The names that are asked for and that no link has; with `ever`, those that no link had before either."""
+        if ever:
+            return list(self._unmet)
         there = [name for it in self._links.values() for name in it["names"]]
         return [it for it in self._patterns if not fnmatch.filter(there, it)]
 
@@ -104,6 +106,8 @@ class View:
     def told(self, event: Event) -> Optional[List[Told]]:
         """What an event says; None where it is of a link that is not asked for."""
         key, was_selected, found = (event.host, event.ifindex or 0), self._is_selected(event), []
+        if event.ifname:
+            self._meet([event.ifname])
         if event.change in ("new", "changed"):
             found = self._came(event)
         elif event.change == "gone" and event.family != AF_UNSPEC:  # that of family 0 tells that it left, or went
@@ -115,6 +119,10 @@ class View:
         if event.change == "gone" and event.family == AF_UNSPEC:
             self._links.pop(key, None)
         return found if was_selected or found or self._is_selected(event) else None
+
+    def _meet(self, names: Sequence[str]) -> None:
+        """Takes the names of a link: what is asked for and is one of these is met."""
+        self._unmet = [it for it in self._unmet if not fnmatch.filter(names, it)]
 
     def _is_selected(self, event: Event) -> bool:
         """Whether an event is of a link that is asked for, of a port of one, or of no link."""
@@ -132,6 +140,7 @@ class View:
         items = self._taken(it, event)
         master = it.get("master") or 0
         it["names"] = [it.get("ifname") or "", *(it.get("prop-list.alt-ifname") or ())]
+        self._meet(it["names"])
         it["selected"] = it.get("selected") or self.matches(it["names"])
         moves = [at for one in items if one.path == "master" for at in (one.old, one.new)]
         shown, told = list(self._shown(items, host, it.get("link-netnsid") is not None)), []

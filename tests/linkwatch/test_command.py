@@ -11,6 +11,17 @@ FIRST = [line(2, name("veth0"), mtu(1500)), line(3, name("br0"), mtu(1500))]
 CHANGED = stream(FIRST, line(2, name("veth0"), mtu(9000)))
 
 
+def diffed(old, new, *words):
+    """What `linkwatch --diff` writes of two recordings, what it says, and its status."""
+    with tempfile.TemporaryDirectory() as folder:
+        for file, content in ("OLD", old), ("NEW", new):
+            with open(f"{folder}/{file}", "w", encoding="utf-8") as it:
+                it.write("".join(f"{one}\n" for one in content))
+        ran = subprocess.run([*COMMAND, "--diff", "OLD", "NEW", *words], cwd=folder, capture_output=True, text=True,
+                             check=False, timeout=PATIENCE, env=ENVIRONMENT)
+    return ran.stdout.splitlines(), ran.stderr, ran.returncode
+
+
 class Command(unittest.TestCase):
     maxDiff = None
 
@@ -24,6 +35,9 @@ class Command(unittest.TestCase):
                 (["--read", "/"], 2, "linkwatch: /: Is a directory\n"),
                 (["--netns", "no-such"], 2, "linkwatch: /var/run/netns/no-such: No such file or directory\n"),
                 (["--once", "no-such\x1b"], 1, "linkwatch: no link no-such\\u001b\n"),
+                (["--read", "-", "--time", "none", "x\x1b", "veth0", "y*"], 1,
+                 "linkwatch: no link x\\u001b\nlinkwatch: no link y*\n"),
+                (["--read", "-", "--json", "x"], 1, "linkwatch: no link x\n"), (["--read", "-", "br0", "v*"], 0, ""),
                 (["--read", "-", "--count", "1"], 0, ""), (["--version"], 0, ""), (["--help"], 0, "")):
             found = linkwatch(words, CHANGED + CHANGED)
             self.assertEqual(found[1:], (said, wanted), words)
@@ -69,15 +83,22 @@ class Command(unittest.TestCase):
                 (cut, other, told[:1] + told[2:], "OLD: no whole dump: what came is not told", 2),
                 (whole, [BEGIN, other[1]], told[:1], "NEW: no whole dump: what went is not told", 2),
                 (whole, [*whole, "zz"], [], "NEW: line 5: neither words alone nor hexadecimal digits: 'zz'", 2)):
-            with tempfile.TemporaryDirectory() as folder:
-                for file, content in ("OLD", old), ("NEW", new):
-                    with open(f"{folder}/{file}", "w", encoding="utf-8") as it:
-                        it.write("\n".join(content) + "\n")
-                for more in [], ["--settle", "9", "--time", "utc"]:  # which change nothing
-                    ran = subprocess.run([*COMMAND, "--diff", "OLD", "NEW", *more], cwd=folder, capture_output=True,
-                                         text=True, check=False, timeout=PATIENCE, env=ENVIRONMENT)
-                    self.assertEqual((ran.stdout.splitlines(), ran.stderr, ran.returncode),
-                                     (lines, said and f"linkwatch: {said}\n", wanted))
+            for more in [], ["--settle", "9", "--time", "utc"]:  # which change nothing
+                self.assertEqual(diffed(old, new, *more), (lines, said and f"linkwatch: {said}\n", wanted))
+
+    def test_diff_of_names(self):
+        """A name that no link of either file has is trouble; one that a link had is none."""
+        other, named = stream([line(2, name("x"), mtu(1500))]), [*CHANGED, line(2, name("y"), mtu(9000))]
+        cut = "linkwatch: OLD: no whole dump: what came is not told\n"
+        for old, new, names, lines, said, wanted in (
+                (CHANGED, CHANGED, ["veth0", "b*"], [], "", 0),
+                (CHANGED, CHANGED, ["no", "veth0", "n*"], [], "linkwatch: no link no\nlinkwatch: no link n*\n", 2),
+                (CHANGED, other, ["br0", "no"], ["br0              gone"], "linkwatch: no link no\n", 2),
+                (CHANGED, other, ["br0", "x"],
+                 ["x                name veth0 → x, mtu 9000 → 1500", "br0              gone"], "", 1),
+                (CHANGED, named, ["veth0"], ["y                name veth0 → y"], "", 1),
+                ([BEGIN], other, ["x"], [], cut, 2), ([BEGIN], other, ["no"], [], f"{cut}linkwatch: no link no\n", 2)):
+            self.assertEqual(diffed(old, new, *names), (lines, said, wanted))
 
     def test_once(self):
         rows = linkwatch(["--once"], [])[0].decode().splitlines()

@@ -96,6 +96,7 @@ class Views(unittest.TestCase):
         events = watch.message(BR, True) + watch.message(link(2, "e"), True)
         self.assertEqual([view.told(events[0]), told(view, events[1])], [None, [("gone", "e", "", [])]])
         self.assertEqual((view.name(2), view.selects(2), view.missing()), ("if2", False, ["e"]))
+        self.assertEqual((view.missing(ever=True), View(["e", "n*"]).missing(ever=True)), ([], ["e", "n*"]))
 
     def test_words_alone(self):
         """`lost` and `again` are of no link, `done` is nothing, and a fault is of those that are asked for."""
