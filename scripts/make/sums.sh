@@ -141,7 +141,9 @@ why() {
     done
     what=$([ "${#names[@]}" = 0 ] || unfit "$1" "${names[@]}" | sed -n '1s/^[^ ]* //p')
     if [ -n "$what" ]; then
-        echo "$what: make dist proves it and makes dist/ anew, PROVE=1 proves it for one build; or put the file back"
+        echo "$what. Put the file back. Without rt, build the last commit that changed dist/$1:" \
+            "git checkout \$(git log -1 --format=%h dist/$1); with rt, make dist makes dist/ anew, and make PROVE=1" \
+            "proves one build"
         return
     fi
     what=$(unfit_written "${@:3}")

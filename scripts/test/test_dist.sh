@@ -155,8 +155,9 @@ ar rc "$folder/c/liblibc_c.a"
 proves() {
     PATH=$folder/rt:$PATH
     for goal in run self-test all; do
-        tells "$read_rt changed since dist/ was made: make dist proves it" make -s "$goal"
+        tells "$read_rt changed since dist/ was made. Put the file back. Without rt, build the last" make -s "$goal"
     done
+    tells 'make PROVE=1 proves one build.' make -s run
     make -s run PROVE=1 2>"$folder/err" </dev/null | grep -qx proved
     echo 'test_dist: what changed is proved where PROVE=1 asks for it, and nowhere else: ok'
 }
