@@ -6,6 +6,9 @@
 //! are kept. [`Fields`] goes over any list of attributes by the rows of a place, those of ports and of address families
 //! too. [`typed`](crate::typed) has the same data as enums.
 //!
+//! If a list repeats its kind or its data, [`Info::of`] takes the first of each. The kernel,
+//! [`LinkInfos`](crate::typed::LinkInfos) and [`view`](crate::view) take the last.
+//!
 //! The messages below are of Linux 6.12: what it dumped, of which the header, the name and `IFLA_LINKINFO` are shown,
 //! and what `ip` sent to it.
 //!

@@ -3,6 +3,7 @@
 use linkwire::info::{Info, KINDS, Place, Row, SLAVE_KINDS, Style, rewrite};
 use linkwire::link::*;
 use linkwire::typed::{self, LinkInfos, Typed, emit, parse};
+use linkwire::view::{self, InfoDataView, InfoPortDataView, LinkView, LinkXstatsView, info_bridge_port, info_vlan};
 use linkwire::{DefaultNla, Nla};
 use std::fmt::Debug;
 
@@ -180,6 +181,56 @@ fn lists_of_link_info() {
         other => panic!("24 bytes are six counters: {other:?}"),
     };
     assert_eq!((stats.bus_error, LinkInfo::from(LinkXstats::Can(stats))), (0x1010101, can[1].clone()));
+}
+
+/// Each attribute twice: the last one counts, in a list and in a view.
+#[test]
+fn repeated_link_info() {
+    let vlan = |id| InfoData::Vlan(vec![InfoVlan::Id(id)]);
+    let port = |state| InfoPortData::BridgePort(vec![InfoBridgePort::State(state)]);
+    let list = vec![
+        LinkInfo::from(InfoKind::Bridge),
+        LinkInfo::from(vlan(7)),
+        LinkInfo::from(LinkXstats::Other(vec![1])),
+        LinkInfo::from(InfoPortKind::Bond),
+        LinkInfo::from(port(BridgePortState::Disabled)),
+        LinkInfo::from(vlan(100)),
+        LinkInfo::from(InfoKind::Vlan),
+        LinkInfo::from(LinkXstats::Other(vec![2])),
+        LinkInfo::from(port(BridgePortState::Forwarding)),
+        LinkInfo::from(InfoPortKind::Bridge),
+    ];
+    assert_eq!((list.info_kind(), list.info_data()), (Some(InfoKind::Vlan), Some(Ok(vlan(100)))));
+    assert_eq!(list.port_kind(), Some(InfoPortKind::Bridge));
+    assert_eq!(list.port_data(), Some(Ok(port(BridgePortState::Forwarding))));
+    assert_eq!(list.xstats(), Some(LinkXstats::Other(vec![2])));
+    let mut message = LinkMessage::default();
+    message.attributes.push(LinkAttribute::LinkInfo(list));
+    let bytes = message.to_vec().unwrap();
+    let info = LinkView::new(&bytes).unwrap().get(view::LinkInfo).unwrap().unwrap();
+    assert_eq!((info.kind(), info.port_kind()), (Ok(Some("vlan")), Ok(Some("bridge"))));
+    assert_eq!(info.xstats(), Ok(Some(LinkXstatsView::Other(&[2]))));
+    match (info.data(), info.port_data()) {
+        (Ok(Some(InfoDataView::Vlan(data))), Ok(Some(InfoPortDataView::BridgePort(port)))) => {
+            assert_eq!(data.get(info_vlan::Id), Ok(Some(100)));
+            assert_eq!(port.get(info_bridge_port::State), Ok(Some(BridgePortState::Forwarding)));
+        }
+        other => panic!("{other:?}"),
+    }
+}
+
+/// A message whose data of a kind end within an attribute: `parse` accepts it, and what reads the data does not.
+#[test]
+fn damaged_data() {
+    let mut message = LinkMessage::default();
+    let data = LinkInfo::Other(DefaultNla::new(2, vec![8, 0, 1]));
+    let list = vec![LinkInfo::from(InfoKind::Vlan), data];
+    assert!(matches!(list.info_data(), Some(Err(_))));
+    message.attributes.push(LinkAttribute::LinkInfo(list));
+    let bytes = message.to_vec().unwrap();
+    assert_eq!(LinkMessage::parse(&bytes), Ok(message));
+    let info = LinkView::new(&bytes).unwrap().get(view::LinkInfo).unwrap().unwrap();
+    assert!(info.data().is_err());
 }
 
 #[test]

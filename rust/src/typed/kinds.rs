@@ -309,7 +309,8 @@ impl LinkXstats {
     }
 }
 
-/// What a list of [`LinkInfo`] says, as types.
+/// What a list of [`LinkInfo`] says, as types. If an attribute is repeated, the last one counts, as for the kernel and
+/// for [`view`](crate::view).
 ///
 /// ```
 /// use linkwire::typed::{BridgePortState, InfoBridgePort, InfoData, InfoKind, InfoPortData, InfoPortKind, InfoVlan};
@@ -327,35 +328,37 @@ impl LinkXstats {
 /// assert_eq!(list.xstats(), None);
 /// ```
 pub trait LinkInfos {
-    /// The kind of interface: the first `IFLA_INFO_KIND`.
+    /// The kind of interface: the last `IFLA_INFO_KIND`.
     ///
     /// [The trait](LinkInfos) has an example.
     fn info_kind(&self) -> Option<InfoKind>;
 
-    /// The data of that kind: the first `IFLA_INFO_DATA`.
+    /// The data of that kind: the last `IFLA_INFO_DATA`; `Some(Err(..))` if it is no list of whole attributes.
+    ///
+    /// [`LinkMessage::parse`](crate::LinkMessage::parse) does not look into the data of a kind, and accepts such data.
     ///
     /// [The trait](LinkInfos) has an example.
     fn info_data(&self) -> Option<Result<InfoData, DecodeError>>;
 
-    /// The kind of port: the first `IFLA_INFO_SLAVE_KIND`.
+    /// The kind of port: the last `IFLA_INFO_SLAVE_KIND`.
     ///
     /// [The trait](LinkInfos) has an example.
     fn port_kind(&self) -> Option<InfoPortKind>;
 
-    /// The data of that kind: the first `IFLA_INFO_SLAVE_DATA`.
+    /// The data of that kind: the last `IFLA_INFO_SLAVE_DATA`; `Some(Err(..))` if it is no list of whole attributes.
     ///
     /// [The trait](LinkInfos) has an example.
     fn port_data(&self) -> Option<Result<InfoPortData, DecodeError>>;
 
-    /// The counters of the kind of interface: the first `IFLA_INFO_XSTATS`.
+    /// The counters of the kind of interface: the last `IFLA_INFO_XSTATS`.
     ///
     /// [The trait](LinkInfos) has an example.
     fn xstats(&self) -> Option<LinkXstats>;
 }
 
-/// The payload of the first attribute of this number.
+/// The payload of the last attribute of this number.
 fn payload(list: &[LinkInfo], number: u16) -> Option<&[u8]> {
-    list.iter().find_map(|it| match it {
+    list.iter().rev().find_map(|it| match it {
         LinkInfo::Other(frame) if Nla::kind(frame) & NLA_TYPE_MASK == number => Some(frame.value()),
         _ => None,
     })
@@ -363,7 +366,10 @@ fn payload(list: &[LinkInfo], number: u16) -> Option<&[u8]> {
 
 impl LinkInfos for [LinkInfo] {
     fn info_kind(&self) -> Option<InfoKind> {
-        link_info_kind(self).map(InfoKind::from)
+        self.iter().rev().find_map(|it| match it {
+            LinkInfo::Kind(kind) => Some(InfoKind::from(kind.as_str())),
+            _ => None,
+        })
     }
 
     fn info_data(&self) -> Option<Result<InfoData, DecodeError>> {
@@ -384,10 +390,6 @@ impl LinkInfos for [LinkInfo] {
     fn xstats(&self) -> Option<LinkXstats> {
         Some(LinkXstats::parse(&self.info_kind()?, payload(self, INFO_XSTATS)?))
     }
-}
-
-fn link_info_kind(list: &[LinkInfo]) -> Option<&str> {
-    crate::link_info::info::kind_of(list)
 }
 
 impl Info {
