@@ -5,9 +5,9 @@
 # tests/c, whose bytes are lowest first, is left out: processors.sh [LINES [PROCESSOR..]].
 #
 # It takes Debian's packages qemu-user-static, gcc-TRIPLET and libstd-rust-dev of the processor, or a rustc whose target
-# is there; a processor that lacks one is said to be skipped. What this machine runs itself, as i386 on x86-64, is run
-# without qemu. SYSROOTS is the folder that has the folders of the triplets, by default /usr. The last line says how
-# many processors were tested.
+# is there. A processor that lacks one is skipped, and a line names the packages. What this machine runs itself, as i386
+# on x86-64, is run without qemu. SYSROOTS is the folder that has the folders of the triplets, by default /usr. The last
+# line says how many processors were tested. LINES is 20000 by default. --help shows this text and the processors.
 self=processors
 . "$(dirname "$0")/../common.sh"
 count=${1:-20000}
@@ -26,6 +26,16 @@ ppc64el powerpc64le-unknown-linux-gnu powerpc64le-linux-gnu ppc64le
 s390x s390x-unknown-linux-gnu s390x-linux-gnu s390x
 mips64el mips64el-unknown-linux-gnuabi64 mips64el-linux-gnuabi64 mips64el
 riscv64 riscv64gc-unknown-linux-gnu riscv64-linux-gnu riscv64'
+known=$(cut -d ' ' -f 1 <<<"$rows" | paste -sd ' ')
+if [[ $count = -h || $count = --help ]]; then
+    sed -n '2,/^self=/s/^# \{0,1\}//p' "$0"
+    echo "Processors: $known"
+    exit
+fi
+[[ $count =~ ^[0-9]+$ ]] || fails "LINES is a number, and not '$count'; see processors.sh --help"
+for it in "${wanted[@]}"; do
+    [[ " $known " = *" $it "* ]] || fails "no processor '$it'; there are: $known"
+done
 
 # rust_of TARGET: a rustc that has the library of this target
 rust_of() {
@@ -102,17 +112,19 @@ tests_c() {
 
 # tests NAME TARGET TRIPLET QEMU: one processor
 tests() {
-    local name=$1 target=$2 triplet=$3 qemu rustc variable loader runner is_turned=''
+    local name=$1 target=$2 triplet=$3 qemu rustc variable loader runner is_turned='' missing=''
     qemu=$(command -v "qemu-$4" || command -v "qemu-$4-static" || true)
     rustc=$(rust_of "$target")
-    [ -n "$qemu" ] || { lacks "$name: no qemu-$4" && return; }
-    has "$name" "$triplet-gcc" || return 0
-    [ -n "$rustc" ] || { lacks "$name: no library of $target for rustc" && return; }
     runner=("$qemu" -L "$sysroots/$triplet")
     loader=$sysroots/$triplet/lib/ld-linux.so.2
     if "$loader" --version >/dev/null 2>&1; then
         runner=("$loader" --library-path "$sysroots/$triplet/lib")
+    elif [ -z "$qemu" ]; then
+        missing+=", no qemu-$4 (qemu-user-static)"
     fi
+    command -v "$triplet-gcc" >/dev/null || missing+=", no $triplet-gcc (gcc-$triplet)"
+    [ -n "$rustc" ] || missing+=", no std of $target (libstd-rust-dev:$name, or rustup target add $target)"
+    [ -z "$missing" ] || { lacks "$name:${missing#,}" && return; }
     variable=CARGO_TARGET_$(tr a-z- A-Z_ <<<"$target")
     export "${variable}_LINKER=$triplet-gcc" "${variable}_RUNNER=${runner[*]}"
     PATH=$(dirname "$rustc"):$PATH
