@@ -5,10 +5,14 @@
 //! written has one **canonical encoding**, to which every other spelling of it is brought. Names and types are those of
 //! netlink-packet-route 0.34.0, module `link`: the page [`moving`] has what is here, and what otherwise.
 //!
-//! The crate has no dependency and no `unsafe`; without the feature `std` it needs `alloc` alone. A script makes most
-//! of it of sources that are proved for 64-bit little-endian machines. It is itself tested equal to the proved
-//! programs, and not proved: rustc, the script and what stands for Rattle's std are outside of the proof. It also runs
-//! on 32-bit and on big-endian machines; for those there are tests alone: the page [`moving`] lists them.
+//! The crate has no dependency and no `unsafe`; without the feature `std` it needs `alloc` alone. It also runs on
+//! 32-bit and on big-endian machines: the page [`moving`] lists those that it was tested on.
+//!
+//! **Nothing in this crate is proved.** Most of it comes from sources in Rattle, which is Rust with contracts that a
+//! prover checks. There they are proved for 64-bit little-endian machines. A script erases the contracts and so makes
+//! this crate. Tests compare its answers with those of the proved programs. The proof does not cover rustc, the script,
+//! what stands for Rattle's std, and what is written by hand: [`request`], the types of [`typed`], [`Writer`],
+//! [`attributes()`], [`route_link!`], the traits of netlink-packet-core, and parts of [`info`] and of [`view`].
 //!
 //! # Three programs
 //!
@@ -97,14 +101,16 @@
 //! # Ok::<(), request::RequestError>(())
 //! ```
 //!
-//! [`request`] has what managers send: with type, flags and message. [`route_link!`] makes an enum of messages for
-//! netlink-packet-core, by which netlink-sys and netlink-proto send and receive them.
+//! [`request`] has what managers send: with type, flags and message. It changes interfaces by `RTM_NEWLINK`, as `ip`
+//! does; [`Request::new`](request::Request::new) takes any type, such as `RTM_SETLINK`. [`route_link!`] makes an enum
+//! of messages for netlink-packet-core, by which netlink-sys and netlink-proto send and receive them.
 //!
 //! # A key to store
 //!
-//! Two messages are equal exactly where their canonical encodings are. Keep [`CANONICAL_FORM`] beside what is stored:
-//! encodings of two numbers are not to be compared. Nor are those of machines with different byte orders, since numbers
-//! stand in host order, as the kernel has them: [`BYTE_ORDER`] names it.
+//! Two messages are equal if and only if their canonical encodings are. The order of attributes counts: the same
+//! attributes in another order are another message. Keep [`CANONICAL_FORM`] beside what is stored, and compare only
+//! encodings of one such number. Do not compare encodings of machines with different byte orders either, because
+//! numbers are in host order, as the kernel has them: [`BYTE_ORDER`] names it.
 //!
 //! ```
 //! use linkwire::{canonical, same_message, CANONICAL_FORM};

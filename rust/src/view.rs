@@ -1,9 +1,11 @@
 //! Typed views of a message over borrowed bytes: no memory is taken, and only what is asked for is read.
 //!
-//! [`LinkView::new`] checks the whole message, as [`LinkMessage::parse`](crate::LinkMessage::parse) does, and
-//! [`LinkView::peek`] its header alone. A **key** is a type that stands for a variant of [`LinkAttribute`] and has its
-//! name: of the last attribute of its number [`get`](LinkView::get) reads the value that `parse` gives under that
-//! variant, over borrowed bytes. [`iter`](LinkView::iter) reads all, front to back.
+//! [`LinkView::new`] checks the message and its inner lists, as [`LinkMessage::parse`](crate::LinkMessage::parse) does,
+//! and [`LinkView::peek`] its header alone. Neither checks the data of a kind: `data()` and `port_data()` do.
+//!
+//! A **key** is a type that stands for a variant of [`LinkAttribute`] and has its name: of the last attribute of its
+//! number [`get`](LinkView::get) reads the value that `parse` gives under that variant, over borrowed bytes.
+//! [`iter`](LinkView::iter) reads all, front to back.
 //!
 //! ```
 //! use linkwire::view::{AttributeView, IfName, LinkView, Mtu, OperState};
@@ -91,11 +93,12 @@
 //!
 //! # What is proved
 //!
-//! Keys and `iter` call proved code: the check of the message, the search for the last attribute of a number, or of
-//! each of several in one pass, and the reading of its value. By contract that value is the variant and the value that
-//! `parse` gives, in a message and in each list inside. Written by hand are the choice of the variant that a key names,
-//! the entries of the lists of virtual functions and ports, and the data of kinds. Tests compare all of it with what
-//! `parse` gives, on every stored message.
+//! In the sources that this crate is made from these parts are proved: the check of the message, the search for the
+//! last attribute of a number, or of each of several in one pass, and the reading of its value. Keys and `iter` call
+//! them. By contract that value is the variant and the value that `parse` gives, in a message and in each list inside.
+//! Written by hand are the choice of the variant that a key names, the entries of the lists of virtual functions and
+//! ports, and the data of kinds. This crate is tested to give the same answers; it is not proved itself. The tests
+//! compare all of it with what `parse` gives, on every stored message.
 
 #[macro_use]
 mod macros;
@@ -181,7 +184,8 @@ pub trait Key<'a> {
     ///
     /// # Errors
     ///
-    /// The fault of the payload, as `LinkMessage::parse` has it; there is none after [`LinkView::new`].
+    /// The fault of the payload, as `LinkMessage::parse` has it. There is none after [`LinkView::new`], and none in the
+    /// data of a kind, which `data()` and `port_data()` check.
     ///
     /// [`Key`] has an example.
     fn read(attribute: Attribute<'a>, family: AddressFamily) -> Result<Option<Self::Value>, DecodeError>;
