@@ -44,7 +44,8 @@ def std_path(s, i, root, is_crate):
     if is_group and not ours.issuperset(s.words(part, s.match[part])[1:-1:2]):
         s.fail(i, "a group of parts of std: write one `use` for each")
     is_method = s.text[part] == "str" and s.is_path(part)
-    if s.at(part, "process", ":", ":", "Abort") or is_group or (s.text[part] in ours and not is_method):
+    is_item = s.at(part, "process", ":", ":", "Abort") or s.at(part, "fmt", ":", ":", "InlineText")
+    if is_item or is_group or (s.text[part] in ours and not is_method):
         s.new[i] = f"{root}::rattle"
     elif is_crate:
         if s.text[part] not in IN_CORE:

@@ -6,7 +6,7 @@ use crate::shown::address::{DOTTED, address_text, put_address, put_hex, put_ipv4
 use crate::shown::marks::Marks;
 use crate::shown::sheet::Sheet;
 use crate::rattle::alloc::{AllocError, Global};
-use std::fmt::InlineText;
+use crate::rattle::fmt::InlineText;
 use std::net::{Ipv4Addr, Ipv6Addr};
 
 /// How many bytes a page has room for at first: those of most messages.

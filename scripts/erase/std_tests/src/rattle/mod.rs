@@ -5,6 +5,7 @@ pub mod bitflags;
 pub mod boxed;
 pub mod collections;
 pub mod env;
+pub mod fmt;
 pub mod fs;
 pub mod hex;
 pub mod itoa;
