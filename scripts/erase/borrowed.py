@@ -7,6 +7,7 @@ for are made of one row, and the proof refuses a row that does not fit the table
 
 `erase.py check` says whether what stands there is what this would make, but for its layout.
 """
+import functools
 import os
 import re
 import textwrap
@@ -14,8 +15,6 @@ import textwrap
 import keys
 
 VIEW = os.path.join(keys.CRATES, "link_view")
-TABLES = {crate: keys.read(os.path.join(keys.CRATES, crate, "specs", "Tables.antt"))
-          for crate in ["link_msg", *keys.INNER]}
 SAID = "made by scripts/erase/borrowed.py of the rows of"
 # How the value of an attribute is read that is no list: what the arm does with its payload.
 READ = {"Bytes": "Ok({variant}(payload))", "DefaultNla": "Ok({variant}(frame))",
@@ -34,6 +33,12 @@ HELD = {"Bytes": "&'a [u8]", "Text": "&'a str", "WirelessEvent": "WirelessEventV
         "DefaultNla": "NlaBuffer<'a>"}
 # And what it stands for.
 STANDS = {"Bytes": "v.now", "Text": "v.now", "WirelessEvent": "(owned_event v)", "List<LinkExtentMask>": "(ext_list v)"}
+
+
+@functools.lru_cache(maxsize=None)
+def table_of(crate):
+    """The lines of a crate's tables."""
+    return keys.read(os.path.join(keys.CRATES, crate, "specs", "Tables.antt"))
 
 
 def is_list(held):
@@ -190,7 +195,7 @@ OTHER = ("", "Other", "DefaultNla")
 def readers():
     """By variant the reader of its list, as the table names it."""
     for line, name, variant in re.findall(r"^    (?:& )?(line|line_where|written) .*?(\w+) Attributes\.(\w+)",
-                                          TABLES["link_msg"], re.M):
+                                          table_of("link_msg"), re.M):
         yield variant, f"{name}.grammar.reads" if line == "written" else f"{name}.codec.grammar.reads"
 
 
@@ -329,7 +334,7 @@ def inner(crate):
 
 
 def place_of(crate, enum):
-    return re.search(rf"^unfoldable pub (\w+) : Place {enum}$", TABLES[crate], re.M)[1]
+    return re.search(rf"^unfoldable pub (\w+) : Place {enum}$", table_of(crate), re.M)[1]
 
 
 def module_of(crate):
@@ -398,7 +403,7 @@ def member_specs(crate):
                 reader = f"(not_empty (list {place}.grammar)).reads" if some else f"(list {place}.grammar).reads"
             lines.append(stands(enum, f"owned_{keys.snake(enum)}", f"Borrowed{enum}Of", f"{enum}Of", row, reader))
         made += STANDS_FOR.format(snake=keys.snake(enum), enum=enum, lines="\n".join(lines))
-    places = names_in(made, re.findall(r"^unfoldable pub (\w+) : Place", TABLES[crate], re.M))
+    places = names_in(made, re.findall(r"^unfoldable pub (\w+) : Place", table_of(crate), re.M))
     heads = ["use Rattle.std.specs.Prelude.{Result, Ok}", "use Rattle.nla_wire.specs.declared.error.Cause.{Cause}"]
     heads += ["use Rattle.nla_wire.specs.Reading.{◌>>=◌}"] * (">>=" in made)
     lists = ", ".join(names_in(made, ["list", "not_empty"]))
