@@ -14,7 +14,7 @@ NUMBERS, HEADER, PYTHON = "crates/link_msg/src/numbers.rt", "include/linkwire.h"
 
 
 def listed(name):
-    """The names of a table of names.rt, in the order of their numbers or bits."""
+    """The names of a table of tables.rt, in the order of their numbers or bits."""
     rows = dict(tables(read(f"crates/{NAMES}")))[name]
     assert all(len(row) == 1 or int(row[0], 0) == 1 << at for at, row in enumerate(rows)), name
     return [row[-1] for row in rows]

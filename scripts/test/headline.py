@@ -58,7 +58,8 @@ class Module:
             if alias:
                 self.others[alias] = path
             for it in filter(None, re.split(r",\s*", listed)):
-                self.names[it] = path, it
+                there, _, here = it.partition(" as ")
+                self.names[here or there] = path, there
         current = None
         for line in text.splitlines():
             found = not line.startswith(("use ", "--", "infix", " ")) and ITEM.match(line)

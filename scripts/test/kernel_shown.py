@@ -1,4 +1,4 @@
-"""The tables of names.rt, in which a name and a form that linkshow shows stand once, beside the specs, for
+"""The tables of frame_shown, in which a name and a form that linkshow shows stand once, beside the specs, for
 kernel_tables.py: number, name and form of each attribute, names of flags and values, fields of records. A number that
 no spec has is kept, and its name stands beside the kernel's headers."""
 
@@ -7,19 +7,37 @@ import re
 
 from kernel_names import OWN_FIELDS, PLACES, REASONS, ROWS
 
-NAMES = "message_shown/src/names.rt"
+NAMES = "frame_shown/src/tables.rt"
+SIZES = {"Size::One": "u8", "Size::Two": "u16", "Size::Four": "u32", "Size::Eight": "u64"}
 # forms, by the types of rt_link.yaml or of values; what has none of these has code of its own
-FORMS = {"U8": "u8", "U16": "u16", "U32": "u32", "U64": "u64", "I32": "s32", "Text": "string", "Address": "binary",
-         "OperState": "State", "LinkMode": "LinkMode", "Event": "LinkEvent", "Attached": "XdpAttached",
-         "Binding": "MctpPhysBinding"}
+FORMS = {"Form::%s(%s)" % (form, size): word for form in ("Number", "Exact") for size, word in SIZES.items()}
+FORMS |= {"Form::Truth": "u8", "Form::Signed": "s32", "Form::Text": "string", "Form::Address": "binary",
+          "Form::Ipv6": "binary"}
+CHOICES = {"OperState": "State", "LinkMode": "LinkMode", "GenMode": "In6AddrGenMode", "Attached": "XdpAttached",
+           "Event": "LinkEvent", "Binding": "MctpPhysBinding"}
+FORMS |= {"Form::Choice(Choice::%s)" % choice: word for choice, word in CHOICES.items()}
+# what stands in a record
+FIELDS = {"Field::Number(%s)" % size: word for size, word in SIZES.items()}
+FIELDS |= {"Field::Setting": "u32", "Field::LinkState": "u32", "Field::Protocol": "be16", "Field::Address": "32 bytes"}
+
+
+def parts(text):
+    """What stands between the commas of a list, with all that is in brackets in one part."""
+    found, depth = [""], 0
+    for letter in text:
+        depth += (letter == "(") - (letter == ")")
+        if letter == "," and not depth:
+            found.append("")
+        else:
+            found[-1] += letter
+    return [it for it in found if it]
 
 
 def tables(code):
     """The rows of each constant: words, numbers as such."""
     for name, body in re.findall(r"pub const (\w+): \[[^;]*; \d+\] =\s*\[(.*?)\];", code, re.S):
-        rows = re.findall(r'\(([^()]*)\)|("[^"]*")', body)
-        rows = [[it.strip().strip('"').removeprefix("Form::") for it in (row or word).split(",")] for row, word in rows]
-        yield name, rows
+        rows = parts(re.sub(r"\s|,(?=\s*\))", "", body))
+        yield name, [[it.strip('"') for it in parts(row[1:-1] if row[0] == "(" else row)] or [""] for row in rows]
 
 
 def kernel_name(where):
@@ -38,14 +56,13 @@ def form_of(payload):
 
 
 def compare_places(kind, rows, ours, headers, report):
-    """Rows of a place as number or constant, name and form; of the outermost place as name and form."""
-    crate, lines = ours.tables[kind]
+    """Rows of a place as number, name and form; of the outermost place as name and form."""
+    _, lines = ours.tables[kind]
     prefix, by_number = PLACES[kind].prefix, {}
     for line in lines:
         by_number.setdefault(line.number, []).append(line)
     kept = headers.group(prefix, None, [line.constant for line in lines]) if headers else {}
-    numbers = [ours.constants.get((crate, row[0])) if row[0][:1].isalpha() else int(row[0]) for row in rows] \
-        if len(rows[0]) == 3 else range(len(rows))
+    numbers = [int(row[0]) for row in rows] if len(rows[0]) == 3 else range(len(rows))
     for number, (name, form) in zip(numbers, (row[-2:] for row in rows)):
         found, where = by_number.get(number, []), "%s.%s" % (kind, name)
         there = [it.constant for it in found[:1]] or [it for it, n in kept.items() if n == number] or [prefix + name]
@@ -54,29 +71,45 @@ def compare_places(kind, rows, ours, headers, report):
             report.compare("names shown", where, ("name", name, there[0].removeprefix(prefix)),
                            ("form", FORMS.get(form, "own"), wanted))
     shown = {number for number, (name, *_) in zip(numbers, (row[-2:] for row in rows)) if name}
-    if shown & by_number.keys():  # else it has what is kept alone
-        for number in by_number.keys() - shown:
-            report.compare("names shown", "%s.%s" % (kind, by_number[number][0].constant), ("row", "none", number))
+    for number in by_number.keys() - shown:
+        report.compare("names shown", "%s.%s" % (kind, by_number[number][0].constant), ("row", "none", number))
+
+
+def compare_parts(kind, rows, ours, report):
+    """Fields of a record as name, place and what stands there."""
+    fields = ours.records[kind][0]
+    for (name, place, field), there in zip(rows, fields):
+        report.compare("names shown", "%s.%s" % (kind, name),
+                       ("name", name, kernel_name("%s.%s" % (kind, there.name))),
+                       ("place", int(place), there.offset), ("form", FIELDS[field], there.type))
+    report.compare("names shown", kind, ("fields", len(rows), len(fields)))
+
+
+def compare_names(kind, rows, ours, report):
+    """Names by their numbers or bits, or those of fields, in their order."""
+    if kind in ours.records:
+        fields = ["%s.%s" % (kind, it.name) for it in ours.records[kind][0]]
+        theirs = dict(enumerate(kernel_name(it) for it in fields if it not in OWN_FIELDS))
+    else:
+        theirs = {n: kernel_name("%s.%s" % (kind, it)) for it, n in ours.values[kind].items()}
+    here = {int(row[0], 0): row[1] for row in rows} if len(rows[0]) == 2 else \
+        {n: name for n, (name, *_) in enumerate(rows) if name}
+    for n in here.keys() | {n for n in theirs if len(rows[0]) == 2 or n < len(rows)}:
+        name = here.get(n, "none")
+        report.compare("names shown", "%s.%s" % (kind, name), ("name", name, theirs.get(n, "none")))
 
 
 def compare_shown(ours, headers, report):
     """All of it."""
     known = dict(ROWS["shown"])
     found = dict(tables(ours.code(NAMES)))
-    del found["KERNEL_NAMES"]   # those of ATTRIBUTES in another spelling, as the proof says
-    report.same_names("table of names.rt", found, known)
+    del found["KERNEL_NAMES"]   # those of MESSAGE in another spelling, as the proof says
+    report.same_names("table of tables.rt", found, known)
     for table, kind in ((it, known[it]) for it in found if it in known):
         rows = found[table]
         if kind in ours.tables:
             compare_places(kind, rows, ours, headers, report)
-            continue
-        if kind in ours.records:
-            fields = ["%s.%s" % (kind, it.name) for it in ours.records[kind][0]]
-            theirs = dict(enumerate(kernel_name(it) for it in fields if it not in OWN_FIELDS))
+        elif rows[0][-1] in FIELDS:
+            compare_parts(kind, rows, ours, report)
         else:
-            theirs = {n: kernel_name("%s.%s" % (kind, it)) for it, n in ours.values[kind].items()}
-        here = {int(row[0], 0): row[1] for row in rows} if len(rows[0]) == 2 else \
-            {n: name for n, (name,) in enumerate(rows) if name}
-        for n in here.keys() | {n for n in theirs if len(rows[0]) == 2 or n < len(rows)}:
-            name = here.get(n, "none")
-            report.compare("names shown", "%s.%s" % (kind, name), ("name", name, theirs.get(n, "none")))
+            compare_names(kind, rows, ours, report)

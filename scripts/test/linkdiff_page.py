@@ -21,13 +21,15 @@ from headline import Module, show, size, walk
 from shared import attribute, read
 
 PAGE = "docs/LINKDIFF.md"
-SPECS = "message_diff.specs."
-STARTS = ("Watched", "Watches"), ("Files", "Compares"), ("Differences", "diffs"), ("Differences", "less")
+LINES, FRAMES = "message_diff.specs.", "frame_diff.specs."
+STARTS = (LINES + "Watched", "Watches"), (LINES + "Files", "Compares"), (LINES + "Changed", "told_changes"), \
+    (FRAMES + "Differences", "changes"), (FRAMES + "Forests", "leaves"), (FRAMES + "Counters", "is_passed")
 # what the page says in words
-SAID = {("Changed", "IsChanged"), ("Alone", "IsAlone"), ("Alone", "member_line"), ("Faults", "IsFault"),
-        ("Faults", "fault_line"), ("Compared", "HasTextBy"), ("Compared", "IsRefusalAloneBy"),
-        ("Announced", "kind_in"), ("Announced", "without_event"), ("Announced", "is_wireless_alone"),
-        ("Said", "family_in")}
+SAID = {(LINES + file, name) for file, name in (
+    ("Changed", "IsChanged"), ("Alone", "IsAlone"), ("Alone", "member_line"), ("Faults", "IsFault"),
+    ("Faults", "fault_line"), ("Compared", "HasTextBy"), ("Compared", "IsRefusalAloneBy"),
+    ("Announced", "kind_in"), ("Announced", "without_event"), ("Announced", "is_wireless_alone"),
+    ("Said", "family_in"))} | {(FRAMES + "Differences", "both_told"), (FRAMES + "Members", "message_forest")}
 QUOTED = re.compile(r"^```antt\n([\s\S]*?)^```$", re.M)
 STREAM = re.compile(r"^```stream\n([\s\S]*?)^```$", re.M)
 LINK = re.compile(r"link\((?:(\d+):)?(\d+)((?: [^()]*)?)\)")
@@ -46,19 +48,17 @@ def fails(what):
 
 # ** definitions
 
-def of_message_diff():
-    """What one reads of message_diff from the contracts on."""
-    def is_left_out(module, name):
-        return not module.startswith(SPECS) or (module.removeprefix(SPECS), name) in SAID
-    return walk([(SPECS + file, name) for file, name in STARTS], is_left_out)
+def of_linkdiff():
+    """What one reads of message_diff and frame_diff from the contracts on."""
+    return walk(STARTS, lambda module, name: not module.startswith((LINES, FRAMES)) or (module, name) in SAID)
 
 
 def count(found, page):
     """Holds the sentences of the page that count something to what is found, and returns them."""
-    files = {module.removeprefix(SPECS) for module, _ in found}
+    files = {module for module, _ in found}
     said = f"{size(found)} in {len(files)} files", f"quotes {quotes(page, found)} of them as they stand"
     plain = " ".join(page.split())
-    for it in [*said, *(f"`{file}.antt`" for file in sorted(files))]:
+    for it in [*said, *(f"`{file.split('.')[-1]}.antt`" for file in sorted(files))]:
         if it not in plain:
             fails(f"it does not say '{it}'")
     return "; ".join(said)
@@ -167,11 +167,11 @@ def streams(linkdiff, page):
 
 def main(linkdiff="out/linkdiff"):
     page = read(PAGE)
-    print(f"linkdiff page: {count(of_message_diff(), page)}")
+    print(f"linkdiff page: {count(of_linkdiff(), page)}")
     held = streams(os.path.abspath(linkdiff), page)
     print(f"linkdiff page: {held} lines of {len(STREAM.findall(page))} streams")
     print("linkdiff page: ok")
 
 
 if __name__ == "__main__":
-    show(of_message_diff()) if sys.argv[1:] == ["--list"] else main(*sys.argv[1:])
+    show(of_linkdiff()) if sys.argv[1:] == ["--list"] else main(*sys.argv[1:])

@@ -1,5 +1,5 @@
 #!/usr/bin/env python3
-"""Compares what linkshow says of lines, by their frames, with what is shown of them by their values.
+"""Compares what linkshow says of lines with what is shown of them where their values are read and written again.
 
     python3 scripts/test/show_beside.py BESIDE LINKSHOW [ROUNDS [FILE..]]
 

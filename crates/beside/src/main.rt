@@ -1,22 +1,23 @@
-//! Shows lines of hexadecimal link messages as lines of JSON, by their values, as linkdiff compares them: what linkshow
-//! writes of those that are messages, and of others what can be read of them. A word `before` or `since` says which
-//! order the counters of IPv6 have, and a word `lenient` that attributes which are refused do not hide the others.
+//! Shows lines of hexadecimal link messages as lines of JSON, by their values: a line is read, what was read of it is
+//! written again, and the frames of that are shown. It is what linkshow writes of those that are messages, and of
+//! others what can be read of them. A word `before` or `since` says which order the counters of IPv6 have, and a word
+//! `lenient` that attributes which are refused do not hide the others.
 #![tactic(auto)]
 
 ghost use Rattle.std.specs.Prelude.{OnOk};
 ghost use Rattle.beside.specs.Grown.{Grows};
 
+use frame_shown::accepted::{show_before, show_leniently};
+use frame_shown::message::{rest_of, show_message};
 use line_filter::answers::Take;
 use line_filter::digits::{decode, values};
 use line_filter::program::{ended, refuse_all};
 use line_filter::run::read_lines;
 use link_info::{Tables, all_rows};
-use link_msg::{Cause, LinkMessage};
-use message_shown::accepted::parse_accepted;
+use link_msg::header::HEADER_SIZE;
+use link_msg::{CanonError, Cause, LinkMessage};
 use message_shown::context::{Context, Order};
-use message_shown::marked::{show_attributes, show_message};
-use nla_wire::fields::{i32_at, u8_at};
-use shown::{Nest, Page, Room};
+use shown::{Page, Room};
 use std::alloc::{AllocError, Global};
 use std::env::{self, Args};
 use std::process::ExitCode;
@@ -35,15 +36,25 @@ struct Lines {
     alloc: Global,
 }
 
+/// What was read of bytes, written behind their header. What no encoding has is shown as it is spelled.
+fn written(alloc: Global, message: &LinkMessage, bytes: &[u8]) -> Result<Vec<u8>, AllocError> {
+    match message.to_vec(alloc) {
+        Ok(encoding) => {
+            let mut text = bytes[..HEADER_SIZE.min(bytes.len())].to_vec(alloc)?;
+            text.extend_from_slice(rest_of(encoding.as_slice()))?;
+            Ok(text)
+        }
+        Err(CanonError::OutOfMemory) => Err(AllocError),
+        Err(_) => bytes.to_vec(alloc),
+    }
+}
+
 /// Adds what stands in front of a fault: family and index, and the attributes in front of the one that is refused.
-fn show_before(cx: &Context<'_>, page: &mut Page, bytes: &[u8]) -> Result<(), AllocError> {
+fn show_front(cx: &Context<'_>, page: &mut Page, bytes: &[u8]) -> Result<(), AllocError> {
     match LinkMessage::parse_before_fault(cx.alloc, bytes) {
         Ok((message, _)) => {
-            page.number("ifi-family", u8_at(bytes, 0).into())?;
-            page.keyed_signed("ifi-index", i32_at(bytes, 4).into())?;
-            page.begin("before", Nest::Object)?;
-            show_attributes(cx, page, message.attributes.as_slice())?;
-            page.end()
+            let text = written(cx.alloc, &message, bytes)?;
+            show_before(&cx.around, page, cx.alloc, text.as_slice())
         }
         Err(error) => match error.cause {
             Cause::OutOfMemory => Err(AllocError),
@@ -52,20 +63,44 @@ fn show_before(cx: &Context<'_>, page: &mut Page, bytes: &[u8]) -> Result<(), Al
     }
 }
 
-/// Adds what is read of bytes that are no message.
-fn show_refused(
+/// Adds why bytes are no message, and what stands in front of that.
+fn show_fault(cx: &Context<'_>, page: &mut Page, bytes: &[u8]) -> Result<(), AllocError> {
+    page.string("fault", "refused")?;
+    show_front(cx, page, bytes)
+}
+
+/// Adds what is read of bytes that are no message, leniently: the attributes that are accepted.
+fn show_accepted(cx: &Context<'_>, page: &mut Page, bytes: &[u8]) -> Result<(), AllocError> {
+    match LinkMessage::parse_lenient(cx.alloc, bytes) {
+        Ok(message) => {
+            let text = written(cx.alloc, &message, bytes)?;
+            show_leniently(&cx.around, page, cx.alloc, text.as_slice())
+        }
+        Err(error) => match error.cause {
+            Cause::OutOfMemory => Err(AllocError),
+            _ => show_fault(cx, page, bytes),
+        },
+    }
+}
+
+/// Adds what is read of bytes.
+fn show_bytes(
     cx: &Context<'_>,
     page: &mut Page,
     bytes: &[u8],
     is_lenient: bool,
 ) -> Result<(), AllocError> {
-    if is_lenient {
-        if let Some(part) = parse_accepted(cx.alloc, bytes)? {
-            return show_message(cx, page, bytes, &part);
+    match LinkMessage::parse(cx.alloc, bytes) {
+        Ok(message) => {
+            let text = written(cx.alloc, &message, bytes)?;
+            show_message(&cx.around, page, text.as_slice())
         }
+        Err(error) => match error.cause {
+            Cause::OutOfMemory => Err(AllocError),
+            _ if is_lenient => show_accepted(cx, page, bytes),
+            _ => show_fault(cx, page, bytes),
+        },
     }
-    page.string("fault", "refused")?;
-    show_before(cx, page, bytes)
 }
 
 /// Adds what bytes say.
@@ -75,15 +110,7 @@ fn push_bytes(lines: &mut Lines, bytes: &[u8], waiting: &mut Vec<u8>) -> Result<
     let tables = lines.tables;
     let cx = Context::new(lines.alloc, &tables, lines.order);
     let mut page = lines.room.begin()?;
-    match LinkMessage::parse(cx.alloc, bytes) {
-        Ok(message) => show_message(&cx, &mut page, bytes, &message)?,
-        Err(error) => {
-            if let Cause::OutOfMemory = error.cause {
-                return Err(AllocError);
-            }
-            show_refused(&cx, &mut page, bytes, lines.is_lenient)?;
-        }
-    }
+    show_bytes(&cx, &mut page, bytes, lines.is_lenient)?;
     lines.room.finish(page, waiting)?;
     waiting.extend_from_slice(b"\n")
 }

@@ -1,10 +1,11 @@
 //! What differs between messages of which attributes are refused.
 
 use crate::messages::{PORT, bytes_of};
+use crate::told::list_of;
+use frame_shown::form::Order;
 use link_msg::CanonError;
 use link_msg::numbers::{IFLA_CARRIER_CHANGES, IFLA_IFALIAS};
-use message_diff::{Compared, Snapshot, push_compared, push_list, push_new};
-use message_shown::context::Order;
+use message_diff::{Compared, Snapshot, push_compared, push_new};
 use std::alloc::{AllocError, Global};
 
 /// The header of a message, and the name `lo`.
@@ -23,45 +24,19 @@ fn with(alloc: Global, number: u16, payload: &[u8]) -> Result<Vec<u8>, AllocErro
     Ok(made)
 }
 
-/// The list of what differs where an attribute of this number has one payload and then another; nothing where one of
-/// them is refused.
-fn list_of(
-    alloc: Global,
-    by: Compared,
-    number: u16,
-    old: &[u8],
-    new: &[u8],
-) -> Result<Option<Vec<u8>>, AllocError> {
-    let was = with(alloc, number, old)?;
-    let is = with(alloc, number, new)?;
-    let mut list = Vec::new(alloc);
-    match push_list(
-        alloc,
-        by,
-        Order::Since,
-        was.as_slice(),
-        is.as_slice(),
-        &mut list,
-    ) {
-        Ok(_told) => Ok(Some(list)),
-        Err(CanonError::OutOfMemory) => Err(AllocError),
-        Err(_) => Ok(None),
-    }
-}
-
-/// Whether this is that list; none where they are refused.
+/// Whether this is the list that is told where an attribute of this number has one payload and then another; `refused`
+/// where one of them is.
 fn lists(
     alloc: Global,
     by: Compared,
     number: u16,
     payloads: (&[u8], &[u8]),
-    expected: Option<&[u8]>,
-) -> bool {
-    match list_of(alloc, by, number, payloads.0, payloads.1) {
-        Ok(Some(list)) => expected == Some(list.as_slice()),
-        Ok(None) => expected.is_none(),
-        Err(_) => false,
-    }
+    expected: &str,
+) -> Result<bool, AllocError> {
+    let was = with(alloc, number, payloads.0)?;
+    let is = with(alloc, number, payloads.1)?;
+    let list = list_of(alloc, by, was.as_slice(), is.as_slice())?;
+    Ok(list.as_slice() == expected.as_bytes())
 }
 
 /// An alias in Latin-1.
@@ -75,29 +50,27 @@ const ALIAS: &[u8] = b"abc\0";
 
 #[test]
 fn another_alias(rt: HostRuntime) {
-    let list = b"[{\"path\":\"refused.ifla_ifalias\",\"old\":\"c328\",\"new\":\"e9\"}]";
+    let list = r#"[{"path":"refused.ifla_ifalias","old":"c328","new":"e9"}]"#;
     for by in [Compared::LenientState, Compared::LenientMessage] {
-        assert!(rt; lists(rt.alloc(), by, IFLA_IFALIAS, (CUT, LATIN), Some(list)));
+        assert!(rt; lists(rt.alloc(), by, IFLA_IFALIAS, (CUT, LATIN), list) == Ok(true));
     }
 }
 
 #[test]
 fn a_valid_alias(rt: HostRuntime) {
-    let came =
-        b"[{\"path\":\"refused.ifla_ifalias\",\"old\":\"e9\"},{\"path\":\"ifalias\",\"new\":\"abc\"}]";
-    let went =
-        b"[{\"path\":\"ifalias\",\"old\":\"abc\"},{\"path\":\"refused.ifla_ifalias\",\"new\":\"e9\"}]";
+    let came = r#"[{"path":"refused.ifla_ifalias","old":"e9"},{"path":"ifalias","new":"abc"}]"#;
+    let went = r#"[{"path":"ifalias","old":"abc"},{"path":"refused.ifla_ifalias","new":"e9"}]"#;
     let by = Compared::LenientState;
-    assert!(rt; lists(rt.alloc(), by, IFLA_IFALIAS, (LATIN, ALIAS), Some(came)));
-    assert!(rt; lists(rt.alloc(), by, IFLA_IFALIAS, (ALIAS, LATIN), Some(went)));
-    assert!(rt; lists(rt.alloc(), by, IFLA_IFALIAS, (LATIN, LATIN), Some(b"")));
+    assert!(rt; lists(rt.alloc(), by, IFLA_IFALIAS, (LATIN, ALIAS), came) == Ok(true));
+    assert!(rt; lists(rt.alloc(), by, IFLA_IFALIAS, (ALIAS, LATIN), went) == Ok(true));
+    assert!(rt; lists(rt.alloc(), by, IFLA_IFALIAS, (LATIN, LATIN), "") == Ok(true));
 }
 
 #[test]
 fn strictly(rt: HostRuntime) {
     for by in [Compared::State, Compared::Message] {
-        assert!(rt; lists(rt.alloc(), by, IFLA_IFALIAS, (LATIN, ALIAS), None));
-        assert!(rt; lists(rt.alloc(), by, IFLA_IFALIAS, (ALIAS, LATIN), None));
+        assert!(rt; lists(rt.alloc(), by, IFLA_IFALIAS, (LATIN, ALIAS), "refused") == Ok(true));
+        assert!(rt; lists(rt.alloc(), by, IFLA_IFALIAS, (ALIAS, LATIN), "refused") == Ok(true));
     }
 }
 
@@ -106,27 +79,12 @@ const COUNTS: (&[u8], &[u8]) = (&[1, 2, 3, 4, 5], &[9, 9, 9, 9, 9]);
 
 #[test]
 fn a_refused_counter(rt: HostRuntime) {
-    let list =
-        b"[{\"path\":\"refused.ifla_carrier_changes\",\"old\":\"0102030405\",\"new\":\"0909090909\"}]";
+    let list = r#"[{"path":"refused.ifla_carrier_changes","old":"0102030405","new":"0909090909"}]"#;
     let number = IFLA_CARRIER_CHANGES;
-    assert!(rt;
-        lists(
-            rt.alloc(),
-            Compared::LenientState,
-            number,
-            COUNTS,
-            Some(b"")
-        )
-    );
-    assert!(rt;
-        lists(
-            rt.alloc(),
-            Compared::LenientMessage,
-            number,
-            COUNTS,
-            Some(list)
-        )
-    );
+    let state = lists(rt.alloc(), Compared::LenientState, number, COUNTS, "");
+    let message = lists(rt.alloc(), Compared::LenientMessage, number, COUNTS, list);
+    assert!(rt; state == Ok(true));
+    assert!(rt; message == Ok(true));
 }
 
 /// The line of one that came with a refused alias.

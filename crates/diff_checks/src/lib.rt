@@ -2,10 +2,18 @@
 #![tactic(auto)]
 
 #[cfg(test)]
+mod attributes;
+#[cfg(test)]
 mod lenient;
+#[cfg(test)]
+mod lines;
 #[cfg(test)]
 mod messages;
 #[cfg(test)]
-mod parts;
+mod runs;
 #[cfg(test)]
 mod settings;
+#[cfg(test)]
+mod told;
+#[cfg(test)]
+mod turned;

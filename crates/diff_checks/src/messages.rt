@@ -2,6 +2,9 @@
 
 use std::alloc::{AllocError, Global};
 
+/// A header, and the name `e0`.
+pub const FRONT: &str = "000001000700000000000000000000000700030065300000";
+
 /// A port, as Linux dumps it: statistics, settings of IPv4 and IPv6, link data, attributes that are kept.
 pub const PORT: [&str; 23] = [
     "000001004b0000008208000000000000070003007331000008000d00e80300000500100002000000050011000000000005004300",
@@ -57,11 +60,23 @@ pub const BRIDGE: [&str; 8] = [
     "08002500000200000800260000000000080029000000000008002a00000000000c001a000800020006000100",
 ];
 
+/// The bytes that digits spell.
+fn spelled(alloc: Global, digits: &[u8]) -> Vec<u8> {
+    hex::decode(alloc, digits).unwrap_or(Vec::new(alloc))
+}
+
 /// The bytes of a message.
 pub fn bytes_of(alloc: Global, rows: &[&str]) -> Result<Vec<u8>, AllocError> {
     let mut digits = Vec::new(alloc);
     for row in rows {
         digits.extend_from_slice(row.as_bytes())?;
     }
-    Ok(hex::decode(alloc, digits.as_slice()).unwrap_or(Vec::new(alloc)))
+    Ok(spelled(alloc, digits.as_slice()))
+}
+
+/// The bytes of a message that stand behind others.
+pub fn bytes_behind(alloc: Global, front: &str, digits: &str) -> Result<Vec<u8>, AllocError> {
+    let mut bytes = spelled(alloc, front.as_bytes());
+    bytes.extend_from_slice(spelled(alloc, digits.as_bytes()).as_slice())?;
+    Ok(bytes)
 }

@@ -1,11 +1,11 @@
-//! Settings of many functions that turn are all told, whether or not the counters of their states are looked for.
+//! Settings of many functions that turn are all told, of states and of messages.
 
+use crate::told::list_of;
 use link_msg::header::HEADER_SIZE;
-use message_diff::{Compared, Desk, Snapshot, push_changed};
-use message_shown::context::Order;
+use message_diff::Compared;
 use std::alloc::{AllocError, Global};
 
-/// How many functions there are: of so many settings the counters are looked for one by one, and then in order.
+/// How many functions there are.
 const FUNCTIONS: u32 = 32;
 
 /// How long a payload may be.
@@ -55,26 +55,11 @@ fn card(alloc: Global, value: u32) -> Result<Vec<u8>, AllocError> {
     Ok(message)
 }
 
-/// What is told between two messages; nothing where one is refused.
-fn told(alloc: Global, by: Compared, old: &[u8], new: &[u8]) -> Result<Vec<u8>, AllocError> {
-    let mut out = Vec::new(alloc);
-    match (
-        Snapshot::new(alloc, by, Order::Since, old),
-        Snapshot::new(alloc, by, Order::Since, new),
-    ) {
-        (Ok(was), Ok(is)) => {
-            push_changed(alloc, by, b"", &was, &is, &mut Desk::new(alloc), &mut out)?;
-            Ok(out)
-        }
-        _ => Ok(out),
-    }
-}
-
-/// How often a text stands in a line.
-fn count_of(line: &[u8], text: &[u8]) -> usize {
+/// How often a text stands in a list.
+fn count_of(list: &[u8], text: &[u8]) -> usize {
     let mut count = 0usize;
-    let mut rest = line;
-    for _byte in 0..line.len() {
+    let mut rest = list;
+    for _byte in 0..list.len() {
         if rest.starts_with(text) {
             count = count.saturating_add(1);
         }
@@ -86,8 +71,8 @@ fn count_of(line: &[u8], text: &[u8]) -> usize {
 /// Whether three settings of each function are told, and the same where all counts.
 fn are_told(alloc: Global, old: u32, new: u32) -> Result<bool, AllocError> {
     let (was, is) = (card(alloc, old)?, card(alloc, new)?);
-    let states = told(alloc, Compared::State, was.as_slice(), is.as_slice())?;
-    let messages = told(alloc, Compared::Message, was.as_slice(), is.as_slice())?;
+    let states = list_of(alloc, Compared::State, was.as_slice(), is.as_slice())?;
+    let messages = list_of(alloc, Compared::Message, was.as_slice(), is.as_slice())?;
     Ok(
         states.as_slice() == messages.as_slice()
             && count_of(states.as_slice(), b"\"path\":") == FUNCTIONS as usize * 3,

@@ -1,6 +1,5 @@
 -- The members of a message stand apart: no two beside each other have one step.
-use Rattle.std.proofs.Common.{◌≡◌, ℕ, zero, suc, ◌+◌, Bool, true, false, List, [], ◌∷◌, ◌++◌, map, refl, ap, ◌∙◌, drop}
-use Rattle.std.proofs.Common.{length}
+use Rattle.std.proofs.Common.{◌≡◌, ℕ, zero, suc, ◌+◌, Bool, true, false, List, [], ◌∷◌, ◌++◌, map, refl, ap, ◌∙◌}
 use Rattle.std.specs.Prelude.{Option, Some, None, codes, cond, slice_index, ◌==◌}
 use Rattle.std.specs.List.{flat_map}
 use Rattle.json.specs.Token.{Token}
@@ -12,6 +11,7 @@ use Rattle.link_info.specs.Styles.{plain_size}
 use Rattle.link_info.specs.Tables.{frames_in}
 use Rattle.link_state.specs.Table.{Action}
 use Rattle.shown.specs.Drafts.{Members}
+use Rattle.frame_shown.specs.Frames.{levels}
 use Rattle.frame_shown.specs.Kept.{frame_members}
 use Rattle.frame_shown.specs.Messages.{address_len, header_members, with_address_len}
 use Rattle.frame_shown.specs.Tables.{Known, entry_list, is_kept, kind_shown, row_in}
@@ -28,15 +28,16 @@ use Rattle.frame_shown.specs.declared.form.Order.{Order}
 use Rattle.frame_shown.specs.declared.form.Order.TheVariants as Orders
 use Rattle.frame_shown.specs.declared.form.Way.{Way}
 use Rattle.frame_shown.specs.declared.form.Way.TheVariants as Ways
-use Rattle.frame_diff.specs.Counters.{action_in, fields_left, is_passed}
+use Rattle.frame_diff.specs.Counters.{action_in, fields_left, is_clear, is_passed}
 use Rattle.frame_diff.specs.Forests.{AreApart, Forest, Held, Member, Step, comes, find, forest, is_step, left_of}
 use Rattle.frame_diff.specs.Forests.{rest_step}
 use Rattle.frame_diff.specs.Members.{Inner, Reading, alone, as_object, attributes_in, earlier, entries_in, entry_of}
-use Rattle.frame_diff.specs.Members.{fields, fields_kept, form_inside, frame_member, held_by, ipv6_inside, is_nest}
+use Rattle.frame_diff.specs.Members.{fields, fields_kept, form_inside, frame_member, held_by, held_inside}
+use Rattle.frame_diff.specs.Members.{ipv6_inside, is_nest}
 use Rattle.frame_diff.specs.Members.{is_some}
 use Rattle.frame_diff.specs.Members.{kept_by, kept_in, list_at, list_members, meaning_inside, members_in}
 use Rattle.frame_diff.specs.Members.{message_forest, message_members, named, named_by, named_in, placed, placed_one}
-use Rattle.frame_diff.specs.Members.{places, reading, unless_none, way_inside}
+use Rattle.frame_diff.specs.Members.{Parts, places, reading, refused_in, refused_step, unless_none, way_inside}
 
 -- ** those of a list of members
 
@@ -188,19 +189,25 @@ way_apart inner cx action (Ways.By style) p h = meaning_apart inner action (read
 
 -- ** those of attributes
 
-named_by_apart : (r : Reading) (passed : Bool) (action : Action) (row : Known) (f : Frame) → InnerApart r.inner
-    → AllApart (named_by r passed action row f)
-named_by_apart r passed action row f h = by passed (is_kept row.1 f.payload)
+pub held_apart : (inner : Inner) (cx : Around) (action : Action) (way : Way) (p : List ℕ) → InnerApart inner
+    → AreApart (held_inside inner cx action way p)
+held_apart inner cx action way p h = by (is_clear action)
   where
-    by : (b c : Bool)
-        → AllApart (cond b [] (cond c [] ((Step.name row.0, held_by r action row.1 f.payload) ∷ [])))
-    by true c = tt
-    by false true = tt
-    by false false = (way_apart r.inner r.around action row.1 f.payload h, tt)
+    by : (b : Bool) → AreApart (cond b Forest.passed (way_inside inner cx action way p))
+    by true = tt
+    by false = way_apart inner cx action way p h
+
+named_by_apart : (r : Reading) (action : Action) (row : Known) (f : Frame) → InnerApart r.inner
+    → AllApart (named_by r action row f)
+named_by_apart r action row f h = by (is_kept row.1 f.payload)
+  where
+    by : (b : Bool) → AllApart (cond b [] ((Step.name row.0, held_by r action row.1 f.payload) ∷ []))
+    by true = tt
+    by false = (held_apart r.inner r.around action row.1 f.payload h, tt)
 
 named_in_apart : (r : Reading) (list : Shape) (fs : List Frame) → InnerApart r.inner → AllApart (named_in r list fs)
-named_in_apart r list fs h = each_apart (frame_member r list) fs (λ f. named_by_apart r
-    (is_passed r.is_state list (number f)) (action_in r.is_state list (number f)) (row_in r.around list (number f)) f h)
+named_in_apart r list fs h = each_apart (frame_member r list) fs
+    (λ f. named_by_apart r (action_in r.is_state list (number f)) (row_in r.around list (number f)) f h)
 
 alone_apart : (s : Step) (held : Held) → AreApart held.1 → HeldApart (alone (s, held) ∷ [])
 alone_apart (Step.name name) held h = ((refl, h, tt), tt)
@@ -274,6 +281,7 @@ list_members_apart r (Shapes.Message family) fs h = members_apart r (Shapes.Mess
 list_members_apart r (Shapes.Own table) fs h = members_apart r (Shapes.Own table) fs h
 list_members_apart r (Shapes.Of place) fs h = members_apart r (Shapes.Of place) fs h
 list_members_apart r Shapes.ProtoInet6 fs h = members_apart r Shapes.ProtoInet6 fs h
+list_members_apart r Shapes.Refused fs h = members_apart r Shapes.Refused fs h
 list_members_apart r (Shapes.Info link port) fs h = members_apart r (Shapes.Info link port) fs h
 
 reading_apart : (n : ℕ) (is_state : Bool) (cx : Around) → InnerApart (reading n is_state cx).inner
@@ -284,14 +292,22 @@ reading_apart (suc n) is_state cx list p =
 
 -- ** those of a message
 
-pub message_apart : (is_state : Bool) (cx : Around) (bytes : List ℕ) → AreApart (message_forest is_state cx bytes)
+refused_apart : (is_state : Bool) (cx : Around) (bytes : List ℕ) → AllApart (refused_in is_state cx bytes)
+refused_apart is_state cx bytes =
+    unless_apart refused_step (levels 1 cx Shapes.Refused bytes) ((reading 1 is_state cx).inner Shapes.Refused bytes)
+    (reading_apart 1 is_state cx Shapes.Refused bytes)
+
+pub message_apart : (is_state : Bool) (cx : Around) (m : Parts) → AreApart (message_forest is_state cx m)
 unfolding message_members
-message_apart is_state cx bytes =
-    let fs = frames_in (items (drop 16 bytes)) in
+message_apart is_state cx m =
+    let family = slice_index m.header 0 in
+    let fs = frames_in (items m.attributes) in
     let around = with_address_len cx (address_len fs) in
-    forest_apart (named (header_members bytes) ++ attributes_in is_state cx (slice_index bytes 0) (drop 16 bytes))
-    (append_apart (named (header_members bytes))
-    (attributes_in is_state cx (slice_index bytes 0) (drop 16 bytes))
-    (named_apart (header_members bytes))
-    (members_apart (reading 5 is_state around) (Shapes.Message (slice_index bytes 0)) fs
-    (reading_apart 5 is_state around)))
+    let attributes = attributes_in is_state cx family m.attributes in
+    let refused = refused_in is_state cx m.refused in
+    forest_apart (named (header_members m.header) ++ attributes ++ refused)
+    (append_apart (named (header_members m.header)) (attributes ++ refused)
+    (named_apart (header_members m.header))
+    (append_apart attributes refused
+    (members_apart (reading 5 is_state around) (Shapes.Message family) fs (reading_apart 5 is_state around))
+    (refused_apart is_state cx m.refused)))

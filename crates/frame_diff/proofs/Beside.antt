@@ -7,7 +7,6 @@ use Rattle.frame_shown.specs.Values.{Nesting}
 use Rattle.frame_shown.specs.declared.form.Around.{Around}
 use Rattle.frame_shown.specs.declared.form.List.{List as Shape}
 use Rattle.frame_diff.specs.Beside.{held_of, is_named, last_named}
-use Rattle.frame_diff.specs.Counters.{is_passed}
 use Rattle.frame_diff.specs.Forests.{Forest, Held, Member, Step, comes, find, forest, is_step, is_text}
 use Rattle.frame_diff.specs.Members.{Inner, Reading, named_in}
 use Rattle.frame_diff.proofs.Apart.{find_none}
@@ -64,14 +63,14 @@ found_last s (m ∷ ms) = by (comes m.0 ms) refl (is_step m.0 s) refl (found_las
 
 -- ** the last attribute of a name
 
-module _ (is_state : Bool) (cx : Around) (list : Shape) (name : List ℕ) where
+module _ (cx : Around) (list : Shape) (name : List ℕ) where
   abbrev last_of : Option Frame → List Frame → Option Frame
-  last_of before fs = last_named is_state cx list name before fs
+  last_of before fs = last_named cx list name before fs
 
   one_before : (before : Option Frame) (fs : List Frame) → last_of before fs ≡ or_else (last_of None fs) before
   one_before before [] = refl
   one_before before (f ∷ fs) =
-      by (is_named is_state cx list name f) (one_before (Some f) fs) (one_before before fs)
+      by (is_named cx list name f) (one_before (Some f) fs) (one_before before fs)
     where
       or_some : (a : Option Frame) → or_else a (Some f) ≡ or_else (or_else a (Some f)) before
       or_some None = refl
@@ -83,13 +82,12 @@ module _ (is_state : Bool) (cx : Around) (list : Shape) (name : List ℕ) where
       by true some later = some ∙ or_some (last_of None fs) ∙ ap (λ l. or_else l before) (sym some)
       by false some later = later
 
-  module _ (nest : Nesting) (inner : Inner) where
+  module _ (is_state : Bool) (nest : Nesting) (inner : Inner) where
     abbrev r : Reading
     r = record { is_state = is_state; nest = nest; inner = inner; around = cx }
 
-    abbrev member : Frame → Bool → Bool → List Member
-    member f passed kept =
-        cond passed [] (cond kept [] ((Step.name (row_in cx list (number f)).0, held_of r list f) ∷ []))
+    abbrev member : Frame → Bool → List Member
+    member f kept = cond kept [] ((Step.name (row_in cx list (number f)).0, held_of r list f) ∷ [])
 
     mapped : (a b : Option Frame) → or_else (option_map (held_of r list) a) (option_map (held_of r list) b)
         ≡ option_map (held_of r list) (or_else a b)
@@ -100,19 +98,18 @@ module _ (is_state : Bool) (cx : Around) (list : Shape) (name : List ℕ) where
         → last_at (Step.name name) (named_in r list fs) ≡ option_map (held_of r list) (last_of None fs)
     last_is [] = refl
     last_is (f ∷ fs) =
-        by (is_passed is_state list (number f)) (is_kept (row_in cx list (number f)).1 f.payload)
-        (is_text (row_in cx list (number f)).0 name) refl (last_is fs)
+        by (is_kept (row_in cx list (number f)).1 f.payload) (is_text (row_in cx list (number f)).0 name) refl
+        (last_is fs)
       where
-        by : (passed kept same : Bool) → is_text (row_in cx list (number f)).0 name ≡ same
+        by : (kept same : Bool) → is_text (row_in cx list (number f)).0 name ≡ same
             → last_at (Step.name name) (named_in r list fs) ≡ option_map (held_of r list) (last_of None fs)
-            → last_at (Step.name name) (member f passed kept ++ named_in r list fs)
-            ≡ option_map (held_of r list) (last_of (cond (not passed && not kept && same) (Some f) None) fs)
-        by true kept same is later = later
-        by false true same is later = later
-        by false false true is later =
+            → last_at (Step.name name) (member f kept ++ named_in r list fs)
+            ≡ option_map (held_of r list) (last_of (cond (not kept && same) (Some f) None) fs)
+        by true same is later = later
+        by false true is later =
             (λ k. or_else (later k) (cond (is k) (Some (held_of r list f)) None))
             ∙ mapped (last_of None fs) (Some f) ∙ ap (option_map (held_of r list)) (sym (one_before (Some f) fs))
-        by false false false is later =
+        by false false is later =
             (λ k. or_else (later k) (cond (is k) (Some (held_of r list f)) None))
             ∙ or_none (option_map (held_of r list) (last_of None fs))
 

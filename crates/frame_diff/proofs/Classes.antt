@@ -72,7 +72,7 @@ names_of_object : (ms : List Member) → AreNames ms → AreAt IsOfObject ms
 names_of_object [] names = tt
 names_of_object (m ∷ ms) names = (ap is_of_object names.0.1, names_of_object ms names.1)
 
-members_of_object : (r : Reading) (list : Shape) (fs : List Frame) → AreAt IsOfObject (members_in r list fs)
+pub members_of_object : (r : Reading) (list : Shape) (fs : List Frame) → AreAt IsOfObject (members_in r list fs)
 members_of_object r list fs =
     let ms = named_in r list fs in
     append_at IsOfObject (ms ++ list_at Step.repeated (earlier ms)) (list_at Step.other (kept_in r list fs))
@@ -88,6 +88,7 @@ object_members r (Shapes.Message family) fs h = refl
 object_members r (Shapes.Own table) fs h = refl
 object_members r (Shapes.Of place) fs h = refl
 object_members r Shapes.ProtoInet6 fs h = refl
+object_members r Shapes.Refused fs h = refl
 object_members r (Shapes.Info link port) fs h = refl
 
 object_steps : (r : Reading) (list : Shape) (fs : List Frame) → is_group list ≡ false
@@ -98,6 +99,7 @@ object_steps r (Shapes.Message family) fs h = members_of_object r (Shapes.Messag
 object_steps r (Shapes.Own table) fs h = members_of_object r (Shapes.Own table) fs
 object_steps r (Shapes.Of place) fs h = members_of_object r (Shapes.Of place) fs
 object_steps r Shapes.ProtoInet6 fs h = members_of_object r Shapes.ProtoInet6 fs
+object_steps r Shapes.Refused fs h = members_of_object r Shapes.Refused fs
 object_steps r (Shapes.Info link port) fs h = members_of_object r (Shapes.Info link port) fs
 
 group_steps : (r : Reading) (list : Shape) (fs : List Frame) → is_group list ≡ true
@@ -109,6 +111,7 @@ group_steps r (Shapes.Message family) fs h = absurd cc
 group_steps r (Shapes.Own table) fs h = absurd cc
 group_steps r (Shapes.Of place) fs h = absurd cc
 group_steps r Shapes.ProtoInet6 fs h = absurd cc
+group_steps r Shapes.Refused fs h = absurd cc
 group_steps r (Shapes.Info link port) fs h = absurd cc
 
 -- ** what stands at a step of another class
@@ -148,6 +151,7 @@ no_field_in r (Shapes.Message family) fs name =
 no_field_in r (Shapes.Own table) fs name = none_in_object r (Shapes.Own table) fs (field_step name) refl refl
 no_field_in r (Shapes.Of place) fs name = none_in_object r (Shapes.Of place) fs (field_step name) refl refl
 no_field_in r Shapes.ProtoInet6 fs name = none_in_object r Shapes.ProtoInet6 fs (field_step name) refl refl
+no_field_in r Shapes.Refused fs name = none_in_object r Shapes.Refused fs (field_step name) refl refl
 no_field_in r (Shapes.Info link port) fs name =
     none_in_object r (Shapes.Info link port) fs (field_step name) refl refl
 
@@ -177,7 +181,9 @@ without r (Shapes.Own table) (f ∷ fs) = left_some (list_members r (Shapes.Own 
 without r (Shapes.Of place) [] = refl
 without r (Shapes.Of place) (f ∷ fs) = left_some (list_members r (Shapes.Of place) (f ∷ fs))
 without r Shapes.ProtoInet6 [] = refl
+without r Shapes.Refused [] = refl
 without r Shapes.ProtoInet6 (f ∷ fs) = left_some (list_members r Shapes.ProtoInet6 (f ∷ fs))
+without r Shapes.Refused (f ∷ fs) = left_some (list_members r Shapes.Refused (f ∷ fs))
 without r (Shapes.Info link port) [] = refl
 without r (Shapes.Info link port) (f ∷ fs) = left_some (list_members r (Shapes.Info link port) (f ∷ fs))
 

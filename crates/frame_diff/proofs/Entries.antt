@@ -25,7 +25,6 @@ use Rattle.frame_diff.specs.Values.{kept_from, kept_members, kept_of, more_by, n
 use Rattle.frame_diff.specs.Walked.{held_items}
 use Rattle.frame_diff.specs.declared.kept.Entry.{Entry}
 use Rattle.frame_diff.specs.declared.kept.Entry.TheVariants as Entries
-use Rattle.frame_diff.specs.declared.kept.Kept.{Kept}
 use Rattle.frame_diff.specs.declared.side.Side.{Side}
 use Rattle.frame_diff.specs.declared.walk.Attributes.{Attributes}
 use Rattle.frame_diff.proofs.Apart.{find_none}

@@ -20,7 +20,7 @@ use Rattle.frame_shown.specs.declared.form.List.{List as Shape}
 use Rattle.frame_shown.specs.declared.form.List.TheVariants as Shapes
 use Rattle.frame_shown.specs.declared.form.Table.{Table}
 use Rattle.frame_shown.proofs.Items.{on_next}
-use Rattle.frame_diff.specs.Counters.{action_in, is_passed}
+use Rattle.frame_diff.specs.Counters.{action_in}
 use Rattle.frame_diff.specs.Forests.{Forest, Held, Member, Step, comes, entries_step, find, forest, is_step, is_text}
 use Rattle.frame_diff.specs.Forests.{left_of, rest_step, values_step}
 use Rattle.frame_diff.specs.Groups.{are_plain, first_by, first_of, group_at, group_by, group_held, group_step}
@@ -52,6 +52,7 @@ group_nil r (Shapes.Message family) = refl
 group_nil r (Shapes.Own table) = refl
 group_nil r (Shapes.Of place) = refl
 group_nil r Shapes.ProtoInet6 = refl
+group_nil r Shapes.Refused = refl
 group_nil r (Shapes.Info link port) = refl
 
 named_further : (r : Reading) (list : Shape) (f : Frame) (fs : List Frame)
@@ -66,6 +67,7 @@ group_further r (Shapes.Message family) f fs = named_further r (Shapes.Message f
 group_further r (Shapes.Own table) f fs = named_further r (Shapes.Own table) f fs
 group_further r (Shapes.Of place) f fs = named_further r (Shapes.Of place) f fs
 group_further r Shapes.ProtoInet6 f fs = named_further r Shapes.ProtoInet6 f fs
+group_further r Shapes.Refused f fs = named_further r Shapes.Refused f fs
 group_further r (Shapes.Info link port) f fs = named_further r (Shapes.Info link port) f fs
 
 -- ** one of them
@@ -232,23 +234,15 @@ places_plain hs = placed_plain 0 hs
 
 -- as one value they are what is shown
 
-unpassed : (is_state : Bool) (group : Group) (table : Table) (n : ℕ)
-    → is_passed is_state (Shapes.Listed group table) n ≡ false
-unpassed true group table n = refl
-unpassed false group table n = refl
-
 module _ (nest : Showing) (inner : Holding) (is_state : Bool) (cx : Around) where
   abbrev r : Reading
   r = reading_at nest inner is_state cx
 
-  listed_texts : (list : Shape) → ((n : ℕ) → is_passed is_state list n ≡ false) → (fs : List Frame)
+  listed_texts : (list : Shape) (fs : List Frame)
       → flat_map value_in (values_of (named_in r list fs))
       ≡ flat_map texts_of (named_ones (map (frame_item (nest cx) cx list) fs))
-  listed_texts list none [] = refl
-  listed_texts list none (f ∷ fs) =
-      ap (λ b. flat_map value_in (values_of (cond b [] (cond (is_kept row.1 f.payload) [] (own ∷ []))
-      ++ named_in r list fs))) (none (number f))
-      ∙ by (is_kept row.1 f.payload) (listed_texts list none fs)
+  listed_texts list [] = refl
+  listed_texts list (f ∷ fs) = by (is_kept row.1 f.payload) (listed_texts list fs)
     where
       row : Known
       row = row_in cx list (number f)
@@ -292,7 +286,7 @@ module _ (nest : Showing) (inner : Holding) (is_state : Bool) (cx : Around) wher
       → are_plain (group_values r list (frames_in (items p))) ≡ true
       → listed_shown (nest cx) cx list p ≡ (group_by (group_values r list (frames_in (items p)))).0
   plain_shown (Shapes.Listed group table) p h plain =
-      ap list_of (sym (listed_texts (Shapes.Listed group table) (unpassed is_state group table) (frames_in (items p))))
+      ap list_of (sym (listed_texts (Shapes.Listed group table) (frames_in (items p))))
   plain_shown (Shapes.Entries group) p h plain =
       (λ k. list_of (flat_map texts_of (none_named group (frames_in (items p)) k)))
       ∙ sym (ap (λ hs. list_of (flat_map value_in hs)) (no_entries (entry_list group) (frames_in (items p)) plain))
@@ -300,6 +294,7 @@ module _ (nest : Showing) (inner : Holding) (is_state : Bool) (cx : Around) wher
   plain_shown (Shapes.Own table) p h plain = absurd cc
   plain_shown (Shapes.Of place) p h plain = absurd cc
   plain_shown Shapes.ProtoInet6 p h plain = absurd cc
+  plain_shown Shapes.Refused p h plain = absurd cc
   plain_shown (Shapes.Info link port) p h plain = absurd cc
 
 -- ** a list of values among the members of its list
@@ -317,6 +312,7 @@ group_part (Shapes.Message family) h = absurd cc
 group_part (Shapes.Own table) h = absurd cc
 group_part (Shapes.Of place) h = absurd cc
 group_part Shapes.ProtoInet6 h = absurd cc
+group_part Shapes.Refused h = absurd cc
 group_part (Shapes.Info link port) h = absurd cc
 
 one_told : (side : Side) (text : List ℕ) (s : Step) (h : Held) (ms : List Member) (g : Forest) → comes s ms ≡ false
@@ -344,6 +340,7 @@ listed_told side text r (Shapes.Message family) fs g h = absurd cc
 listed_told side text r (Shapes.Own table) fs g h = absurd cc
 listed_told side text r (Shapes.Of place) fs g h = absurd cc
 listed_told side text r Shapes.ProtoInet6 fs g h = absurd cc
+listed_told side text r Shapes.Refused fs g h = absurd cc
 listed_told side text r (Shapes.Info link port) fs g h = absurd cc
 
 -- ** the same list of values among the members of another list
@@ -393,6 +390,8 @@ module _ (r : Reading) where
       none_in_object r (Shapes.Of place) fs (values_step (group_name one)) refl refl
   group_beside (Shapes.Listed one table) Shapes.ProtoInet6 fs h =
       none_in_object r Shapes.ProtoInet6 fs (values_step (group_name one)) refl refl
+  group_beside (Shapes.Listed one table) Shapes.Refused fs h =
+      none_in_object r Shapes.Refused fs (values_step (group_name one)) refl refl
   group_beside (Shapes.Listed one table) (Shapes.Info link port) fs h =
       none_in_object r (Shapes.Info link port) fs (values_step (group_name one)) refl refl
   group_beside (Shapes.Entries one) (Shapes.Message family) fs h =
@@ -403,12 +402,15 @@ module _ (r : Reading) where
       none_in_object r (Shapes.Of place) fs (entries_step (group_name one)) refl refl
   group_beside (Shapes.Entries one) Shapes.ProtoInet6 fs h =
       none_in_object r Shapes.ProtoInet6 fs (entries_step (group_name one)) refl refl
+  group_beside (Shapes.Entries one) Shapes.Refused fs h =
+      none_in_object r Shapes.Refused fs (entries_step (group_name one)) refl refl
   group_beside (Shapes.Entries one) (Shapes.Info link port) fs h =
       none_in_object r (Shapes.Info link port) fs (entries_step (group_name one)) refl refl
   group_beside (Shapes.Message family) other fs h = absurd cc
   group_beside (Shapes.Own table) other fs h = absurd cc
   group_beside (Shapes.Of place) other fs h = absurd cc
   group_beside Shapes.ProtoInet6 other fs h = absurd cc
+  group_beside Shapes.Refused other fs h = absurd cc
   group_beside (Shapes.Info link port) other fs h = absurd cc
 
   pub rest_there : (list : Shape) (fs : List Frame) → (is_group list && not (is_entries list)) ≡ true
@@ -424,6 +426,7 @@ module _ (r : Reading) where
   rest_there (Shapes.Own table) fs h = absurd cc
   rest_there (Shapes.Of place) fs h = absurd cc
   rest_there Shapes.ProtoInet6 fs h = absurd cc
+  rest_there Shapes.Refused fs h = absurd cc
   rest_there (Shapes.Info link port) fs h = absurd cc
 
   pub no_rest : (list : Shape) (fs : List Frame) → (is_group list && not (is_entries list)) ≡ false
@@ -434,6 +437,7 @@ module _ (r : Reading) where
   no_rest (Shapes.Own table) fs h = sym (none_in_object r (Shapes.Own table) fs rest_step_now refl refl)
   no_rest (Shapes.Of place) fs h = sym (none_in_object r (Shapes.Of place) fs rest_step_now refl refl)
   no_rest Shapes.ProtoInet6 fs h = sym (none_in_object r Shapes.ProtoInet6 fs rest_step_now refl refl)
+  no_rest Shapes.Refused fs h = sym (none_in_object r Shapes.Refused fs rest_step_now refl refl)
   no_rest (Shapes.Info link port) fs h = sym (none_in_object r (Shapes.Info link port) fs rest_step_now refl refl)
 
 -- ** those that are kept beside them

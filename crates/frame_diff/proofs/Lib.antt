@@ -17,7 +17,13 @@ pub mod Inside
 pub mod Classes
 pub mod Nested
 pub mod Grouped
+pub mod Sorts
 pub mod Told
 pub mod Names
 pub mod Cleared
 pub mod Records
+pub mod Whole
+pub mod Orders
+pub mod Plain
+pub mod Numbers
+pub mod Known

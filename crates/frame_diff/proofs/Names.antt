@@ -11,10 +11,11 @@ use Rattle.link_info.specs.Tables.{row_at}
 use Rattle.link_info.specs.declared.place.Place.{Place}
 use Rattle.link_info.specs.declared.place.Place.TheVariants as Places
 use Rattle.link_info.specs.declared.style.Row.{Row}
+use Rattle.link_info.specs.declared.style.Style.TheVariants as S
 use Rattle.frame_shown.specs.Names.{are_apart}
-use Rattle.frame_shown.specs.Tables.{Rows, af_spec_form, info_row, is_kept, listed_row, message_row, nest_row, no_row}
-use Rattle.frame_shown.specs.Tables.{place_row, proto_info_form, proto_inet6_row, row_by, row_found, row_in}
-use Rattle.frame_shown.specs.Tables.{row_of_list, rows_in, styled, xstats_row}
+use Rattle.frame_shown.specs.Tables.{Known, Rows, af_spec_form, info_row, is_kept, listed_row, message_row, nest_row}
+use Rattle.frame_shown.specs.Tables.{no_row, place_row, proto_info_form, proto_inet6_row, row_by, row_found, row_in}
+use Rattle.frame_shown.specs.Tables.{refused_row, row_of_list, rows_in, styled, xstats_row}
 use Rattle.frame_shown.specs.declared.form.Around.{Around}
 use Rattle.frame_shown.specs.declared.form.Form.{Form}
 use Rattle.frame_shown.specs.declared.form.Form.TheVariants as Forms
@@ -23,7 +24,7 @@ use Rattle.frame_shown.specs.declared.form.List.TheVariants as Shapes
 use Rattle.frame_shown.specs.declared.form.Table.{Table}
 use Rattle.frame_shown.specs.declared.form.Table.TheVariants as Tables
 use Rattle.frame_shown.specs.declared.form.Way.TheVariants as Ways
-use Rattle.frame_shown.specs.declared.tables.TheConstants.{MESSAGE}
+use Rattle.frame_shown.specs.declared.tables.TheConstants.{KERNEL_NAMES, MESSAGE}
 use Rattle.frame_diff.specs.Forests.{is_text}
 use Rattle.frame_diff.specs.Names.{NamesAreApart}
 use Rattle.frame_diff.specs.Shown.{HasNamesApart}
@@ -240,10 +241,6 @@ module _ (cx : Around) (all : AreAllRows cx.tables.now) where
 
 -- ** attributes of a link
 
-abbrev listed_keys : ℕ → List (List ℕ × Form) → Keys
-listed_keys k [] = []
-listed_keys k (row ∷ rows) = (k, row.0) ∷ listed_keys (k + 1) rows
-
 abbrev message_rows : List (List ℕ × Form)
 message_rows = map (λ row. (row.0.now, row.1)) MESSAGE
 
@@ -254,31 +251,58 @@ not_same k n less = by (k == n) refl
     by true h = absurd (omega (arith, eqb-true k n h))
     by false h = refl
 
-listed_told : (rows : List (List ℕ × Form)) (n k m : ℕ) (p : List ℕ) → m ≡ n + k
-    → is_kept (row_of_list rows n).1 p ≡ false → name_of (listed_keys k rows) m ≡ Some (row_of_list rows n).0
-listed_told [] n k m p is h = absurd cc
-listed_told (row ∷ rows) zero k m p is h =
-    let same : k ≡ m = omega (arith, is) in
-    ap (λ b. cond b (Some row.0) (name_of (listed_keys (k + 1) rows) m)) (eq-eqb k m same)
-listed_told (row ∷ rows) (suc n) k m p is h =
-    ap (λ b. cond b (Some row.0) (name_of (listed_keys (k + 1) rows) m)) (not_same k m (omega (arith, is)))
-    ∙ listed_told rows n (k + 1) m p (omega (arith, is)) h
+-- rows at the places of their numbers, and what stands behind the last one, which has no name
+module _ {A : Type 0} (known : A → Known) (none : A) (kept : (p : List ℕ) → is_kept (known none).1 p ≡ true) where
+  abbrev listed_keys : ℕ → List A → Keys
+  listed_keys k [] = []
+  listed_keys k (row ∷ rows) = (k, (known row).0) ∷ listed_keys (k + 1) rows
+
+  listed_told : (rows : List A) (n k m : ℕ) (p : List ℕ) → m ≡ n + k
+      → is_kept (known (get_or rows n none)).1 p ≡ false
+      → name_of (listed_keys k rows) m ≡ Some (known (get_or rows n none)).0
+  listed_told [] n k m p is h = let clash : true ≡ false = sym (kept p) ∙ h in absurd cc
+  listed_told (row ∷ rows) zero k m p is h =
+      let same : k ≡ m = omega (arith, is) in
+      ap (λ b. cond b (Some (known row).0) (name_of (listed_keys (k + 1) rows) m)) (eq-eqb k m same)
+  listed_told (row ∷ rows) (suc n) k m p is h =
+      ap (λ b. cond b (Some (known row).0) (name_of (listed_keys (k + 1) rows) m)) (not_same k m (omega (arith, is)))
+      ∙ listed_told rows n (k + 1) m p (omega (arith, is)) h
+
+abbrev own_row : List ℕ × Form → Known
+own_row row = (row.0, Ways.Own row.1)
+
+abbrev message_keys : Keys
+message_keys = listed_keys own_row ([], Forms.Kept) (λ p. refl) 0 message_rows
+
+abbrev refused_rows : List Known
+refused_rows = map (λ name. (name.now, Ways.By S.Bytes)) KERNEL_NAMES
+
+abbrev refused_keys : Keys
+refused_keys = listed_keys (λ row. row) no_row (λ p. refl) 0 refused_rows
+
+refused_told : (n : ℕ) (p : List ℕ) → is_kept (refused_row n).1 p ≡ false
+    → name_of refused_keys n ≡ Some (refused_row n).0
+refused_told n p h = listed_told (λ row. row) no_row (λ p. refl) refused_rows n 0 n p (omega arith) h
+
+refused_apart : are_apart (names refused_keys) ≡ true
+refused_apart = refl
 
 message_told : (family n : ℕ) (p : List ℕ) → is_kept (message_row family n).1 p ≡ false
-    → name_of (listed_keys 0 message_rows) n ≡ Some (message_row family n).0
+    → name_of message_keys n ≡ Some (message_row family n).0
 message_told family n p = by (n == 26) (n == 12) refl refl
   where
     by : (b c : Bool) → (n == 26) ≡ b → (n == 12) ≡ c
         → is_kept (cond b (codes "af-spec", Ways.Own (af_spec_form family))
         (cond c (codes "protinfo", Ways.Own (proto_info_form family)) (row_of_list message_rows n))).1 p ≡ false
-        → name_of (listed_keys 0 message_rows) n
+        → name_of message_keys n
         ≡ Some (cond b (codes "af-spec", Ways.Own (af_spec_form family))
         (cond c (codes "protinfo", Ways.Own (proto_info_form family)) (row_of_list message_rows n))).0
-    by true c is too h = ap (name_of (listed_keys 0 message_rows)) (eqb-true n 26 is)
-    by false true is too h = ap (name_of (listed_keys 0 message_rows)) (eqb-true n 12 too)
-    by false false is too h = listed_told message_rows n 0 n p (omega arith) h
+    by true c is too h = ap (name_of message_keys) (eqb-true n 26 is)
+    by false true is too h = ap (name_of message_keys) (eqb-true n 12 too)
+    by false false is too h =
+        listed_told own_row ([], Forms.Kept) (λ p. refl) message_rows n 0 n p (omega arith) h
 
-message_apart : are_apart (names (listed_keys 0 message_rows)) ≡ true
+message_apart : are_apart (names message_keys) ≡ true
 message_apart = refl
 
 -- ** a link's kinds
@@ -374,7 +398,7 @@ module _ (cx : Around) (link port : Option Place) (n : ℕ) (p : List ℕ) where
 
 all_apart : (cx : Around) (list : Shape) → AreAllRows cx.tables.now → HasNamesApart cx list
 all_apart cx (Shapes.Message family) all =
-    apart_by cx (Shapes.Message family) (listed_keys 0 message_rows) (message_told family) message_apart
+    apart_by cx (Shapes.Message family) message_keys (message_told family) message_apart
 all_apart cx (Shapes.Own table) all =
     apart_by cx (Shapes.Own table) (table_keys (rows_in table)) (table_told (rows_in table)) (table_apart table)
 all_apart cx (Shapes.Listed group table) all =
@@ -389,6 +413,7 @@ all_apart cx Shapes.ProtoInet6 all =
     (place_apart cx all Places.Inet6)
 all_apart cx (Shapes.Info link port) all =
     apart_by cx (Shapes.Info link port) info_keys (info_told cx link port) refl
+all_apart cx Shapes.Refused all = apart_by cx Shapes.Refused refused_keys refused_told refused_apart
 
 pub names_apart : NamesAreApart
 names_apart = record {

@@ -8,7 +8,6 @@ use Rattle.shown.specs.Drafts.{Members}
 use Rattle.frame_shown.specs.Tables.{is_kept, row_in}
 use Rattle.frame_shown.specs.declared.form.List.{List as Shape}
 use Rattle.frame_diff.specs.Beside.{held_of}
-use Rattle.frame_diff.specs.Counters.{is_passed}
 use Rattle.frame_diff.specs.Forests.{Forest, Held, Member, Step, comes, find, forest, is_step}
 use Rattle.frame_diff.specs.Items.{items_told, joined, member_items, step_text}
 use Rattle.frame_diff.specs.Members.{Reading, earlier, kept_in, list_at, members_in, named_in, places, unless_none}
@@ -51,7 +50,7 @@ abbrev pub NoneComes : List Member → List Member → Type 0
 NoneComes [] ys = Unit {0}
 NoneComes (x ∷ xs) ys = (comes x.0 ys ≡ false) × NoneComes xs ys
 
-comes_append : (s : Step) (xs ys : List Member) → comes s ys ≡ false → comes s (xs ++ ys) ≡ comes s xs
+pub comes_append : (s : Step) (xs ys : List Member) → comes s ys ≡ false → comes s (xs ++ ys) ≡ comes s xs
 comes_append s [] ys none = none
 comes_append s (x ∷ xs) ys none = ap (λ b. cond (is_step x.0 s) true b) (comes_append s xs ys none)
 
@@ -110,15 +109,13 @@ IsNoName s = (name : List ℕ) → (is_step s (Step.name name) ≡ false) × (is
 pub named_names : (r : Reading) (list : Shape) (fs : List Frame) → AreNames (named_in r list fs)
 named_names r list [] = tt
 named_names r list (f ∷ fs) =
-    by (is_passed r.is_state list (number f)) (is_kept (row_in r.around list (number f)).1 f.payload)
-    (named_names r list fs)
+    by (is_kept (row_in r.around list (number f)).1 f.payload) (named_names r list fs)
   where
-    by : (passed kept : Bool) → AreNames (named_in r list fs)
-        → AreNames (cond passed [] (cond kept [] ((Step.name (row_in r.around list (number f)).0, held_of r list f)
-        ∷ [])) ++ named_in r list fs)
-    by true kept later = later
-    by false true later = later
-    by false false later = (((row_in r.around list (number f)).0, refl), later)
+    by : (kept : Bool) → AreNames (named_in r list fs)
+        → AreNames (cond kept [] ((Step.name (row_in r.around list (number f)).0, held_of r list f) ∷ [])
+        ++ named_in r list fs)
+    by true later = later
+    by false later = (((row_in r.around list (number f)).0, refl), later)
 
 pub list_lacks : (t s : Step) (hs : List (Option Held)) → is_step s t ≡ false → comes t (list_at s hs) ≡ false
 list_lacks t s hs other = by _ (places hs)
@@ -170,32 +167,33 @@ lacking side text (Forest.tree s v i rest) =
     let path = joined text (step_text s) in
     ap (λ l. member_items side path v i (items_told side path i) None ++ l) (lacking side text rest)
 
+-- a member at one step tells what those inside it tell
+pub unless_told : (side : Side) (text : List ℕ) (s : Step) (v w : List Token) (f g : Forest)
+    → items_told side text (forest (unless_none s v f)) (forest (unless_none s w g))
+    ≡ items_told side (joined text (step_text s)) f g
+unless_told side text s v w Forest.none g = refl
+unless_told side text s v w Forest.passed g = refl
+unless_told side text s v w (Forest.tree a b c d) Forest.none = append-nil _
+unless_told side text s v w (Forest.tree a b c d) Forest.passed =
+    append-nil _ ∙ lacking side (joined text (step_text s)) (Forest.tree a b c d)
+unless_told side text s v w (Forest.tree a b c d) (Forest.tree p q x y) =
+    append-nil _
+    ∙ ap (λ e. held_items side (joined text (step_text s)) (v, Forest.tree a b c d)
+    (cond e (Some (w, Forest.tree p q x y)) None)) (step_is s)
+
 -- a list of values tells what those in it tell, by their places
 pub list_told : (side : Side) (text : List ℕ) (s : Step) (hs gs : List (Option Held))
     → items_told side text (forest (list_at s hs)) (forest (list_at s gs))
     ≡ items_told side (joined text (step_text s)) (places hs) (places gs)
-list_told side text s hs gs = by _ (places hs) _ (places gs)
-  where
-    by : (v : List Token) (f : Forest) (w : List Token) (g : Forest)
-        → items_told side text (forest (unless_none s v f)) (forest (unless_none s w g))
-        ≡ items_told side (joined text (step_text s)) f g
-    by v Forest.none w g = refl
-    by v Forest.passed w g = refl
-    by v (Forest.tree a b c d) w Forest.none = append-nil _
-    by v (Forest.tree a b c d) w Forest.passed =
-        append-nil _ ∙ lacking side (joined text (step_text s)) (Forest.tree a b c d)
-    by v (Forest.tree a b c d) w (Forest.tree p q x y) =
-        append-nil _
-        ∙ ap (λ e. held_items side (joined text (step_text s)) (v, Forest.tree a b c d)
-        (cond e (Some (w, Forest.tree p q x y)) None)) (step_is s)
+list_told side text s hs gs = unless_told side text s _ _ (places hs) (places gs)
 
 -- ** the members of a list of attributes
 
-both_lack : (xs ys zs : List Member) → NoneComes xs zs → NoneComes ys zs → NoneComes (xs ++ ys) zs
+pub both_lack : (xs ys zs : List Member) → NoneComes xs zs → NoneComes ys zs → NoneComes (xs ++ ys) zs
 both_lack [] ys zs h k = k
 both_lack (x ∷ xs) ys zs h k = (h.0, both_lack xs ys zs h.1 k)
 
-lacks_both : (xs ys zs : List Member) → NoneComes xs ys → NoneComes xs zs → NoneComes xs (ys ++ zs)
+pub lacks_both : (xs ys zs : List Member) → NoneComes xs ys → NoneComes xs zs → NoneComes xs (ys ++ zs)
 lacks_both [] ys zs h k = tt
 lacks_both (x ∷ xs) ys zs h k = (comes_append x.0 ys zs k.0 ∙ h.0, lacks_both xs ys zs h.1 k.1)
 

@@ -1,11 +1,11 @@
 -- Attributes behind which another one of their name stands: what they tell at their places.
-use Rattle.std.proofs.Common.{◌≡◌, ℕ, zero, suc, ◌+◌, ◌*◌, ◌<◌, ◌≤◌, Bool, true, false, List, [], ◌∷◌, ◌++◌, refl}
+use Rattle.std.proofs.Common.{◌≡◌, ℕ, zero, suc, ◌+◌, ◌≤◌, Bool, true, false, List, [], ◌∷◌, ◌++◌, refl}
 use Rattle.std.proofs.Common.{sym, ap, ◌∙◌, Ok, append-nil, arith}
 use Rattle.std.specs.Prelude.{Option, Some, None, cond, decimal, is_some, option_map}
 use Rattle.std.proofs.lemmas.List.{map-append}
 use Rattle.nla_wire.specs.Frames.{Frame, number}
 use Rattle.nla_wire.proofs.Items.{items_nil}
-use Rattle.nla_wire.specs.Items.{Item, frame_count, items}
+use Rattle.nla_wire.specs.Items.{Item, frame_count}
 use Rattle.link_info.specs.Tables.{frames_in}
 use Rattle.shown.specs.Drafts.{Draft, object_of, with_members}
 use Rattle.frame_shown.specs.Items.{objects}
@@ -13,9 +13,8 @@ use Rattle.frame_shown.specs.Tables.{is_kept, row_in}
 use Rattle.frame_shown.specs.declared.form.List.{List as Shape}
 use Rattle.frame_shown.proofs.Items.{on_next}
 use Rattle.frame_diff.specs.Beside.{held_of}
-use Rattle.frame_diff.specs.Counters.{is_passed}
 use Rattle.frame_diff.specs.Differences.{inside_in}
-use Rattle.frame_diff.specs.Forests.{Forest, Held, Member, Step, comes, find, forest}
+use Rattle.frame_diff.specs.Forests.{Held, Member, Step, comes, find, forest}
 use Rattle.frame_diff.specs.Items.{items_told, joined}
 use Rattle.frame_diff.specs.Members.{Reading, alone, earlier, named_in, placed, places}
 use Rattle.frame_diff.specs.Repeated.{GoesOnAt, IsBeside, again_held, again_in, again_items, alone_at, earlier_at}
@@ -30,10 +29,10 @@ use Rattle.frame_diff.proofs.Walked.{last_further}
 
 -- ** one attribute further
 
-further : (r : Reading) (list : Shape) (f : Frame) (fs : List Frame)
+pub further : (r : Reading) (list : Shape) (f : Frame) (fs : List Frame)
     → earlier (named_in r list (f ∷ fs)) ≡ again_in r list (named_in r list fs) f ++ earlier (named_in r list fs)
 further r list f fs =
-    by (is_passed r.is_state list (number f)) (is_kept (row_in r.around list (number f)).1 f.payload)
+    by (is_kept (row_in r.around list (number f)).1 f.payload)
   where
     behind : List Member
     behind = named_in r list fs
@@ -41,12 +40,11 @@ further r list f fs =
     own : Member
     own = (Step.name (row_in r.around list (number f)).0, held_of r list f)
 
-    by : (passed kept : Bool)
-        → earlier (cond passed [] (cond kept [] (own ∷ [])) ++ behind)
-        ≡ cond passed [] (cond kept [] (cond (comes own.0 behind) (alone own ∷ []) [])) ++ earlier behind
-    by true kept = refl
-    by false true = refl
-    by false false = refl
+    by : (kept : Bool)
+        → earlier (cond kept [] (own ∷ []) ++ behind)
+        ≡ cond kept [] (cond (comes own.0 behind) (alone own ∷ []) []) ++ earlier behind
+    by true = refl
+    by false = refl
 
 earlier_nests : (ms : List Member) → AreNests (earlier ms)
 earlier_nests [] = tt

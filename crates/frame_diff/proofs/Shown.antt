@@ -23,6 +23,7 @@ use Rattle.frame_diff.specs.Members.{Inner, Reading, alone, as_object, earlier, 
 use Rattle.frame_diff.specs.Members.{list_at, members_in, named, named_in, placed, placed_one, places, reading}
 use Rattle.frame_diff.specs.Members.{unless_none, value_in}
 use Rattle.frame_diff.specs.Shown.{AreNamedApart, HasNamesApart, MembersAreShown, shown_in}
+use Rattle.frame_diff.proofs.Parts.{NoneComes, both_lack, comes_append}
 use Rattle.frame_diff.proofs.Steps.{text_is, text_same}
 
 -- ** members behind which none of their step stands
@@ -40,15 +41,6 @@ forest_shows (m ∷ ms) = by (comes m.0 ms) (forest_shows ms)
         ≡ cond b [] ((step_text m.0, m.1.0) ∷ []) ++ lasts ms
     by true later = later
     by false later = ap (λ l. (step_text m.0, m.1.0) ∷ l) later
-
-comes_append : (s : Step) (xs ys : List Member) → comes s ys ≡ false → comes s (xs ++ ys) ≡ comes s xs
-comes_append s [] ys none = none
-comes_append s (x ∷ xs) ys none = ap (λ b. cond (is_step x.0 s) true b) (comes_append s xs ys none)
-
--- no step of the first ones is one of the others
-abbrev pub NoneComes : List Member → List Member → Type 0
-NoneComes [] ys = Unit {0}
-NoneComes (x ∷ xs) ys = (comes x.0 ys ≡ false) × NoneComes xs ys
 
 lasts_append : (xs ys : List Member) → NoneComes xs ys → lasts (xs ++ ys) ≡ lasts xs ++ lasts ys
 lasts_append [] ys none = refl
@@ -233,10 +225,6 @@ module _ (nest : Nesting) (inner : Inner) (cx : Around) (list : Shape) (apart : 
   repeated_lacks v w (Forest.tree a b c d) Forest.passed = (refl, tt)
   repeated_lacks v w (Forest.tree a b c d) (Forest.tree e f g h) = (refl, tt)
 
-  both_lack : (xs ys zs : List Member) → NoneComes xs zs → NoneComes ys zs → NoneComes (xs ++ ys) zs
-  both_lack [] ys zs h k = k
-  both_lack (x ∷ xs) ys zs h k = (h.0, both_lack xs ys zs h.1 k)
-
   pub members_shown : (fs : List Frame) → shown_in (forest (members_in r list fs)) ≡ members_of (all fs)
   members_shown fs =
       let ms = named_in r list fs in
@@ -274,6 +262,12 @@ fields_shown ms apart = forest_shows (named ms) ∙ all ms apart
     all [] h = refl
     all (n ∷ ns) h =
         (λ k. cond (lacks n.0 ns h.0 k) [] (n ∷ []) ++ all ns h.1 k)
+
+-- members of which none of the first ones stands at a step of the others
+pub parts_shown : (xs ys : List Member) → NoneComes xs ys
+    → shown_in (forest (xs ++ ys)) ≡ shown_in (forest xs) ++ shown_in (forest ys)
+parts_shown xs ys none =
+    forest_shows (xs ++ ys) ∙ lasts_append xs ys none ∙ sym (λ k. forest_shows xs k ++ forest_shows ys k)
 
 pub members_are : MembersAreShown
 members_are = record { lists = lists_shown; fields_of = fields_shown }

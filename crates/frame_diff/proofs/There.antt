@@ -1,34 +1,53 @@
 -- An attribute that stands in the other list as it is tells nothing.
 use Rattle.std.proofs.Common.{◌≡◌, ℕ, ◌||◌, Bool, true, false, List, [], ◌∷◌, ◌++◌, refl, sym, ap, ◌∙◌, append_assoc}
 use Rattle.std.proofs.Common.{Ok, eq-eqb, eqb-true, map}
-use Rattle.std.specs.Prelude.{◌==◌, ◌&&◌, Option, Some, None, IsTrue, cond, nat_lt}
+use Rattle.std.specs.Prelude.{◌==◌, IfSome, Option, Some, None, cond, nat_lt, option_map}
+use Rattle.std.specs.List.{list_any}
 use Rattle.std.proofs.lemmas.Bool.{or_parts}
 use Rattle.nla_wire.specs.Frames.{Frame, number}
 use Rattle.nla_wire.specs.Items.{Item as Read, items}
 use Rattle.link_info.specs.Tables.{frames_in}
-use Rattle.shown.specs.Drafts.{Draft, Members, with_members}
+use Rattle.shown.specs.Drafts.{Draft, with_members}
 use Rattle.frame_shown.specs.Frames.{are_twice, by_number}
-use Rattle.frame_shown.specs.Items.{Item, are_any, comes_in, earlier_ones, has_number, objects}
+use Rattle.frame_shown.specs.Items.{Item, are_any, comes_in, earlier_ones, objects}
+use Rattle.frame_shown.specs.Items.{has_number as has_shown_number}
 use Rattle.frame_shown.specs.Tables.{Known, is_kept, listed_row, no_row, row_in}
-use Rattle.frame_shown.specs.declared.form.Around.{Around}
 use Rattle.frame_shown.specs.declared.form.List.{List as Shape}
 use Rattle.frame_shown.proofs.Items.{any_earlier}
 use Rattle.frame_diff.specs.Beside.{held_of}
-use Rattle.frame_diff.specs.Counters.{action_in, is_passed}
+use Rattle.frame_diff.specs.Counters.{action_in}
 use Rattle.frame_diff.specs.Forests.{AreApart, Forest, Held, Member, Step, comes, find, forest, is_step}
 use Rattle.frame_diff.specs.Forests.{is_text}
-use Rattle.frame_diff.specs.Members.{Reading, frame_member, held_by, named_in}
+use Rattle.frame_diff.specs.Items.{joined}
+use Rattle.frame_diff.specs.Members.{Reading, alone, earlier, frame_member, held_by, named_in}
+use Rattle.frame_diff.specs.Repeated.{earlier_at}
 use Rattle.frame_diff.specs.Shown.{HasNamesApart}
-use Rattle.frame_diff.specs.Walked.{AreAlike, HasNames, Holding, HoldsApart, IsTail, Showing, Stands, StandsOnce}
-use Rattle.frame_diff.specs.Walked.{frame_items, is_first, last_items, named_at, reading_at, row_items}
+use Rattle.frame_diff.specs.Walked.{AreAlike, AreOfFrame, HasNames, HasRowOf, Holding, HoldsApart, IsOf, IsOfNumber}
+use Rattle.frame_diff.specs.Walked.{IsTail}
+use Rattle.frame_diff.specs.Walked.{NoneBehind, Showing, held_at, held_items, is_kept_there, is_there}
+use Rattle.frame_diff.specs.Walked.{frame_items, has_number, last_items, named_at, reading_at}
 use Rattle.frame_diff.specs.declared.side.Side.{Side}
+use Rattle.frame_diff.specs.declared.walk.Attribute.{Attribute}
 use Rattle.frame_diff.specs.declared.walk.Attributes.{Attributes}
-use Rattle.frame_diff.proofs.Apart.{find_none, way_apart}
-use Rattle.frame_diff.proofs.Beside.{found_last, last_at, or_else, or_none}
+use Rattle.frame_diff.proofs.Apart.{find_none, held_apart}
+use Rattle.frame_diff.proofs.Beside.{found_last, last_at, or_else}
 use Rattle.frame_diff.proofs.Steps.{text_is, text_same}
-use Rattle.frame_diff.proofs.Walked.{and_both, last_same}
+use Rattle.frame_diff.proofs.Repeated.{further}
+use Rattle.frame_diff.proofs.Walked.{last_same, rows_same}
 
 -- ** numbers that stand once
+
+once_behind : (f : Frame) (rest : List Item) → are_any (earlier_ones (by_number f ∷ rest)) ≡ false
+    → are_any (earlier_ones rest) ≡ false
+once_behind f rest = by (nat_lt (number f) 256)
+  where
+    by : (b : Bool)
+        → are_any (earlier_ones (cond b (Item.named (number f) []) (Item.as_is [] 0 []) ∷ rest)) ≡ false
+        → are_any (earlier_ones rest) ≡ false
+    by true h =
+        (or_parts (comes_in (number f) rest) (are_any (earlier_ones rest))
+        (sym (any_earlier (number f) [] rest) ∙ h)).1
+    by false h = h
 
 -- behind an attribute no other one of its number
 none_behind : (fs : List Frame) (g : Frame) (gs : List Frame) → nat_lt (number g) 256 ≡ true
@@ -40,18 +59,20 @@ none_behind [] g gs small once =
     ∙ ap (λ b. are_any (earlier_ones (cond b (Item.named (number g) []) (Item.as_is [] 0 []) ∷ map by_number gs)))
     (sym small)
     ∙ once)).0
-none_behind (f ∷ fs) g gs small once = none_behind fs g gs small (by (nat_lt (number f) 256) once)
-  where
-    rest : List Item
-    rest = map by_number (fs ++ g ∷ gs)
+none_behind (f ∷ fs) g gs small once = none_behind fs g gs small (once_behind f (map by_number (fs ++ g ∷ gs)) once)
 
-    by : (b : Bool)
-        → are_any (earlier_ones (cond b (Item.named (number f) []) (Item.as_is [] 0 []) ∷ rest)) ≡ false
-        → are_any (earlier_ones rest) ≡ false
-    by true h =
-        (or_parts (comes_in (number f) rest) (are_any (earlier_ones rest))
-        (sym (any_earlier (number f) [] rest) ∙ h)).1
-    by false h = h
+-- where none has a number, none comes
+none_comes : (n : ℕ) (fs : List Frame) → list_any (λ f. number f == n) fs ≡ false
+    → comes_in n (map by_number fs) ≡ false
+none_comes n [] none = refl
+none_comes n (f ∷ fs) none =
+    let parts = or_parts (number f == n) (list_any (λ f. number f == n) fs) none in
+    (λ k. by (nat_lt (number f) 256) parts.0 k || none_comes n fs parts.1 k)
+  where
+    by : (b : Bool) → (number f == n) ≡ false
+        → has_shown_number n (cond b (Item.named (number f) []) (Item.as_is [] 0 [])) ≡ false
+    by true other = other
+    by false other = refl
 
 -- what is found at a step behind others is what is found there
 last_kept : (s : Step) (ms more : List Member) (held : Held) → last_at s more ≡ Some held
@@ -66,8 +87,8 @@ small_by true row p named = refl
 small_by false row p named = absurd cc
 
 has_small : (n m : ℕ) → nat_lt m 256 ≡ true → (m == n) ≡ true
-    → has_number n (cond (nat_lt m 256) (Item.named m []) (Item.as_is [] 0 [])) ≡ true
-has_small n m small same = ap (λ b. has_number n (cond b (Item.named m []) (Item.as_is [] 0 []))) small ∙ same
+    → has_shown_number n (cond (nat_lt m 256) (Item.named m []) (Item.as_is [] 0 [])) ≡ true
+has_small n m small same = ap (λ b. has_shown_number n (cond b (Item.named m []) (Item.as_is [] 0 []))) small ∙ same
 
 module _ (r : Reading) (list : Shape) (names : HasNamesApart r.around list) where
   abbrev row : Frame → Known
@@ -84,9 +105,8 @@ module _ (r : Reading) (list : Shape) (names : HasNamesApart r.around list) wher
       → comes (Step.name (row f).0) (named_in r list gs) ≡ false
   none_named f named [] none = refl
   none_named f named (g ∷ gs) none =
-      let parts = or_parts (has_number (number f) (by_number g)) (comes_in (number f) (map by_number gs)) none in
-      by (is_passed r.is_state list (number g)) (kept g) refl (is_text (row g).0 (row f).0) refl parts.0
-      (none_named f named gs parts.1)
+      let parts = or_parts (has_shown_number (number f) (by_number g)) (comes_in (number f) (map by_number gs)) none in
+      by (kept g) refl (is_text (row g).0 (row f).0) refl parts.0 (none_named f named gs parts.1)
     where
       behind : List Member
       behind = named_in r list gs
@@ -94,28 +114,25 @@ module _ (r : Reading) (list : Shape) (names : HasNamesApart r.around list) wher
       same_number : (number f == number f) ≡ true
       same_number = eq-eqb (number f) (number f) refl
 
-      by : (passed b : Bool) → kept g ≡ b → (same : Bool) → is_text (row g).0 (row f).0 ≡ same
-          → has_number (number f) (by_number g) ≡ false → comes (Step.name (row f).0) behind ≡ false
-          → comes (Step.name (row f).0)
-          (cond passed [] (cond b [] ((Step.name (row g).0, held_of r list g) ∷ [])) ++ behind) ≡ false
-      by true b is same text lacks later = later
-      by false true is same text lacks later = later
-      by false false is false text lacks later =
+      by : (b : Bool) → kept g ≡ b → (same : Bool) → is_text (row g).0 (row f).0 ≡ same
+          → has_shown_number (number f) (by_number g) ≡ false → comes (Step.name (row f).0) behind ≡ false
+          → comes (Step.name (row f).0) (cond b [] ((Step.name (row g).0, held_of r list g) ∷ []) ++ behind) ≡ false
+      by true is same text lacks later = later
+      by false is false text lacks later =
           ap (λ b. cond b true (comes (Step.name (row f).0) behind)) text ∙ later
-      by false false is true text lacks later =
+      by false is true text lacks later =
           let one : number g ≡ number f =
           names (number g) (number f) g.payload f.payload is named (text_same (row g).0 (row f).0 text) in
-          let has : has_number (number f) (by_number g) ≡ true =
+          let has : has_shown_number (number f) (by_number g) ≡ true =
           has_small (number f) (number g) (small g is) (ap (λ k. k == number f) one ∙ same_number) in
           let clash : true ≡ false = sym has ∙ lacks in
           absurd cc
 
-  -- one that stands there is what is found under its name
-  found_there : (f : Frame) → is_passed r.is_state list (number f) ≡ false → kept f ≡ false
-      → (fs : List Frame) (g : Frame) (gs : List Frame) → number g ≡ number f → g.payload ≡ f.payload
-      → are_any (earlier_ones (map by_number (fs ++ g ∷ gs))) ≡ false
-      → last_at (Step.name (row f).0) (named_in r list (fs ++ g ∷ gs)) ≡ Some (held_of r list f)
-  found_there f told named fs g gs one same once = in_front fs
+  -- one of its number is what is found under its name
+  found_there : (f : Frame) → kept f ≡ false → (fs : List Frame) (g : Frame) (gs : List Frame)
+      → number g ≡ number f → kept g ≡ false → are_any (earlier_ones (map by_number (fs ++ g ∷ gs))) ≡ false
+      → last_at (Step.name (row f).0) (named_in r list (fs ++ g ∷ gs)) ≡ Some (held_of r list g)
+  found_there f named fs g gs one there once = in_front fs
     where
       s : Step
       s = Step.name (row f).0
@@ -123,16 +140,10 @@ module _ (r : Reading) (list : Shape) (names : HasNamesApart r.around list) wher
       behind : List Member
       behind = named_in r list gs
 
-      one_member : frame_member r list g ≡ (s, held_of r list f) ∷ []
+      one_member : frame_member r list g ≡ (s, held_of r list g) ∷ []
       one_member =
-          (λ k. cond (is_passed r.is_state list (one k)) []
-          (cond (is_kept (row_in r.around list (one k)).1 (same k)) []
-          ((
-            Step.name (row_in r.around list (one k)).0,
-            held_by r (action_in r.is_state list (one k)) (row_in r.around list (one k)).1 (same k),
-          ) ∷ [])))
-          ∙ ap (λ b. cond b [] (cond (kept f) [] ((s, held_of r list f) ∷ []))) told
-          ∙ ap (λ b. cond b [] ((s, held_of r list f) ∷ [])) named
+          ap (λ b. cond b [] ((Step.name (row g).0, held_of r list g) ∷ [])) there
+          ∙ (λ k. (Step.name (row_in r.around list (one k)).0, held_of r list g) ∷ [])
 
       none : comes s behind ≡ false
       none = none_named f named gs
@@ -142,69 +153,192 @@ module _ (r : Reading) (list : Shape) (names : HasNamesApart r.around list) wher
       lacking : last_at s behind ≡ None
       lacking = sym (found_last s behind) ∙ find_none s behind none
 
-      here : last_at s (named_in r list (g ∷ gs)) ≡ Some (held_of r list f)
+      here : last_at s (named_in r list (g ∷ gs)) ≡ Some (held_of r list g)
       here =
           ap (λ ms. last_at s (ms ++ behind)) one_member
-          ∙ (λ k. or_else (lacking k) (cond (text_is (row f).0 k) (Some (held_of r list f)) None))
+          ∙ (λ k. or_else (lacking k) (cond (text_is (row f).0 k) (Some (held_of r list g)) None))
 
-      in_front : (xs : List Frame) → last_at s (named_in r list (xs ++ g ∷ gs)) ≡ Some (held_of r list f)
+      in_front : (xs : List Frame) → last_at s (named_in r list (xs ++ g ∷ gs)) ≡ Some (held_of r list g)
       in_front [] = here
       in_front (x ∷ xs) =
-          last_kept s (frame_member r list x) (named_in r list (xs ++ g ∷ gs)) (held_of r list f) (in_front xs)
+          last_kept s (frame_member r list x) (named_in r list (xs ++ g ∷ gs)) (held_of r list g) (in_front xs)
+
+  -- and where there is none, nothing is
+  found_nothing : (f : Frame) → kept f ≡ false → (gs : List Frame)
+      → list_any (λ g. number g == number f) gs ≡ false
+      → last_at (Step.name (row f).0) (named_in r list gs) ≡ None
+  found_nothing f named gs none =
+      sym (found_last (Step.name (row f).0) (named_in r list gs))
+      ∙ find_none (Step.name (row f).0) (named_in r list gs)
+      (none_named f named gs (none_comes (number f) gs none))
+
+  -- no attribute of a list in which no number stands twice has another one of its name behind it
+  none_earlier : (fs : List Frame) → are_any (earlier_ones (map by_number fs)) ≡ false
+      → earlier (named_in r list fs) ≡ []
+  none_earlier [] once = refl
+  none_earlier (f ∷ fs) once =
+      further r list f fs
+      ∙ (λ k. by (kept f) refl k ++ none_earlier fs (once_behind f (map by_number fs) once) k)
+    where
+      name : Step
+      name = Step.name (row f).0
+
+      by : (b : Bool) → kept f ≡ b
+          → cond b [] (cond (comes name (named_in r list fs)) (alone (name, held_of r list f) ∷ []) []) ≡ []
+      by true is = refl
+      by false is = ap (λ b. cond b (alone (name, held_of r list f) ∷ []) [])
+          (none_named f is fs (none_behind [] f fs (small f is) once))
 
 -- ** what it tells
 
-module _ (nest : Showing) (inner : Holding) (apart : HoldsApart inner) (is_state : Bool) (side : Side)
-    (text : List ℕ) (behind others : Attributes) (f : Frame)
-    (there : StandsOnce behind others (number f) f.payload) where
+abbrev kept_beside : Reading → Shape → Option Frame → Bool
+kept_beside r list None = false
+kept_beside r list (Some g) = is_kept (row_in r.around list (number g)).1 g.payload
+
+module _ (nest : Showing) (inner : Holding) (is_state : Bool) (side : Side) (text : List ℕ)
+    (behind others : Attributes) (alike : AreAlike behind others) (f : Frame) where
   abbrev r : Reading
   r = reading_at nest inner is_state behind.around.now
+
+  abbrev s : Reading
+  s = reading_at nest inner is_state others.around.now
 
   abbrev name : List ℕ
   name = (row_in behind.around.now behind.list (number f)).0
 
+  abbrev ms : List Member
+  ms = named_at nest inner is_state behind
+
   abbrev all : Forest
   all = forest (named_at nest inner is_state others)
 
-  found : is_passed is_state behind.list (number f) ≡ false
-      → is_kept (row_in behind.around.now behind.list (number f)).1 f.payload ≡ false
-      → find (Step.name name) all ≡ Some (held_of r behind.list f)
-  found told named =
-      let stands = there.2 in
-      let frames = stands.3 in
-      let members : named_at nest inner is_state others
-      ≡ named_in r behind.list (stands.0 ++ stands.1 ∷ stands.2) =
-      (λ k. named_in (reading_at nest inner is_state (sym there.0.0 k)) (sym there.0.1 k) (frames k)) in
-      ap (λ ms. find (Step.name name) (forest ms)) members
-      ∙ found_last (Step.name name) (named_in r behind.list (stands.0 ++ stands.1 ∷ stands.2))
-      ∙ found_there r behind.list (there.0.2 behind.list) f told named stands.0 stands.1 stands.2 stands.4 stands.5
-      (ap (λ fs. are_any (earlier_ones (map by_number fs))) (sym frames) ∙ there.1)
+  -- what is found by the rows of this list
+  found_by : (fs : List Frame) → frames_in (items others.bytes.now) ≡ fs
+      → find (Step.name name) all ≡ last_at (Step.name name) (named_in r behind.list fs)
+  found_by fs is =
+      (λ k. find (Step.name name)
+      (forest (named_in (reading_at nest inner is_state (sym alike.0 k)) (sym alike.1 k) (is k))))
+      ∙ found_last (Step.name name) (named_in r behind.list fs)
 
-  held_apart : AreApart (held_of r behind.list f).1
-  held_apart = way_apart (inner is_state behind.around.now) behind.around.now
-      (action_in is_state behind.list (number f)) (row_in behind.around.now behind.list (number f)).1 f.payload
-      (apart is_state behind.around.now)
+  -- beside the one of its number
+  found_beside : is_kept (row_in behind.around.now behind.list (number f)).1 f.payload ≡ false
+      → are_twice (items others.bytes.now) ≡ false → (beside : Option Frame)
+      → IsOfNumber (number f) others.bytes.now beside → kept_beside r behind.list beside ≡ false
+      → find (Step.name name) all ≡ option_map (held_of r behind.list) beside
+  found_beside named once None none kept =
+      found_by (frames_in (items others.bytes.now)) refl
+      ∙ found_nothing r behind.list (alike.2 behind.list) f named (frames_in (items others.bytes.now)) none
+  found_beside named once (Some g) one kept =
+      found_by (one.0 ++ g ∷ one.1) one.2
+      ∙ found_there r behind.list (alike.2 behind.list) f named one.0 g one.1 one.3 kept
+      (ap (λ fs. are_any (earlier_ones (map by_number fs))) (sym one.2) ∙ once)
 
-  untold : frame_items side text r behind.list all (named_at nest inner is_state behind) f ≡ []
-  untold = by (is_passed is_state behind.list (number f)) refl
-      (is_kept (row_in behind.around.now behind.list (number f)).1 f.payload) refl
-    where
-      ms : List Member
-      ms = named_at nest inner is_state behind
+  single_told : is_kept (row_in behind.around.now behind.list (number f)).1 f.payload ≡ false
+      → NoneBehind f behind → are_twice (items others.bytes.now) ≡ false → (beside : Option Frame)
+      → IsOfNumber (number f) others.bytes.now beside → kept_beside r behind.list beside ≡ false
+      → frame_items side text r behind.list all ms f
+      ≡ held_items side (joined text name) (held_of r behind.list f) (option_map (held_of r behind.list) beside)
+  single_told named none once beside one kept =
+      ap (λ b. cond b []
+      (last_items side text ms (Step.name name, held_of r behind.list f) (find (Step.name name) all))) named
+      ∙ ap (λ b. cond b [] (held_items side (joined text name) (held_of r behind.list f) (find (Step.name name) all)))
+      (none_named r behind.list (alike.2 behind.list) f named (frames_in (items behind.bytes.now))
+      (none (small r behind.list (alike.2 behind.list) f named)))
+      ∙ ap (held_items side (joined text name) (held_of r behind.list f)) (found_beside named once beside one kept)
 
-      by : (passed : Bool) → is_passed is_state behind.list (number f) ≡ passed
-          → (kept : Bool) → is_kept (row_in behind.around.now behind.list (number f)).1 f.payload ≡ kept
-          → cond passed [] (cond kept []
-          (last_items side text ms (Step.name name, held_of r behind.list f) (find (Step.name name) all))) ≡ []
-      by true told kept named = refl
-      by false told true named = refl
-      by false told false named =
-          last_same side text ms (Step.name name, held_of r behind.list f) (find (Step.name name) all) held_apart
-          (found told named)
+  -- the same, as attributes of both lists
+  kept_same : (there : Option Attribute) (beside : Option Frame) → IfSome there (IsOf others)
+      → AreOfFrame there beside → is_kept_there there ≡ false → kept_beside r behind.list beside ≡ false
+  kept_same None None of frame kept = refl
+  kept_same None (Some g) of frame kept = absurd frame
+  kept_same (Some a) None of frame kept = absurd frame
+  kept_same (Some a) (Some g) of frame kept =
+      (λ k. is_kept (row_in (alike.0 k) (alike.1 k) (sym frame.0 k)).1 (sym frame.1 k))
+      ∙ ap (λ w. is_kept w a.payload.now) (sym of.2) ∙ kept
 
-  pub there_page : (page : Draft) → page ≡ with_members
-      (objects (frame_items side text r behind.list all (named_at nest inner is_state behind) f)) page
-  there_page page = sym (ap (λ os. with_members (objects os) page) untold)
+  held_same_too : (beside : Option Frame)
+      → option_map (held_of s others.list) beside ≡ option_map (held_of r behind.list) beside
+  held_same_too beside =
+      (λ k. option_map (held_of (reading_at nest inner is_state (sym alike.0 k)) (sym alike.1 k)) beside)
+
+  pub single_page : (own : Attribute) (there : Option Attribute) (beside : Option Frame) (page new : Draft)
+      → IsOf behind own → own.number ≡ number f → own.payload.now ≡ f.payload
+      → held_at nest inner is_state own ≡ held_of r behind.list f
+      → option_map (held_at nest inner is_state) there ≡ option_map (held_of s others.list) beside
+      → IfSome there (IsOf others) → AreOfFrame there beside
+      → is_kept own.way own.payload.now ≡ false → is_kept_there there ≡ false
+      → NoneBehind f behind → are_twice (items others.bytes.now) ≡ false → IsOfNumber (number f) others.bytes.now beside
+      → (told : List ℕ) → told ≡ (row_in behind.around.now behind.list own.number).0
+      → new ≡ with_members (objects (held_items side (joined text told) (held_at nest inner is_state own)
+      (option_map (held_at nest inner is_state) there))) page
+      → new ≡ with_members (objects (frame_items side text r behind.list all ms f)) page
+  single_page own there beside page new of number_is payload held held_there of_too frame kept kept_too none once one
+      told named is =
+      let own_kept : is_kept (row_in behind.around.now behind.list (number f)).1 f.payload ≡ false =
+      (λ k. is_kept (row_in behind.around.now behind.list (sym number_is k)).1 (sym payload k))
+      ∙ ap (λ w. is_kept w own.payload.now) (sym of.2) ∙ kept in
+      is
+      ∙ (λ k. with_members (objects (held_items side
+      (joined text ((named ∙ ap (λ n. (row_in behind.around.now behind.list n).0) number_is) k)) (held k)
+      ((held_there ∙ held_same_too beside) k))) page)
+      ∙ ap (λ os. with_members (objects os) page)
+      (sym (single_told own_kept none once beside one (kept_same there beside of_too frame kept_too)))
+
+  -- one that stands there as it is tells nothing
+  module _ (apart : HoldsApart inner) where
+    own_apart : AreApart (held_of r behind.list f).1
+    own_apart = held_apart (inner is_state behind.around.now) behind.around.now
+        (action_in is_state behind.list (number f)) (row_in behind.around.now behind.list (number f)).1 f.payload
+        (apart is_state behind.around.now)
+
+    same_frame : (g : Frame) → number g ≡ number f → g.payload ≡ f.payload
+        → held_of r behind.list g ≡ held_of r behind.list f
+    same_frame g one same = (λ k. held_by r (action_in is_state behind.list (one k))
+        (row_in behind.around.now behind.list (one k)).1 (same k))
+
+    untold : (g : Frame) → are_twice (items others.bytes.now) ≡ false
+        → IsOfNumber (number f) others.bytes.now (Some g) → g.payload ≡ f.payload
+        → frame_items side text r behind.list all ms f ≡ []
+    untold g once one same =
+        by (is_kept (row_in behind.around.now behind.list (number f)).1 f.payload) refl
+      where
+        by : (kept : Bool) → is_kept (row_in behind.around.now behind.list (number f)).1 f.payload ≡ kept
+            → cond kept []
+            (last_items side text ms (Step.name name, held_of r behind.list f) (find (Step.name name) all)) ≡ []
+        by true named = refl
+        by false named =
+            last_same side text ms (Step.name name, held_of r behind.list f) (find (Step.name name) all) own_apart
+            (found_beside named once (Some g) one
+            ((λ k. is_kept (row_in behind.around.now behind.list (one.3 k)).1 (same k)) ∙ named)
+            ∙ ap Some (same_frame g one.3 same))
+
+    pub there_page : (beside : Option Frame) (page : Draft) → are_twice (items others.bytes.now) ≡ false
+        → IsOfNumber (number f) others.bytes.now beside → is_there f.payload beside ≡ true
+        → page ≡ with_members (objects (frame_items side text r behind.list all ms f)) page
+    there_page None page once one there = absurd cc
+    there_page (Some g) page once one there =
+        sym (ap (λ os. with_members (objects os) page)
+        (untold g once one (sym (text_same f.payload g.payload there))))
+
+-- another one of its number has the row of this one
+pub rows_beside : (behind others : Attributes) (own : Attribute) (there : Option Attribute) (f : Frame)
+    (beside : Option Frame) → IsOf behind own → IfSome there (IsOf others) → AreAlike behind others
+    → own.number ≡ number f → AreOfFrame there beside → IsOfNumber (number f) others.bytes.now beside
+    → HasRowOf own there
+rows_beside behind others own there f beside of too alike is frame found =
+    rows_same behind others own there true of too (λ h. alike) (by there beside frame found)
+  where
+    by : (there : Option Attribute) (beside : Option Frame) → AreOfFrame there beside
+        → IsOfNumber (number f) others.bytes.now beside → has_number own.number there ≡ true
+    by None beside frame found = refl
+    by (Some a) None frame found = absurd frame
+    by (Some a) (Some g) frame found = eq-eqb a.number own.number (frame.0 ∙ found.3 ∙ sym is)
+
+pub none_again : (nest : Showing) (inner : Holding) (is_state : Bool) (own : Attributes) → HasNames own.around.now
+    → are_twice (items own.bytes.now) ≡ false → earlier_at nest inner is_state own ≡ []
+none_again nest inner is_state own names once =
+    none_earlier (reading_at nest inner is_state own.around.now) own.list (names own.list)
+    (frames_in (items own.bytes.now)) once
 
 -- ** where it stands
 
@@ -217,21 +351,41 @@ tail_behind whole bytes next f rest tail here left = (
       ∙ ap (λ xs. (tail.0 ++ f ∷ []) ++ frames_in xs) (sym left),
 )
 
-pub stands_first : (n : ℕ) (p whole found : List ℕ) → IsTail whole found
-    → is_first n p (frames_in (items found)) ≡ true → Stands n p whole
-stands_first n p whole found tail first = by (frames_in (items found)) refl first
+pub other_number : (a b : ℕ) → (a ≡ b → ⊥) → (a == b) ≡ false
+other_number a b other = by (a == b) refl
   where
-    by : (gs : List Frame) → frames_in (items found) ≡ gs → is_first n p gs ≡ true → Stands n p whole
-    by [] is h = absurd cc
-    by (g ∷ gs) is h =
-        let parts = and_both (number g == n) (is_text p g.payload) h in (
-          tail.0,
-          g,
-          gs,
-          tail.1 ∙ ap (λ xs. tail.0 ++ xs) is,
-          eqb-true (number g) n parts.0,
-          sym (text_same p g.payload parts.1),
-        )
+    by : (same : Bool) → (a == b) ≡ same → same ≡ false
+    by false is = refl
+    by true is = absurd (other (eqb-true a b is))
+
+-- one more in front
+pub passed_one : (all : List ℕ) (fs : List Frame) (f : Frame) (it next : List Read)
+    → frames_in (items all) ≡ fs ++ frames_in it → it ≡ Ok f ∷ next
+    → frames_in (items all) ≡ (fs ++ f ∷ []) ++ frames_in next
+passed_one all fs f it next is here =
+    is ∙ ap (λ xs. fs ++ frames_in xs) here ∙ sym (append_assoc fs (f ∷ []) (frames_in next))
+
+-- none of those in front has a number, nor does the next one
+pub none_further : (n : ℕ) (fs : List Frame) (f : Frame) → list_any (λ g. number g == n) fs ≡ false
+    → (number f == n) ≡ false → list_any (λ g. number g == n) (fs ++ f ∷ []) ≡ false
+none_further n [] f none other = ap (λ b. b || false) other
+none_further n (g ∷ fs) f none other =
+    let parts = or_parts (number g == n) (list_any (λ g. number g == n) fs) none in
+    (λ k. parts.0 k || none_further n fs f parts.1 other k)
+
+-- none behind the first of what is left of a list
+pub none_left : (whole next : List ℕ) (behind : Attributes) (f : Frame) (rest : List Read) (tail : IsTail whole next)
+    → items next ≡ Ok f ∷ rest → items behind.bytes.now ≡ rest → are_twice (items whole) ≡ false → NoneBehind f behind
+none_left whole next behind f rest tail here left once small =
+    ap (λ xs. comes_in (number f) (map by_number (frames_in xs))) left
+    ∙ none_behind tail.0 f (frames_in rest) small
+    (ap (λ fs. are_any (earlier_ones (map by_number fs)))
+    (sym (tail.1 ∙ ap (λ xs. tail.0 ++ frames_in xs) here)) ∙ once)
+
+pub found_first : (n : ℕ) (whole found : List ℕ) (f : Frame) (rest : List Read) → IsTail whole found
+    → items found ≡ Ok f ∷ rest → number f ≡ n → IsOfNumber n whole (Some f)
+found_first n whole found f rest tail here is =
+    (tail.0, frames_in rest, tail.1 ∙ ap (λ xs. tail.0 ++ frames_in xs) here, is)
 
 pub all_tail : (whole : List ℕ) → IsTail whole whole
 all_tail whole = ([], refl)

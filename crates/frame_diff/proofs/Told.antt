@@ -1,68 +1,146 @@
 -- What two messages tell.
-use Rattle.std.proofs.Common.{◌≡◌, ℕ, Bool, true, false, List, [], ◌++◌, refl, sym, ap, ◌∙◌, drop, map, subst}
-use Rattle.std.specs.Prelude.{◌&&◌, ◌==◌, slice_index}
+use Rattle.std.proofs.Common.{◌≡◌, ℕ, Bool, true, false, List, [], ◌++◌, refl, sym, ap, ◌∙◌, map, subst}
+use Rattle.std.specs.Prelude.{◌&&◌, ◌==◌, codes, slice_index}
 use Rattle.std.proofs.Common.{eqb-true}
 use Rattle.std.proofs.lemmas.List.{map-append}
+use Rattle.nla_wire.specs.Frames.{Frame}
 use Rattle.nla_wire.specs.Items.{items}
+use Rattle.nla_wire.proofs.Items.{items_nil}
 use Rattle.link_info.specs.Rows.{AreAllRows}
 use Rattle.link_info.specs.Tables.{frames_in}
-use Rattle.shown.specs.Drafts.{Draft, with_members}
+use Rattle.shown.specs.Drafts.{Draft, Members, with_members}
+use Rattle.frame_shown.specs.Frames.{levels}
 use Rattle.frame_shown.specs.Items.{objects}
 use Rattle.frame_shown.specs.Messages.{address_len, header_members, with_address_len}
 use Rattle.frame_shown.specs.declared.form.Around.{Around}
 use Rattle.frame_shown.specs.declared.form.List.TheVariants as Shapes
 use Rattle.frame_diff.specs.Differences.{told}
-use Rattle.frame_diff.specs.Forests.{forest}
+use Rattle.frame_diff.specs.Forests.{Member, forest, left_of}
 use Rattle.frame_diff.specs.Items.{change_item, items_told}
 use Rattle.frame_diff.specs.Laws.{messages_told}
-use Rattle.frame_diff.specs.Members.{attributes_in, fields, members_in, message_forest, message_members, named}
-use Rattle.frame_diff.specs.Members.{reading}
+use Rattle.frame_diff.specs.Members.{Parts, Reading, attributes_in, fields, members_in, message_forest}
+use Rattle.frame_diff.specs.Members.{is_some, list_members, message_members, named, reading, refused_in}
+use Rattle.frame_diff.specs.Members.{refused_step, unless_none}
 use Rattle.frame_diff.specs.Walked.{HasNames}
 use Rattle.frame_diff.specs.declared.side.Side.{Side}
 use Rattle.frame_diff.specs.declared.side.Side.TheVariants.{Old, New}
-use Rattle.frame_diff.proofs.Classes.{no_field_comes, no_member_comes}
 use Rattle.frame_diff.proofs.Entries.{both_told}
+use Rattle.frame_diff.proofs.Inside.{same_written}
 use Rattle.frame_diff.proofs.Items.{items_are}
 use Rattle.frame_diff.proofs.Names.{names_apart}
-use Rattle.frame_diff.proofs.Parts.{both_parts}
+use Rattle.frame_diff.proofs.Parts.{NoneComes, both_lack, both_parts, lacks_both, unless_told}
+use Rattle.frame_diff.proofs.Sorts.{AreOf, members_sort, named_sort, refused_sort, sorts_apart}
 
 -- ** one beside the other
 
-module _ (is_state : Bool) (cx theirs : Around) (side : Side) (own others : List ℕ) where
+module _ (is_state : Bool) (cx theirs : Around) (side : Side) (own others : Parts) where
+  abbrev frames_of : Parts → List Frame
+  frames_of m = frames_in (items m.attributes)
+
+  abbrev reading_of : Around → Parts → Reading
+  reading_of around m = reading 5 is_state (with_address_len around (address_len (frames_of m)))
+
+  abbrev attributes_of : Around → Parts → List Member
+  attributes_of around m = attributes_in is_state around (slice_index m.header 0) m.attributes
+
+  attributes_sort : (around : Around) (m : Parts) → AreOf 0 (attributes_of around m)
+  attributes_sort around m = members_sort (reading_of around m) (Shapes.Message (slice_index m.header 0)) (frames_of m)
+
+  lists_told : items_told side [] (forest (attributes_of cx own ++ refused_in is_state cx own.refused))
+      (forest (attributes_of theirs others ++ refused_in is_state theirs others.refused))
+      ≡ items_told side [] (forest (attributes_of cx own)) (forest (attributes_of theirs others))
+      ++ items_told side [] (forest (refused_in is_state cx own.refused))
+      (forest (refused_in is_state theirs others.refused))
+  lists_told =
+      let a = attributes_of cx own in
+      let b = attributes_of theirs others in
+      let r = refused_in is_state cx own.refused in
+      let s = refused_in is_state theirs others.refused in
+      both_parts side [] a r b s
+      (sorts_apart 0 5 refl a r (attributes_sort cx own) (refused_sort is_state cx own.refused))
+      (sorts_apart 0 5 refl a s (attributes_sort cx own) (refused_sort is_state theirs others.refused))
+      (sorts_apart 5 0 refl r b (refused_sort is_state cx own.refused) (attributes_sort theirs others))
+
+  lists_lack : (around : Around) (m : Parts) (ms : Members)
+      → NoneComes (named ms) (attributes_of around m ++ refused_in is_state around m.refused)
+  lists_lack around m ms =
+      lacks_both (named ms) (attributes_of around m) (refused_in is_state around m.refused)
+      (sorts_apart 1 0 refl (named ms) (attributes_of around m) (named_sort ms) (attributes_sort around m))
+      (sorts_apart 1 5 refl (named ms) (refused_in is_state around m.refused) (named_sort ms)
+      (refused_sort is_state around m.refused))
+
+  fields_lack : (ms : Members)
+      → NoneComes (attributes_of cx own ++ refused_in is_state cx own.refused) (named ms)
+  fields_lack ms =
+      both_lack (attributes_of cx own) (refused_in is_state cx own.refused) (named ms)
+      (sorts_apart 0 1 refl (attributes_of cx own) (named ms) (attributes_sort cx own) (named_sort ms))
+      (sorts_apart 5 1 refl (refused_in is_state cx own.refused) (named ms) (refused_sort is_state cx own.refused)
+      (named_sort ms))
+
   parts_told : items_told side [] (message_forest is_state cx own) (message_forest is_state theirs others)
-      ≡ items_told side [] (fields (header_members own)) (fields (header_members others))
-      ++ items_told side [] (forest (attributes_in is_state cx (slice_index own 0) (drop 16 own)))
-      (forest (attributes_in is_state theirs (slice_index others 0) (drop 16 others)))
+      ≡ items_told side [] (fields (header_members own.header)) (fields (header_members others.header))
+      ++ (items_told side [] (forest (attributes_of cx own)) (forest (attributes_of theirs others))
+      ++ items_told side [] (forest (refused_in is_state cx own.refused))
+      (forest (refused_in is_state theirs others.refused)))
   unfolding message_members
   parts_told =
-      let fs = frames_in (items (drop 16 own)) in
-      let gs = frames_in (items (drop 16 others)) in
-      let r = reading 5 is_state (with_address_len cx (address_len fs)) in
-      let s = reading 5 is_state (with_address_len theirs (address_len gs)) in
-      both_parts side [] (named (header_members own))
-      (attributes_in is_state cx (slice_index own 0) (drop 16 own))
-      (named (header_members others)) (attributes_in is_state theirs (slice_index others 0) (drop 16 others))
-      (no_field_comes r (Shapes.Message (slice_index own 0)) fs (header_members own))
-      (no_field_comes s (Shapes.Message (slice_index others 0)) gs (header_members own))
-      (no_member_comes r (Shapes.Message (slice_index own 0)) fs (header_members others))
+      both_parts side [] (named (header_members own.header))
+      (attributes_of cx own ++ refused_in is_state cx own.refused)
+      (named (header_members others.header))
+      (attributes_of theirs others ++ refused_in is_state theirs others.refused)
+      (lists_lack cx own (header_members own.header)) (lists_lack theirs others (header_members own.header))
+      (fields_lack (header_members others.header))
+      ∙ ap (λ l. items_told side [] (fields (header_members own.header)) (fields (header_members others.header)) ++ l)
+      lists_told
 
-  pub side_told : (page middle new : Draft)
-      → middle ≡ with_members (objects (items_told side [] (fields (header_members own))
-      (fields (header_members others)))) page
-      → new ≡ with_members (objects (items_told side []
-      (forest (attributes_in is_state cx (slice_index own 0) (drop 16 own)))
-      (forest (attributes_in is_state theirs (slice_index others 0) (drop 16 others))))) middle
+  pub side_told : (page middle further new : Draft)
+      → middle ≡ with_members (objects (items_told side [] (fields (header_members own.header))
+      (fields (header_members others.header)))) page
+      → further ≡ with_members (objects (items_told side [] (forest (attributes_of cx own))
+      (forest (attributes_of theirs others)))) middle
+      → new ≡ with_members (objects (items_told side [] (forest (refused_in is_state cx own.refused))
+      (forest (refused_in is_state theirs others.refused)))) further
       → new ≡ with_members (objects (items_told side [] (message_forest is_state cx own)
       (message_forest is_state theirs others))) page
-  side_told page middle new first last =
-      both_told (items_told side [] (fields (header_members own)) (fields (header_members others)))
-      (items_told side [] (forest (attributes_in is_state cx (slice_index own 0) (drop 16 own)))
-      (forest (attributes_in is_state theirs (slice_index others 0) (drop 16 others)))) page middle new first last
+  side_told page middle further new first then last =
+      let header = items_told side [] (fields (header_members own.header)) (fields (header_members others.header)) in
+      let accepted = items_told side [] (forest (attributes_of cx own)) (forest (attributes_of theirs others)) in
+      let refused = items_told side [] (forest (refused_in is_state cx own.refused))
+      (forest (refused_in is_state theirs others.refused)) in
+      both_told header (accepted ++ refused) page middle new first
+      (both_told accepted refused middle further new then last)
       ∙ ap (λ os. with_members (objects os) page) (sym parts_told)
+
+-- ** those that are refused
+
+pub refused_none : (is_state : Bool) (cx : Around) (bytes : List ℕ) → bytes ≡ []
+    → refused_in is_state cx bytes ≡ []
+refused_none is_state cx bytes none =
+    ap (refused_in is_state cx) none
+    ∙ ap (λ xs. unless_none refused_step (levels 1 cx Shapes.Refused []) (left_of (is_some (frames_in xs))
+    (list_members (reading 0 is_state cx) Shapes.Refused (frames_in xs)))) items_nil
+
+pub refused_silent : (side : Side) (is_state : Bool) (cx theirs : Around) (own others : List ℕ) (page : Draft)
+    → own ≡ []
+    → page ≡ with_members (objects (items_told side [] (forest (refused_in is_state cx own))
+    (forest (refused_in is_state theirs others)))) page
+refused_silent side is_state cx theirs own others page none =
+    sym (ap (λ ms. with_members (objects (items_told side [] (forest ms)
+    (forest (refused_in is_state theirs others)))) page) (refused_none is_state cx own none))
+
+pub refused_told : (side : Side) (is_state : Bool) (cx theirs : Around) (own others : List ℕ) (page new : Draft)
+    → new ≡ with_members (objects (items_told side (codes "refused")
+    ((reading 1 is_state cx).inner Shapes.Refused own) ((reading 1 is_state theirs).inner Shapes.Refused others))) page
+    → new ≡ with_members (objects (items_told side [] (forest (refused_in is_state cx own))
+    (forest (refused_in is_state theirs others)))) page
+refused_told side is_state cx theirs own others page new =
+    same_written _ _ page new
+    (sym (unless_told side [] refused_step (levels 1 cx Shapes.Refused own) (levels 1 theirs Shapes.Refused others)
+    ((reading 1 is_state cx).inner Shapes.Refused own) ((reading 1 is_state theirs).inner Shapes.Refused others)))
 
 -- ** both
 
-pub messages_written : (is_state : Bool) (cx other : Around) (old new : List ℕ) (page middle last : Draft)
+pub messages_written : (is_state : Bool) (cx other : Around) (old new : Parts) (page middle last : Draft)
     → middle ≡ with_members (objects (items_told Old [] (message_forest is_state cx old)
     (message_forest is_state other new))) page
     → last ≡ with_members (objects (items_told New [] (message_forest is_state other new)

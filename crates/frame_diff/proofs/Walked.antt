@@ -17,12 +17,10 @@ use Rattle.link_info.specs.Tables.{frames_in}
 use Rattle.shown.specs.Drafts.{Draft, object_of, with_members}
 use Rattle.frame_shown.specs.Items.{objects}
 use Rattle.frame_shown.specs.Tables.{is_kept, row_in}
-use Rattle.frame_shown.specs.Values.{Nesting}
-use Rattle.frame_shown.specs.declared.form.Around.{Around}
 use Rattle.frame_shown.specs.declared.form.List.{List as Shape}
 use Rattle.frame_shown.proofs.Items.{on_next}
 use Rattle.frame_diff.specs.Beside.{held_of, is_named}
-use Rattle.frame_diff.specs.Counters.{action_in, is_passed}
+use Rattle.frame_diff.specs.Counters.{action_in}
 use Rattle.frame_diff.specs.Forests.{AreApart, Forest, Held, Member, Step, comes, find, forest, is_text}
 use Rattle.frame_diff.specs.Differences.{text_of}
 use Rattle.frame_diff.specs.Items.{change_item, items_told, joined, leaf_items, step_text, turned_item}
@@ -34,7 +32,7 @@ use Rattle.frame_diff.specs.declared.side.Side.{Side}
 use Rattle.frame_diff.specs.declared.side.Side.TheVariants.{Old, New}
 use Rattle.frame_diff.specs.declared.walk.Attribute.{Attribute}
 use Rattle.frame_diff.specs.declared.walk.Attributes.{Attributes}
-use Rattle.frame_diff.proofs.Apart.{way_apart}
+use Rattle.frame_diff.proofs.Apart.{held_apart as inside_apart}
 use Rattle.frame_diff.proofs.Items.{items_are}
 use Rattle.frame_diff.proofs.Silent.{same_silent}
 use Rattle.frame_diff.proofs.Steps.{text_is, text_same}
@@ -61,27 +59,25 @@ behind_first b f rest n is h =
 -- ** whether another one of a name comes
 
 pub comes_named : (r : Reading) (list : Shape) (name : List ℕ) (fs : List Frame)
-    → list_any (is_named r.is_state r.around list name) fs ≡ comes (Step.name name) (named_in r list fs)
+    → list_any (is_named r.around list name) fs ≡ comes (Step.name name) (named_in r list fs)
 comes_named r list name [] = refl
 comes_named r list name (f ∷ fs) =
-    by (is_passed r.is_state list (number f)) (is_kept (row_in r.around list (number f)).1 f.payload)
-    (is_text (row_in r.around list (number f)).0 name) refl (comes_named r list name fs)
+    by (is_kept (row_in r.around list (number f)).1 f.payload) (is_text (row_in r.around list (number f)).0 name) refl
+    (comes_named r list name fs)
   where
     behind : List Member
     behind = named_in r list fs
 
-    member : Bool → Bool → List Member
-    member passed kept =
-        cond passed [] (cond kept [] ((Step.name (row_in r.around list (number f)).0, held_of r list f) ∷ []))
+    member : Bool → List Member
+    member kept = cond kept [] ((Step.name (row_in r.around list (number f)).0, held_of r list f) ∷ [])
 
-    by : (passed kept same : Bool) → is_text (row_in r.around list (number f)).0 name ≡ same
-        → list_any (is_named r.is_state r.around list name) fs ≡ comes (Step.name name) behind
-        → (not passed && not kept && same || list_any (is_named r.is_state r.around list name) fs)
-        ≡ comes (Step.name name) (member passed kept ++ behind)
-    by true kept same is later = later
-    by false true same is later = later
-    by false false true is later = sym (ap (λ b. cond b true (comes (Step.name name) behind)) is)
-    by false false false is later = later ∙ sym (ap (λ b. cond b true (comes (Step.name name) behind)) is)
+    by : (kept same : Bool) → is_text (row_in r.around list (number f)).0 name ≡ same
+        → list_any (is_named r.around list name) fs ≡ comes (Step.name name) behind
+        → (not kept && same || list_any (is_named r.around list name) fs)
+        ≡ comes (Step.name name) (member kept ++ behind)
+    by true same is later = later
+    by false true is later = sym (ap (λ b. cond b true (comes (Step.name name) behind)) is)
+    by false false is later = later ∙ sym (ap (λ b. cond b true (comes (Step.name name) behind)) is)
 
 -- ** what one attribute tells, and those behind it
 
@@ -103,7 +99,7 @@ pub frame_further : (side : Side) (text : List ℕ) (r : Reading) (list : Shape)
     ≡ frame_items side text r list others (named_in r list fs) f
     ++ items_told side text (forest (named_in r list fs)) others
 frame_further side text r list others f fs =
-    by (is_passed r.is_state list (number f)) (is_kept (row_in r.around list (number f)).1 f.payload)
+    by (is_kept (row_in r.around list (number f)).1 f.payload)
   where
     behind : List Member
     behind = named_in r list fs
@@ -111,13 +107,12 @@ frame_further side text r list others f fs =
     own : Member
     own = (Step.name (row_in r.around list (number f)).0, held_of r list f)
 
-    by : (passed kept : Bool)
-        → items_told side text (forest (cond passed [] (cond kept [] (own ∷ [])) ++ behind)) others
-        ≡ cond passed [] (cond kept [] (last_items side text behind own (find own.0 others)))
+    by : (kept : Bool)
+        → items_told side text (forest (cond kept [] (own ∷ []) ++ behind)) others
+        ≡ cond kept [] (last_items side text behind own (find own.0 others))
         ++ items_told side text (forest behind) others
-    by true kept = refl
-    by false true = refl
-    by false false = last_further side text others own behind
+    by true = refl
+    by false = last_further side text others own behind
 
 pub named_next : (side : Side) (text : List ℕ) (r : Reading) (list : Shape) (others : Forest) (f : Frame)
     (it next : List Item) (here : it ≡ Ok f ∷ next) (left : List ℕ) (page new all : Draft) → items left ≡ next
@@ -172,7 +167,7 @@ module _ (nest : Showing) (inner : Holding) (apart : HoldsApart inner) (is_state
       (action_in is_state (row.1 k) (row.2 k)) (row.3 k) (sym same k))
 
   held_apart : (own : Attribute) → AreApart (held_at nest inner is_state own).1
-  held_apart own = way_apart (inner is_state own.around.now) own.around.now
+  held_apart own = inside_apart (inner is_state own.around.now) own.around.now
       (action_in is_state own.list own.number) own.way own.payload.now (apart is_state own.around.now)
 
   same_untold : (side : Side) (text : List ℕ) (own : Attribute) (beside : Option Attribute) → HasRowOf own beside

@@ -14,8 +14,8 @@ use Rattle.frame_shown.specs.declared.form.List.TheVariants as Shapes
 use Rattle.frame_shown.specs.declared.form.Table.{Table}
 use Rattle.frame_shown.specs.declared.form.Table.TheVariants as Tables
 
--- the rows of the table for a list, where it has any; those of a link's kinds do not depend on the kinds, where a state
--- clears something
+-- the rows of the table for a list, where it has any; where a state clears something, those of a link's kinds do not
+-- depend on the kinds, nor those of attributes that are refused on the family
 abbrev pub place_level : Place → Option Level
 place_level Places.Bridge = Some Levels.Bridge
 place_level Places.BridgeQuerier = Some Levels.Querier
@@ -41,6 +41,7 @@ level_in (Shapes.Entries group) = None
 level_in (Shapes.Of place) = place_level place
 level_in Shapes.ProtoInet6 = Some Levels.Inet6
 level_in (Shapes.Info link port) = Some (Levels.Info Kinds.Other Kinds.Other)
+level_in Shapes.Refused = Some (Levels.Message (address_family_of 0))
 
 abbrev pub action_at : Option Level → ℕ → Action
 action_at None n = Action.Keep

@@ -31,6 +31,7 @@ is_group (Shapes.Message family) = false
 is_group (Shapes.Own table) = false
 is_group (Shapes.Of place) = false
 is_group Shapes.ProtoInet6 = false
+is_group Shapes.Refused = false
 is_group (Shapes.Info link port) = false
 
 -- of these the ones whose values are objects
@@ -41,6 +42,7 @@ is_entries (Shapes.Message family) = false
 is_entries (Shapes.Own table) = false
 is_entries (Shapes.Of place) = false
 is_entries Shapes.ProtoInet6 = false
+is_entries Shapes.Refused = false
 is_entries (Shapes.Info link port) = false
 
 -- the step to the list of values
@@ -51,6 +53,7 @@ group_step (Shapes.Message family) = Step.other
 group_step (Shapes.Own table) = Step.other
 group_step (Shapes.Of place) = Step.other
 group_step Shapes.ProtoInet6 = Step.other
+group_step Shapes.Refused = Step.other
 group_step (Shapes.Info link port) = Step.other
 
 -- lists of values under one name
@@ -71,6 +74,7 @@ group_values r (Shapes.Message family) fs = values_of (named_in r (Shapes.Messag
 group_values r (Shapes.Own table) fs = values_of (named_in r (Shapes.Own table) fs)
 group_values r (Shapes.Of place) fs = values_of (named_in r (Shapes.Of place) fs)
 group_values r Shapes.ProtoInet6 fs = values_of (named_in r Shapes.ProtoInet6 fs)
+group_values r Shapes.Refused fs = values_of (named_in r Shapes.Refused fs)
 group_values r (Shapes.Info link port) fs = values_of (named_in r (Shapes.Info link port) fs)
 
 abbrev pub group_at : Showing → Holding → Bool → Attributes → List (Option Held)
@@ -114,6 +118,7 @@ value_by nest inner is_state (Shapes.Message family) a = held_at nest inner is_s
 value_by nest inner is_state (Shapes.Own table) a = held_at nest inner is_state a
 value_by nest inner is_state (Shapes.Of place) a = held_at nest inner is_state a
 value_by nest inner is_state Shapes.ProtoInet6 a = held_at nest inner is_state a
+value_by nest inner is_state Shapes.Refused a = held_at nest inner is_state a
 value_by nest inner is_state (Shapes.Info link port) a = held_at nest inner is_state a
 
 abbrev pub value_at : Showing → Holding → Bool → Attribute → Held
@@ -132,6 +137,7 @@ values_by r (Shapes.Message family) f = values_of (frame_member r (Shapes.Messag
 values_by r (Shapes.Own table) f = values_of (frame_member r (Shapes.Own table) f)
 values_by r (Shapes.Of place) f = values_of (frame_member r (Shapes.Of place) f)
 values_by r Shapes.ProtoInet6 f = values_of (frame_member r Shapes.ProtoInet6 f)
+values_by r Shapes.Refused f = values_of (frame_member r Shapes.Refused f)
 values_by r (Shapes.Info link port) f = values_of (frame_member r (Shapes.Info link port) f)
 
 -- ** beside each other

@@ -4,11 +4,12 @@ use Rattle.nla_wire.specs.Frames.{Frame, number}
 use Rattle.frame_shown.specs.Tables.{is_kept, row_in}
 use Rattle.frame_shown.specs.declared.form.Around.{Around}
 use Rattle.frame_shown.specs.declared.form.List.{List as Shape}
+use Rattle.frame_diff.specs.Beside.{held_of}
 use Rattle.frame_diff.specs.Counters.{action_at, action_in, is_clear, is_passed, level_in}
 use Rattle.frame_diff.specs.Differences.{Change, both_told, changes, is_told, path_of, told}
 use Rattle.frame_diff.specs.Forests.{AreApart, Forest, Path, Step, leaves}
 use Rattle.frame_diff.specs.Items.{change_item, items_told, path_text}
-use Rattle.frame_diff.specs.Members.{Reading, frame_member, held_by, message_forest}
+use Rattle.frame_diff.specs.Members.{Parts, Reading, frame_member, message_forest, way_inside}
 use Rattle.frame_diff.specs.declared.side.Side.{Side}
 
 abbrev pub WhatDiffersIsTold : Type 0
@@ -35,27 +36,28 @@ ItemsAreChanges = (side : Side) (path : Path) (f g : Forest)
 -- ** of messages
 
 -- what is told of two messages, or of two states: the order of the counters of IPv6 may be known of each
-abbrev pub messages_told : Bool → Around → Around → List ℕ → List ℕ → List Change
+abbrev pub messages_told : Bool → Around → Around → Parts → Parts → List Change
 messages_told is_state cx other old new =
     both_told (message_forest is_state cx old) (message_forest is_state other new)
 
 -- it is what differs between all leaves of both, each path once
 pub record MessagesAreTold : Type 0 where
-  pub all : (is_state : Bool) (cx other : Around) (old new : List ℕ) → messages_told is_state cx other old new
+  pub all : (is_state : Bool) (cx other : Around) (old new : Parts) → messages_told is_state cx other old new
       ≡ changes (leaves (message_forest is_state cx old)) (leaves (message_forest is_state other new))
-  pub once : (is_state : Bool) (cx other : Around) (old new : List ℕ)
+  pub once : (is_state : Bool) (cx other : Around) (old new : Parts)
       → AreOnce (messages_told is_state cx other old new)
-  pub silent : (is_state : Bool) (cx : Around) (bytes : List ℕ) → messages_told is_state cx cx bytes bytes ≡ []
+  pub silent : (is_state : Bool) (cx : Around) (m : Parts) → messages_told is_state cx cx m m ≡ []
 
--- an attribute is passed over exactly where the table clears its number, and then only of a state
+-- an attribute is passed over exactly where the table clears its number, and then only of a state: it has its place,
+-- and no leaf
 pub record CountersArePassed : Type 0 where
-  pub passed : (r : Reading) (list : Shape) (f : Frame) → is_passed r.is_state list (number f) ≡ true
-      → frame_member r list f ≡ []
-  pub told : (r : Reading) (list : Shape) (f : Frame) → is_passed r.is_state list (number f) ≡ false
+  pub member : (r : Reading) (list : Shape) (f : Frame)
       → is_kept (row_in r.around list (number f)).1 f.payload ≡ false
-      → frame_member r list f ≡ (
-        Step.name (row_in r.around list (number f)).0,
-        held_by r (action_in r.is_state list (number f)) (row_in r.around list (number f)).1 f.payload,
-      ) ∷ []
+      → frame_member r list f ≡ (Step.name (row_in r.around list (number f)).0, held_of r list f) ∷ []
+  pub passed : (r : Reading) (list : Shape) (f : Frame) → is_passed r.is_state list (number f) ≡ true
+      → (held_of r list f).1 ≡ Forest.passed
+  pub told : (r : Reading) (list : Shape) (f : Frame) → is_passed r.is_state list (number f) ≡ false
+      → (held_of r list f).1 ≡ way_inside r.inner r.around (action_in r.is_state list (number f))
+      (row_in r.around list (number f)).1 f.payload
   pub whole : (list : Shape) (n : ℕ) → is_passed false list n ≡ false
   pub state : (list : Shape) (n : ℕ) → is_passed true list n ≡ is_clear (action_at (level_in list) n)

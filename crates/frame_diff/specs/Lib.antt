@@ -16,3 +16,4 @@ pub mod Groups
 pub mod Nests
 pub mod Messages
 pub mod Laws
+pub mod Same

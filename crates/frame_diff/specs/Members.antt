@@ -1,7 +1,7 @@
 -- The members of what is shown of a message, by the rows of its frames: the step to each, its value as it is shown, and
 -- those inside it. What a state clears is no member, where states are compared.
 use Rattle.std.specs.Prelude.{ℕ, zero, suc, ◌+◌, ◌==◌, List, [], ◌∷◌, ◌++◌, Bool, true, false, Option, Some, None, cond}
-use Rattle.std.specs.Prelude.{codes, drop, length, map, slice_index}
+use Rattle.std.specs.Prelude.{codes, drop, map, slice_index}
 use Rattle.std.specs.List.{flat_map}
 use Rattle.json.specs.Token.{Token, begin_array, begin_object, end_array, end_object, key, string}
 use Rattle.json.specs.Token.{number as number_token}
@@ -14,15 +14,16 @@ use Rattle.link_info.specs.Styles.{plain_size}
 use Rattle.link_info.specs.Tables.{frames_in}
 use Rattle.link_state.specs.Table.{Action}
 use Rattle.shown.specs.Drafts.{Members, list_of, object_of}
+use Rattle.frame_shown.specs.Accepted.{accepted, refused as not_accepted}
 use Rattle.frame_shown.specs.Frames.{items_in, levels, way_shown}
 use Rattle.frame_shown.specs.Items.{members_of}
 use Rattle.frame_shown.specs.Kept.{frame_members}
 use Rattle.frame_shown.specs.Messages.{address_len, header_members, with_address_len}
 use Rattle.frame_shown.specs.Tables.{Known, entry_list, group_name, is_kept, kind_shown, row_in}
-use Rattle.frame_shown.specs.Values.{Nesting, behind_settings, count_of, counter_names, counter_width, counters_shown}
-use Rattle.frame_shown.specs.Values.{elements_shown, event_in, fields_in, fields_shown, hexadecimal, info_of}
+use Rattle.frame_shown.specs.Values.{Nesting, behind_settings, counter_names, counter_width, counters_shown}
+use Rattle.frame_shown.specs.Values.{event_in, fields_in, fields_shown, hexadecimal, info_of}
 use Rattle.frame_shown.specs.Values.{ipv6_named}
-use Rattle.frame_shown.specs.Values.{payloads_shown, record_shown, setting_names, settings_shown}
+use Rattle.frame_shown.specs.Values.{record_shown, setting_names, settings_shown}
 use Rattle.frame_shown.specs.declared.form.Around.{Around}
 use Rattle.frame_shown.specs.declared.form.Form.{Form}
 use Rattle.frame_shown.specs.declared.form.Form.TheVariants as Forms
@@ -33,7 +34,7 @@ use Rattle.frame_shown.specs.declared.form.Order.{Order}
 use Rattle.frame_shown.specs.declared.form.Order.TheVariants as Orders
 use Rattle.frame_shown.specs.declared.form.Way.{Way}
 use Rattle.frame_shown.specs.declared.form.Way.TheVariants as Ways
-use Rattle.frame_diff.specs.Counters.{action_in, fields_left, is_passed}
+use Rattle.frame_diff.specs.Counters.{action_in, fields_left, is_clear, is_passed}
 use Rattle.frame_diff.specs.Forests.{Forest, Held, Member, Step, comes, entries_step, field_step, forest, left_of}
 use Rattle.frame_diff.specs.Forests.{rest_step, values_step}
 
@@ -143,20 +144,21 @@ pub record Reading : Type 0 where
   pub inner : Inner
   pub around : Around
 
--- a value and the members inside it
+-- the members inside a value: where it moves by itself, it has some, and all are passed over
+abbrev pub held_inside : Inner → Around → Action → Way → List ℕ → Forest
+held_inside inner cx action way p = cond (is_clear action) Forest.passed (way_inside inner cx action way p)
+
 abbrev pub held_by : Reading → Action → Way → List ℕ → Held
-held_by r action way p = (way_shown r.nest r.around way p, way_inside r.inner r.around action way p)
+held_by r action way p = (way_shown r.nest r.around way p, held_inside r.inner r.around action way p)
 
 -- an attribute that has a name
-abbrev pub named_by : Reading → Bool → Action → Known → Frame → List Member
-named_by r is_passed action row f =
-    cond is_passed [] (cond (is_kept row.1 f.payload) []
-    ((Step.name row.0, held_by r action row.1 f.payload) ∷ []))
+abbrev pub named_by : Reading → Action → Known → Frame → List Member
+named_by r action row f =
+    cond (is_kept row.1 f.payload) [] ((Step.name row.0, held_by r action row.1 f.payload) ∷ [])
 
 abbrev pub frame_member : Reading → Shape → Frame → List Member
 frame_member r list f =
-    named_by r (is_passed r.is_state list (number f)) (action_in r.is_state list (number f))
-    (row_in r.around list (number f)) f
+    named_by r (action_in r.is_state list (number f)) (row_in r.around list (number f)) f
 
 abbrev pub named_in : Reading → Shape → List Frame → List Member
 named_in r list fs = flat_map (frame_member r list) fs
@@ -237,6 +239,7 @@ list_members r (Shapes.Message family) fs = members_in r (Shapes.Message family)
 list_members r (Shapes.Own table) fs = members_in r (Shapes.Own table) fs
 list_members r (Shapes.Of place) fs = members_in r (Shapes.Of place) fs
 list_members r Shapes.ProtoInet6 fs = members_in r Shapes.ProtoInet6 fs
+list_members r Shapes.Refused fs = members_in r Shapes.Refused fs
 list_members r (Shapes.Info link port) fs = members_in r (Shapes.Info link port) fs
 
 abbrev pub inner_by : Reading → Inner
@@ -256,10 +259,35 @@ attributes_in is_state cx family bytes =
     let fs = frames_in (items bytes) in
     members_in (reading 5 is_state (with_address_len cx (address_len fs))) (Shapes.Message family) fs
 
--- of a message, or of a state
-unfoldable pub message_members : Bool → Around → List ℕ → List Member
-message_members is_state cx bytes =
-    named (header_members bytes) ++ attributes_in is_state cx (slice_index bytes 0) (drop 16 bytes)
+-- the attributes that are refused, as one member, if there are any
+abbrev pub refused_step : Step
+refused_step = Step.part 4 (codes "refused")
 
-abbrev pub message_forest : Bool → Around → List ℕ → Forest
-message_forest is_state cx bytes = forest (message_members is_state cx bytes)
+abbrev pub refused_in : Bool → Around → List ℕ → List Member
+refused_in is_state cx bytes =
+    unless_none refused_step (levels 1 cx Shapes.Refused bytes) ((reading 1 is_state cx).inner Shapes.Refused bytes)
+
+-- what is compared of a message, or of a state: its header, the attributes that are accepted, and those that are not
+pub record Parts : Type 0 where
+  pub header : List ℕ
+  pub attributes : List ℕ
+  pub refused : List ℕ
+
+unfoldable pub message_members : Bool → Around → Parts → List Member
+message_members is_state cx m =
+    named (header_members m.header) ++ attributes_in is_state cx (slice_index m.header 0) m.attributes
+    ++ refused_in is_state cx m.refused
+
+abbrev pub message_forest : Bool → Around → Parts → Forest
+message_forest is_state cx m = forest (message_members is_state cx m)
+
+-- of bytes that are a message; and of those that are read leniently
+abbrev pub whole : List ℕ → Parts
+whole bytes = record { header = bytes; attributes = drop 16 bytes; refused = [] }
+
+abbrev pub leniently : List ℕ → Parts
+leniently bytes = let family = slice_index bytes 0 in record {
+  header = bytes;
+  attributes = accepted true family (drop 16 bytes);
+  refused = not_accepted family (drop 16 bytes);
+}

@@ -1,5 +1,5 @@
 -- What is told of attributes behind which another one of their name stands: each by its place among those.
-use Rattle.std.specs.Prelude.{◌≡◌, ℕ, ◌+◌, List, [], ◌∷◌, Bool, true, false, Option, None, Some, cond, decimal}
+use Rattle.std.specs.Prelude.{◌≡◌, ℕ, ◌+◌, List, [], ◌∷◌, Bool, Option, None, Some, cond, decimal}
 use Rattle.std.specs.Prelude.{option_map}
 use Rattle.nla_wire.specs.Frames.{Frame, number}
 use Rattle.nla_wire.specs.Items.{items}
@@ -8,7 +8,6 @@ use Rattle.shown.specs.Drafts.{Members, object_of}
 use Rattle.frame_shown.specs.Tables.{is_kept, row_in}
 use Rattle.frame_shown.specs.declared.form.List.{List as Shape}
 use Rattle.frame_diff.specs.Beside.{held_of}
-use Rattle.frame_diff.specs.Counters.{is_passed}
 use Rattle.frame_diff.specs.Differences.{inside_in}
 use Rattle.frame_diff.specs.Forests.{Forest, Held, Member, Step, comes, find}
 use Rattle.frame_diff.specs.Items.{joined}
@@ -33,10 +32,9 @@ again_held nest inner is_state (Some own) = Some (alone_at nest inner is_state o
 
 -- an attribute, unless it has no name, or none of its name comes behind it
 abbrev pub again_in : Reading → Shape → List Member → Frame → List (Option Held)
-again_in r list behind f = cond (is_passed r.is_state list (number f)) []
-    (cond (is_kept (row_in r.around list (number f)).1 f.payload) []
+again_in r list behind f = cond (is_kept (row_in r.around list (number f)).1 f.payload) []
     (cond (comes (Step.name (row_in r.around list (number f)).0) behind)
-    (alone (Step.name (row_in r.around list (number f)).0, held_of r list f) ∷ []) []))
+    (alone (Step.name (row_in r.around list (number f)).0, held_of r list f) ∷ []) [])
 
 abbrev pub earlier_at : Showing → Holding → Bool → Attributes → List (Option Held)
 earlier_at nest inner is_state list = earlier (named_at nest inner is_state list)

@@ -22,6 +22,7 @@ row_shown cx row = (row.name.now, value_shown (λ list p. hexadecimal p) cx row.
 -- the members inside a payload
 abbrev pub inside_by : Inner → Around → Holds → Forest
 inside_by inner cx Holdings.Nothing = Forest.none
+inside_by inner cx Holdings.Passed = Forest.passed
 inside_by inner cx (Holdings.Fields rows is_any) = left_of is_any (named (map (row_shown cx) rows.items))
 inside_by inner cx (Holdings.List list p) = inner list p.now
 

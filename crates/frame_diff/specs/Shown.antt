@@ -2,16 +2,18 @@
 use Rattle.std.specs.Prelude.{◌≡◌, ℕ, false, List, [], ◌∷◌}
 use Rattle.std.specs.List.{AllByRecursion}
 use Rattle.nla_wire.specs.Items.{items}
+use Rattle.link_info.specs.Rows.{AreAllRows}
 use Rattle.link_info.specs.Tables.{frames_in}
 use Rattle.shown.specs.Drafts.{Members}
 use Rattle.frame_shown.specs.Frames.{items_in, levels}
 use Rattle.frame_shown.specs.Items.{members_of}
+use Rattle.frame_shown.specs.Messages.{message_members}
 use Rattle.frame_shown.specs.Tables.{is_kept, row_in}
 use Rattle.frame_shown.specs.declared.form.Around.{Around}
 use Rattle.frame_shown.specs.declared.form.List.{List as Shape}
 use Rattle.frame_diff.specs.Forests.{Forest, forest, is_text}
 use Rattle.frame_diff.specs.Items.{step_text}
-use Rattle.frame_diff.specs.Members.{fields, members_in, reading}
+use Rattle.frame_diff.specs.Members.{fields, members_in, message_forest, reading, whole}
 
 -- as they stand in an object
 abbrev pub shown_in : Forest → Members
@@ -37,3 +39,8 @@ pub record MembersAreShown : Type 0 where
       → shown_in (forest (members_in (reading n false cx) list (frames_in (items p))))
       ≡ members_of (items_in (levels n cx) cx list (items p))
   pub fields_of : (ms : Members) → AreNamedApart ms → shown_in (fields ms) ≡ ms
+
+-- what is compared of a message of which all attributes are accepted is what is shown of it
+abbrev pub WholeIsShown : Type 0
+WholeIsShown = (cx : Around) (bytes : List ℕ) → AreAllRows cx.tables.now
+    → shown_in (message_forest false cx (whole bytes)) ≡ message_members cx bytes

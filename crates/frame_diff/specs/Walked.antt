@@ -1,17 +1,20 @@
 -- What is told of attributes as they are gone through, one after another.
-use Rattle.std.specs.Prelude.{◌≡◌, ℕ, ◌==◌, ◌&&◌, List, [], ◌∷◌, ◌++◌, Bool, true, false, Option, Some, None, cond}
+use Rattle.std.specs.Prelude.{◌≡◌, ℕ, ◌==◌, List, [], ◌∷◌, ◌++◌, Bool, true, false, Option, Some, None, cond, map}
+use Rattle.std.specs.Prelude.{nat_lt}
+use Rattle.std.specs.List.{list_any}
 use Rattle.nla_wire.specs.Frames.{Frame, number}
 use Rattle.nla_wire.specs.Items.{items}
 use Rattle.link_info.specs.Tables.{frames_in}
 use Rattle.shown.specs.Drafts.{Members}
-use Rattle.frame_shown.specs.Frames.{are_twice}
+use Rattle.frame_shown.specs.Frames.{are_twice, by_number}
+use Rattle.frame_shown.specs.Items.{comes_in}
 use Rattle.frame_shown.specs.Tables.{is_kept, row_in}
 use Rattle.frame_shown.specs.Values.{Nesting}
 use Rattle.frame_shown.specs.declared.form.Around.{Around}
 use Rattle.frame_shown.specs.declared.form.List.{List as Shape}
 use Rattle.frame_shown.specs.declared.form.Way.{Way}
 use Rattle.frame_diff.specs.Beside.{held_of}
-use Rattle.frame_diff.specs.Counters.{action_in, is_passed}
+use Rattle.frame_diff.specs.Counters.{action_in}
 use Rattle.frame_diff.specs.Forests.{AreApart, Forest, Held, Member, Step, comes, find, is_text}
 use Rattle.frame_diff.specs.Items.{items_told, joined, member_items, step_text}
 use Rattle.frame_diff.specs.Members.{Inner, Reading, held_by, named_in}
@@ -58,6 +61,21 @@ abbrev pub AreAlike : Attributes → Attributes → Type 0
 AreAlike own others =
     (own.around.now ≡ others.around.now) × (own.list ≡ others.list) × HasNames own.around.now
 
+-- another list, if there is one, is shown by the same as this one
+abbrev pub AreBeside : Attributes → Option Attributes → Type 0
+AreBeside own None = Unit {0}
+AreBeside own (Some others) = (own.around.now ≡ others.around.now) × HasNames own.around.now
+
+-- so is another attribute
+abbrev pub StandBeside : Attribute → Option Attribute → Type 0
+StandBeside own None = Unit {0}
+StandBeside own (Some a) = (own.around.now ≡ a.around.now) × HasNames own.around.now
+
+-- and another attribute that holds a list, beside this one
+abbrev pub StandsInside : Attributes → Option Attribute → Type 0
+StandsInside own None = Unit {0}
+StandsInside own (Some a) = (own.around.now ≡ a.around.now) × HasNames own.around.now
+
 -- an attribute has its row of this list
 abbrev pub IsOf : Attributes → Attribute → Type 0
 IsOf list a = (a.around.now ≡ list.around.now) × (a.list ≡ list.list)
@@ -84,10 +102,38 @@ has_payload p (Some a) = is_text p a.payload.now
 abbrev pub IsTail : List ℕ → List ℕ → Type 0
 IsTail all rest = (fs : List Frame) × (frames_in (items all) ≡ fs ++ frames_in (items rest))
 
--- the first one has this number, and this payload
-abbrev pub is_first : ℕ → List ℕ → List Frame → Bool
-is_first n p [] = false
-is_first n p (g ∷ gs) = number g == n && is_text p g.payload
+-- one of this number, or none has it
+abbrev pub IsOfNumber : ℕ → List ℕ → Option Frame → Type 0
+IsOfNumber n all None = list_any (λ f. number f == n) (frames_in (items all)) ≡ false
+IsOfNumber n all (Some g) =
+    (fs : List Frame) × (gs : List Frame) × (frames_in (items all) ≡ fs ++ g ∷ gs) × (number g ≡ n)
+
+-- none of its number comes behind it, if that can have a row
+abbrev pub NoneBehind : Frame → Attributes → Type 0
+NoneBehind f behind = nat_lt (number f) 256 ≡ true
+    → comes_in (number f) (map by_number (frames_in (items behind.bytes.now))) ≡ false
+
+-- no number stands twice in two lists with the same rows, in one of which these are behind this attribute
+pub record StandsSingle (is_alike : Bool) (behind others : Attributes) (f : Frame) : Type 0 where
+  pub alike : is_alike ≡ true
+  pub rows : AreAlike behind others
+  pub none : NoneBehind f behind
+  pub once : are_twice (items others.bytes.now) ≡ false
+
+abbrev pub is_there : List ℕ → Option Frame → Bool
+is_there p None = false
+is_there p (Some g) = is_text p g.payload
+
+abbrev pub is_kept_there : Option Attribute → Bool
+is_kept_there None = false
+is_kept_there (Some a) = is_kept a.way a.payload.now
+
+-- an attribute, if there is one, is that of a frame
+abbrev pub AreOfFrame : Option Attribute → Option Frame → Type 0
+AreOfFrame None None = Unit {0}
+AreOfFrame None (Some g) = ⊥
+AreOfFrame (Some a) None = ⊥
+AreOfFrame (Some a) (Some g) = (a.number ≡ number g) × (a.payload.now ≡ g.payload)
 
 -- one of them has this number and this payload
 abbrev pub Stands : ℕ → List ℕ → List ℕ → Type 0
@@ -118,6 +164,6 @@ row_items side text others behind name way p held =
 
 -- of an attribute, by its row
 abbrev pub frame_items : Side → List ℕ → Reading → Shape → Forest → List Member → Frame → List Members
-frame_items side text r list others behind f = cond (is_passed r.is_state list (number f)) []
-    (row_items side text others behind (row_in r.around list (number f)).0 (row_in r.around list (number f)).1
-    f.payload (held_of r list f))
+frame_items side text r list others behind f =
+    row_items side text others behind (row_in r.around list (number f)).0 (row_in r.around list (number f)).1
+    f.payload (held_of r list f)

@@ -11,7 +11,6 @@ ghost use Rattle.frame_diff.specs.Repeated.{GoesOnAt, IsBeside, again_held, agai
 ghost use Rattle.frame_diff.specs.Repeated.{earlier_at, earlier_in, place_by};
 ghost use Rattle.frame_diff.specs.Walked.{Holding, Showing, held_at, held_items, named_at, reading_at};
 
-use crate::counters::is_passed;
 use crate::leaf::Texts;
 use crate::list::{behind, comes};
 use crate::path::{join, join_place};
@@ -32,20 +31,17 @@ pub struct Named<'a> {
 }
 
 /// An attribute of a list, unless it has no name, or none of its name comes behind it.
-fn again<'a>(is_state: bool, behind: Attributes<'a>, frame: &NlaBuffer<'a>) -> Option<Named<'a>>
-    ensures { (nest : Showing) (inner : Holding) → again_held nest inner is_state result
+fn again<'a>(behind: Attributes<'a>, frame: &NlaBuffer<'a>) -> Option<Named<'a>>
+    ensures { (nest : Showing) (inner : Holding) (is_state : Bool) → again_held nest inner is_state result
         ≡ again_in (reading_at nest inner is_state behind.entry.around.now) behind.entry.list
         (named_at nest inner is_state behind.entry) frame.now }
 {
     let number = frame.kind();
-    if is_passed(is_state, behind.list, number) {
-        return None;
-    }
     let (name, way) = row_in(behind.around, behind.list, number);
     if is_kept(way, frame.value()) {
         return None;
     }
-    if !comes(is_state, behind, name) {
+    if !comes(behind, name) {
         return None;
     }
     let attribute = Attribute {
@@ -70,11 +66,11 @@ fn place_by(own: Option<Named<'_>>, place: usize) -> usize
 }
 
 /// The first of them, and the bytes behind it.
-fn next_again<'a>(is_state: bool, list: Attributes<'a>) -> (Option<Named<'a>>, &'a [u8])
-    ensures cut { (nest : Showing) (inner : Holding) → earlier_at nest inner is_state list.entry
+fn next_again<'a>(list: Attributes<'a>) -> (Option<Named<'a>>, &'a [u8])
+    ensures cut { (nest : Showing) (inner : Holding) (is_state : Bool) → earlier_at nest inner is_state list.entry
         ≡ again_held nest inner is_state result.0
         ++ earlier_in nest inner is_state list.entry result.1.now }
-    ensures last { (nest : Showing) (inner : Holding) → result.0 ≡ None
+    ensures last { (nest : Showing) (inner : Holding) (is_state : Bool) → result.0 ≡ None
         → earlier_in nest inner is_state list.entry result.1.now ≡ [] }
 {
     let mut rest = list.bytes;
@@ -87,7 +83,7 @@ fn next_again<'a>(is_state: bool, list: Attributes<'a>) -> (Option<Named<'a>>, &
             bytes: rest,
             ..list
         };
-        let own = again(is_state, left, &frame);
+        let own = again(left, &frame);
         if own.is_some() {
             return (own, rest);
         }
@@ -97,24 +93,20 @@ fn next_again<'a>(is_state: bool, list: Attributes<'a>) -> (Option<Named<'a>>, &
 
 /// What stands beside one of them at its place in another list, where that goes on, and where it goes on behind it.
 fn beside_again<'a>(
-    is_state: bool,
     own: Option<Named<'_>>,
     others: Attributes<'a>,
     there: &'a [u8],
 ) -> (Option<Named<'a>>, &'a [u8])
-    ensures { (nest : Showing) (inner : Holding) (place : ℕ)
+    ensures { (nest : Showing) (inner : Holding) (is_state : Bool) (place : ℕ)
         → GoesOnAt nest inner is_state others.entry place there.entry.now
         → IsBeside nest inner is_state others.entry place own.entry result.0
         × GoesOnAt nest inner is_state others.entry (place_by own.entry place) result.1.now }
 {
     match own {
-        Some(_) => next_again(
-            is_state,
-            Attributes {
-                bytes: there,
-                ..others
-            },
-        ),
+        Some(_) => next_again(Attributes {
+            bytes: there,
+            ..others
+        }),
         None => (None, there),
     }
 }
@@ -207,8 +199,8 @@ pub fn tell_repeated<W: Walk>(
             break;
         };
         rest = behind(rest, &frame);
-        let again = again(pass.is_state, Attributes { bytes: rest, ..own }, &frame);
-        let (beside, next) = beside_again(pass.is_state, again, others, there);
+        let again = again(Attributes { bytes: rest, ..own }, &frame);
+        let (beside, next) = beside_again(again, others, there);
         there = next;
         tell_again::<W>(texts, pass, page, path, place, others, again, beside)?;
         place = place_by(again, place);

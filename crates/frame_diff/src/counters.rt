@@ -137,6 +137,7 @@ fn moves(list: List, number: u16) -> bool
         List::Of(place) => moves_in_place(place, number),
         List::ProtoInet6 => moves_in_inet6(number),
         List::Info(_, _) => number == IFLA_INFO_XSTATS,
+        List::Refused => moves_in_message(0, number),
         List::Listed(_, _) | List::Entries(_) => false,
     }
 }

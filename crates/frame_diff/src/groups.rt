@@ -1,6 +1,7 @@
 //! What a list of values tells beside another one, place by place.
 
-ghost use Rattle.std.specs.Prelude.{◌≡◌, ◌<◌, ◌+◌, ◌^◌, Bool, IfSome, OnOk, decimal, false, not, option_map, true};
+ghost use Rattle.std.specs.Prelude.{◌≡◌, ◌<◌, ◌+◌, ◌^◌, Bool, IfSome, OnOk, Some, decimal, false, not};
+ghost use Rattle.std.specs.Prelude.{option_map, true};
 ghost use Rattle.shown.specs.Drafts.{with_members};
 ghost use Rattle.frame_shown.specs.Items.{objects};
 ghost use Rattle.frame_diff.specs.Differences.{inside_in, leaf_in};
@@ -11,9 +12,10 @@ ghost use Rattle.frame_diff.specs.Groups.{picked, place_items, rest_by, rest_of,
 ghost use Rattle.frame_diff.specs.Inside.{above, inside_list};
 ghost use Rattle.frame_diff.specs.Items.{items_told, joined, leaf_items, step_text};
 ghost use Rattle.frame_diff.specs.Members.{places};
-ghost use Rattle.frame_diff.specs.Walked.{Holding, Showing, held_items, reading_at};
+ghost use Rattle.frame_diff.specs.Walked.{AreBeside, Holding, Showing, StandBeside, held_items, reading_at};
+ghost use Rattle.frame_diff.specs.declared.walk.Attribute.{Attribute as One};
+ghost use Rattle.frame_diff.specs.declared.walk.Attributes.{Attributes as Lists};
 
-use crate::counters::is_passed;
 use crate::leaf::{Texts, Value, tell_leaf};
 use crate::list::behind;
 use crate::lists::{is_without, none_of, tell_object};
@@ -33,11 +35,9 @@ fn named<'a>(is_state: bool, list: Attributes<'a>, frame: &NlaBuffer<'a>) -> Opt
     ensures values { (nest : Showing) (inner : Holding) → picked nest inner is_state result
         ≡ values_by (reading_at nest inner is_state list.entry.around.now) list.entry.list frame.now }
     ensures list { IfSome result (λ a. a.list ≡ list.entry.list) }
+    ensures around { IfSome result (λ a. a.around.now ≡ list.entry.around.now) }
 {
     let number = frame.kind();
-    if is_passed(is_state, list.list, number) {
-        return None;
-    }
     let (_, way) = row_in(list.around, list.list, number);
     if is_kept(way, frame.value()) {
         return None;
@@ -57,6 +57,7 @@ fn entry<'a>(is_state: bool, list: Attributes<'a>, frame: &NlaBuffer<'a>) -> Opt
     ensures values { (nest : Showing) (inner : Holding) → picked nest inner is_state result
         ≡ values_by (reading_at nest inner is_state list.entry.around.now) list.entry.list frame.now }
     ensures list { IfSome result (λ a. a.list ≡ list.entry.list) }
+    ensures around { IfSome result (λ a. a.around.now ≡ list.entry.around.now) }
 {
     if frame.kind() != 1 {
         return None;
@@ -85,6 +86,7 @@ fn pick<'a>(is_state: bool, list: Attributes<'a>, frame: &NlaBuffer<'a>) -> Opti
     ensures values { (nest : Showing) (inner : Holding) → picked nest inner is_state result
         ≡ values_by (reading_at nest inner is_state list.entry.around.now) list.entry.list frame.now }
     ensures list { IfSome result (λ a. a.list ≡ list.entry.list) }
+    ensures around { IfSome result (λ a. a.around.now ≡ list.entry.around.now) }
 {
     if is_entries(list.list) {
         entry(is_state, list, frame)
@@ -110,7 +112,9 @@ fn take<'a>(is_state: bool, list: Attributes<'a>) -> Taken<'a>
     ensures rest { (nest : Showing) (inner : Holding) → group_at nest inner is_state result.rest
         ≡ rest_of (group_at nest inner is_state list.entry) }
     ensures list { IfSome result.value (λ a. a.list ≡ list.entry.list) }
-    ensures same { result.rest.list ≡ list.entry.list }
+    ensures around { IfSome result.value (λ a. a.around.now ≡ list.entry.around.now) }
+    ensures same { (result.rest.list ≡ list.entry.list)
+        × (result.rest.around.now ≡ list.entry.around.now) }
 {
     let mut rest = list.bytes;
     for item in NlasIterator::new(list.bytes) {
@@ -141,7 +145,9 @@ fn take_beside<'a>(is_state: bool, own: Option<Attribute<'_>>, others: Attribute
     ensures rest { (nest : Showing) (inner : Holding) → group_at nest inner is_state result.rest
         ≡ rest_by own.entry (group_at nest inner is_state others.entry) }
     ensures list { IfSome result.value (λ a. a.list ≡ others.entry.list) }
-    ensures same { result.rest.list ≡ others.entry.list }
+    ensures around { IfSome result.value (λ a. a.around.now ≡ others.entry.around.now) }
+    ensures same { (result.rest.list ≡ others.entry.list)
+        × (result.rest.around.now ≡ others.entry.around.now) }
 {
     match own {
         Some(_) => take(is_state, others),
@@ -158,6 +164,7 @@ fn entry_list<'a>(own: Attribute<'a>) -> Attributes<'a>
     ensures held { (nest : Showing) (inner : Holding) (is_state : Bool)
         → list_held nest inner is_state result ≡ value_at nest inner is_state own.entry }
     ensures object { is_group result.list ≡ false }
+    ensures around { result.around.now ≡ own.entry.around.now }
 {
     let list = match own.list {
         List::Entries(group) => group.entry(),
@@ -173,9 +180,11 @@ fn entry_list<'a>(own: Attribute<'a>) -> Attributes<'a>
 /// The list that another entry is, if there is one.
 fn entry_beside<'a>(beside: Option<Attribute<'a>>) -> Option<Attributes<'a>>
     requires { IfSome beside (λ a. is_entries a.list ≡ true) }
-    ensures { (nest : Showing) (inner : Holding) (is_state : Bool)
+    ensures held { (nest : Showing) (inner : Holding) (is_state : Bool)
         → option_map (list_held nest inner is_state) result
         ≡ option_map (value_at nest inner is_state) beside.entry }
+    ensures alike { (list : Lists) (a : One) → list.around.now ≡ a.around.now
+        → StandBeside a beside.entry → AreBeside list result }
 {
     match beside {
         Some(other) => Some(entry_list(other)),
@@ -232,7 +241,8 @@ fn tell_entry<W: Walk>(
     own: Attributes<'_>,
     beside: Option<Attributes<'_>>,
 ) -> Result<(), AllocError>
-    requires { is_group own.list ≡ false }
+    requires object { is_group own.list ≡ false }
+    requires alike { pass.is_alike ≡ true → AreBeside own beside }
     ensures { OnOk result (page.new ≡ with_members (objects (held_items pass.side path.now
         (list_held W.nest W.inner pass.is_state own.entry)
         (option_map (list_held W.nest W.inner pass.is_state) beside.entry))) page.old) }
@@ -252,20 +262,21 @@ fn tell_picked<W: Walk>(
     own: Attribute<'_>,
     beside: Option<Attribute<'_>>,
 ) -> Result<(), AllocError>
-    requires { IfSome beside (λ a. is_entries a.list ≡ is_entries own.list) }
+    requires entries { IfSome beside (λ a. is_entries a.list ≡ is_entries own.list) }
+    requires alike { pass.is_alike ≡ true → StandBeside own beside }
     ensures { OnOk result (page.new ≡ with_members (objects (held_items pass.side path.now
         (value_at W.nest W.inner pass.is_state own.entry)
         (option_map (value_at W.nest W.inner pass.is_state) beside.entry))) page.old) }
 {
-    let pass = Pass {
-        is_alike: false,
-        ..pass
-    };
     if is_entries(own.list) {
         let own = entry_list(own);
         let there = entry_beside(beside);
         return tell_entry::<W>(texts, pass, page, path, own, there);
     }
+    let pass = Pass {
+        is_alike: false,
+        ..pass
+    };
     tell_value::<W>(texts, pass, page, path, own, beside)
 }
 
@@ -275,6 +286,7 @@ fn nest_beside<'a, W: Walk>(beside: Option<Attribute<'a>>) -> Option<Attribute<'
         ≡ nest_in (option_map (value_at W.nest W.inner is_state) beside.entry) }
     ensures list { (same : Bool) → IfSome beside.entry (λ a. is_entries a.list ≡ same)
         → IfSome result (λ a. is_entries a.list ≡ same) }
+    ensures alike { (own : One) → StandBeside own beside.entry → StandBeside own result }
 {
     match beside {
         Some(other) => {
@@ -298,7 +310,8 @@ fn tell_nest<W: Walk>(
     own: Attribute<'_>,
     beside: Option<Attribute<'_>>,
 ) -> Result<(), AllocError>
-    requires { IfSome beside (λ a. is_entries a.list ≡ is_entries own.list) }
+    requires entries { IfSome beside (λ a. is_entries a.list ≡ is_entries own.list) }
+    requires alike { pass.is_alike ≡ true → StandBeside own beside }
     ensures { OnOk result (page.new ≡ with_members (objects (nest_items pass.side
         (joined path.now (decimal place)) (value_at W.nest W.inner pass.is_state own.entry)
         (option_map (value_at W.nest W.inner pass.is_state) beside.entry))) page.old) }
@@ -321,7 +334,9 @@ fn tell_place<W: Walk>(
     own: Option<Attribute<'_>>,
     beside: Option<Attribute<'_>>,
 ) -> Result<(), AllocError>
-    requires { IfSome own (λ a. IfSome beside (λ b. is_entries b.list ≡ is_entries a.list)) }
+    requires entries { IfSome own (λ a. IfSome beside (λ b.
+        is_entries b.list ≡ is_entries a.list)) }
+    requires alike { pass.is_alike ≡ true → IfSome own (λ a. StandBeside a beside) }
     ensures { OnOk result (page.new ≡ with_members (objects (place_items pass.side path.now place
         (option_map (value_at W.nest W.inner pass.is_state) own.entry)
         (option_map (value_at W.nest W.inner pass.is_state) beside.entry))) page.old) }
@@ -352,7 +367,8 @@ fn tell_places<W: Walk>(
     own: Attributes<'_>,
     others: Attributes<'_>,
 ) -> Result<(), AllocError>
-    requires { is_entries others.list ≡ is_entries own.list }
+    requires entries { is_entries others.list ≡ is_entries own.list }
+    requires alike { pass.is_alike ≡ true → AreBeside own (Some others) }
     ensures { OnOk result (page.new ≡ with_members (objects (items_told pass.side path.now
         (places (group_at W.nest W.inner pass.is_state own.entry))
         (places (group_at W.nest W.inner pass.is_state others.entry)))) page.old) }
@@ -452,17 +468,18 @@ fn tell_flat<W: Walk>(
     }
 }
 
-/// Another list of values; one without values where it is none.
-fn values_beside<'a>(own: Attributes<'a>, beside: Option<Attributes<'a>>) -> Attributes<'a>
+/// Another list of values, and whether there is one; one without values where there is none.
+fn values_beside<'a>(own: Attributes<'a>, beside: Option<Attributes<'a>>) -> (Attributes<'a>, bool)
     requires { IfSome beside (λ a. is_entries a.list ≡ is_entries own.list) }
     ensures places { (nest : Showing) (inner : Holding) (is_state : Bool)
-        → places (group_at nest inner is_state result)
+        → places (group_at nest inner is_state result.0)
         ≡ inside_in (option_map (group_held nest inner is_state) beside.entry) }
-    ensures same { is_entries result.list ≡ is_entries own.entry.list }
+    ensures same { is_entries result.0.list ≡ is_entries own.entry.list }
+    ensures some { result.1 ≡ true → beside.entry ≡ Some result.0 }
 {
     match beside {
-        Some(other) => other,
-        None => none_of(own),
+        Some(other) => (other, true),
+        None => (none_of(own), false),
     }
 }
 
@@ -478,6 +495,7 @@ fn tell_values<W: Walk>(
     requires own { is_group own.list ≡ true }
     requires group { IfSome beside (λ a. is_group a.list ≡ true) }
     requires same { IfSome beside (λ a. is_entries a.list ≡ is_entries own.list) }
+    requires alike { pass.is_alike ≡ true → AreBeside own beside }
     ensures { OnOk result (page.new ≡ with_members (objects (held_items pass.side path.now
         (group_held W.nest W.inner pass.is_state own.entry)
         (option_map (group_held W.nest W.inner pass.is_state) beside.entry))) page.old) }
@@ -485,8 +503,9 @@ fn tell_values<W: Walk>(
     if are_plain::<W>(pass.is_state, own) {
         return tell_flat::<W>(texts, pass, page, path, own, beside);
     }
-    let others = values_beside(own, beside);
-    tell_places::<W>(texts, pass, page, path, own, others)
+    let (others, is_some) = values_beside(own, beside);
+    let is_alike = pass.is_alike_too(is_some);
+    tell_places::<W>(texts, Pass { is_alike, ..pass }, page, path, own, others)
 }
 
 /// Whether two lists are lists of values under one name.
@@ -508,6 +527,7 @@ fn group_beside<'a>(own: List, beside: Option<Attributes<'a>>) -> Option<Attribu
         ≡ find (group_step own) (inside_list (above nest inner) is_state beside.entry) }
     ensures group { IfSome result (λ a. is_group a.list ≡ true) }
     ensures same { IfSome result (λ a. is_entries a.list ≡ is_entries own) }
+    ensures alike { (list : Lists) → AreBeside list beside.entry → AreBeside list result }
 {
     match beside {
         Some(other) => {
@@ -533,6 +553,7 @@ pub(crate) fn tell_group<W: Walk>(
 ) -> Result<(), AllocError>
     requires group { is_group own.list ≡ true }
     requires name { name.now ≡ step_text (group_step own.list) }
+    requires alike { pass.is_alike ≡ true → AreBeside own beside }
     ensures { OnOk result (page.new ≡ with_members (objects (held_items pass.side
         (joined path.now (step_text (group_step own.entry.list)))
         (group_held W.nest W.inner pass.is_state own.entry)

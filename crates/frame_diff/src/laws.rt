@@ -3,7 +3,7 @@
 ghost use Rattle.frame_diff.specs.Laws.{CountersArePassed, EachIsToldOnce, ItemsAreChanges, MessagesAreTold};
 ghost use Rattle.frame_diff.specs.Laws.{SameIsSilent, WhatDiffersIsTold};
 ghost use Rattle.frame_diff.specs.Names.{NamesAreApart};
-ghost use Rattle.frame_diff.specs.Shown.{MembersAreShown};
+ghost use Rattle.frame_diff.specs.Shown.{MembersAreShown, WholeIsShown};
 
 /// What is told of members beside others is what differs between the leaves of both.
 pub fn law_told()
@@ -46,4 +46,10 @@ pub fn law_shown()
 /// of it.
 pub fn law_names()
     ensures { NamesAreApart }
+{}
+
+/// With the rows of `link_info` what is compared of a message, where all its attributes are accepted, is what is shown
+/// of it.
+pub fn law_whole()
+    ensures { WholeIsShown }
 {}

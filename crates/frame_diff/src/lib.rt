@@ -17,6 +17,7 @@ pub mod named;
 pub mod nests;
 pub mod path;
 pub mod rows;
+mod same;
 pub mod side;
 pub mod value;
 pub mod walk;

@@ -1,6 +1,6 @@
 //! What differs between the attributes of two lists.
 
-ghost use Rattle.std.specs.Prelude.{◌≡◌, [], ◌∷◌, ◌&&◌, Bool, IfSome, List as Seq, MatchOption, OnOk, Ok, drop};
+ghost use Rattle.std.specs.Prelude.{◌≡◌, ◌∷◌, ◌&&◌, Bool, IfOk, IfSome, List as Seq, OnOk, Ok, drop};
 ghost use Rattle.std.specs.Prelude.{false, option_map, true};
 ghost use Rattle.std.specs.List.{list_any};
 ghost use Rattle.nla_wire.specs.Frames.{number};
@@ -12,11 +12,11 @@ ghost use Rattle.frame_shown.specs.Items.{objects};
 ghost use Rattle.frame_diff.specs.Beside.{held_of, is_named};
 ghost use Rattle.frame_diff.specs.Forests.{Step, comes, find, forest};
 ghost use Rattle.frame_diff.specs.Items.{items_told, joined};
-ghost use Rattle.frame_diff.specs.Walked.{AreAlike, HasRowOf, Holding, IsOf, IsTail, Showing, Stands, StandsOnce};
-ghost use Rattle.frame_diff.specs.Walked.{frame_items, has_number, has_payload, held_at, held_items, is_first};
-ghost use Rattle.frame_diff.specs.Walked.{named_at, reading_at, row_items};
+ghost use Rattle.frame_diff.specs.Walked.{AreAlike, AreOfFrame, HasRowOf, Holding, IsOf, IsOfNumber, IsTail};
+ghost use Rattle.frame_diff.specs.Walked.{NoneBehind, Showing, StandsSingle, frame_items, has_number, has_payload};
+ghost use Rattle.frame_diff.specs.Walked.{held_at, held_items};
+ghost use Rattle.frame_diff.specs.Walked.{is_kept_there, is_there, named_at, reading_at, row_items};
 
-use crate::counters::is_passed;
 use crate::leaf::{Texts, is_same};
 use crate::named::{find_named, is_named};
 use crate::path::join;
@@ -44,15 +44,14 @@ pub(crate) fn behind<'a>(bytes: &'a [u8], first: &NlaBuffer<'_>) -> &'a [u8]
 }
 
 /// Whether one of the attributes is told under this name.
-fn is_any_named(is_state: bool, cx: &Around<'_>, list: List, name: &str, bytes: &[u8]) -> bool
-    ensures { result
-        ≡ list_any (is_named is_state cx.now list name.now) (frames_in (items bytes.now)) }
+fn is_any_named(cx: &Around<'_>, list: List, name: &str, bytes: &[u8]) -> bool
+    ensures { result ≡ list_any (is_named cx.now list name.now) (frames_in (items bytes.now)) }
 {
     for item in NlasIterator::new(bytes) {
         let Ok(frame) = item else {
             break;
         };
-        if is_named(is_state, cx, list, name, &frame) {
+        if is_named(cx, list, name, &frame) {
             return true;
         }
     }
@@ -60,16 +59,18 @@ fn is_any_named(is_state: bool, cx: &Around<'_>, list: List, name: &str, bytes: 
 }
 
 /// Whether a member with this name is among them.
-pub(crate) fn comes(is_state: bool, list: Attributes<'_>, name: &str) -> bool
-    ensures { (nest : Showing) (inner : Holding) → result
+pub(crate) fn comes(list: Attributes<'_>, name: &str) -> bool
+    ensures { (nest : Showing) (inner : Holding) (is_state : Bool) → result
         ≡ comes (Step.name name.now) (named_at nest inner is_state list.entry) }
 {
-    is_any_named(is_state, list.around, list.list, name, list.bytes)
+    is_any_named(list.around, list.list, name, list.bytes)
 }
 
 /// An attribute of a list, by its row.
 fn attribute<'a>(list: Attributes<'a>, frame: &NlaBuffer<'a>) -> Attribute<'a>
     ensures row { IsOf list.entry result }
+    ensures number { result.number ≡ number frame.now }
+    ensures payload { result.payload.now ≡ frame.now.payload }
     ensures held { (nest : Showing) (inner : Holding) (is_state : Bool)
         → held_at nest inner is_state result
         ≡ held_of (reading_at nest inner is_state list.entry.around.now) list.entry.list frame.now }
@@ -86,13 +87,13 @@ fn attribute<'a>(list: Attributes<'a>, frame: &NlaBuffer<'a>) -> Attribute<'a>
 }
 
 /// The attribute that is the member with this name.
-fn find_attribute<'a>(is_state: bool, list: Attributes<'a>, name: &str) -> Option<Attribute<'a>>
-    ensures found { (nest : Showing) (inner : Holding)
+fn find_attribute<'a>(list: Attributes<'a>, name: &str) -> Option<Attribute<'a>>
+    ensures found { (nest : Showing) (inner : Holding) (is_state : Bool)
         → find (Step.name name.now) (forest (named_at nest inner is_state list.entry))
         ≡ option_map (held_at nest inner is_state) result }
     ensures row { IfSome result (IsOf list.entry) }
 {
-    match find_named(is_state, list.around, list.list, name, list.bytes) {
+    match find_named(list.around, list.list, name, list.bytes) {
         Some(frame) => Some(attribute(list, &frame)),
         None => None,
     }
@@ -170,7 +171,7 @@ fn tell_last<W: Walk>(
         (find (Step.name name.now) (forest (named_at W.nest W.inner pass.is_state others.entry)))))
         page.old) }
 {
-    let beside = find_attribute(pass.is_state, others, name);
+    let beside = find_attribute(others, name);
     let is_alike = is_alike(pass, own.number, beside);
     let pass = Pass { is_alike, ..pass };
     tell_unless_same::<W>(texts, pass, page, path, name, own, beside)
@@ -195,7 +196,7 @@ fn tell_row<W: Walk>(
         name.now own.entry.way own.entry.payload.now
         (held_at W.nest W.inner pass.is_state own.entry))) page.old) }
 {
-    if is_kept(own.way, own.payload) || comes(pass.is_state, behind, name) {
+    if is_kept(own.way, own.payload) || comes(behind, name) {
         return Ok(());
     }
     tell_last::<W>(texts, pass, page, path, behind, others, name, own)
@@ -218,9 +219,6 @@ fn tell_frame<W: Walk>(
         (named_at W.nest W.inner pass.is_state behind.entry) frame.now)) page.old) }
 {
     let number = frame.kind();
-    if is_passed(pass.is_state, behind.list, number) {
-        return Ok(());
-    }
     let (name, way) = row_in(behind.around, behind.list, number);
     let own = Attribute {
         around: behind.around,
@@ -232,105 +230,93 @@ fn tell_frame<W: Walk>(
     tell_row::<W>(texts, pass, page, path, behind, others, name, own)
 }
 
-/// The first attribute, if there is one.
-fn first(bytes: &[u8]) -> Option<NlaBuffer<'_>>
-    ensures { MatchOption result (frames_in (items bytes.now) ≡ [])
-        (λ f. (rest : Seq Item) × (items bytes.now ≡ Ok f ∷ rest)) }
+/// The first attribute, if it has this number.
+fn first_of(wanted: u16, bytes: &[u8]) -> Option<NlaBuffer<'_>>
+    ensures { IfSome result (λ f. (number f ≡ wanted)
+        × ((rest : Seq Item) × (items bytes.now ≡ Ok f ∷ rest))) }
 {
     match NlasIterator::new(bytes).next() {
-        Some(Ok(frame)) => Some(frame),
+        Some(Ok(frame)) if frame.kind() == wanted => Some(frame),
         _ => None,
     }
 }
 
-/// Whether the first attribute has this number, and this payload.
-fn is_first(number: u16, payload: &[u8], bytes: &[u8]) -> bool
-    ensures { result ≡ is_first number payload.now (frames_in (items bytes.now)) }
-{
-    match first(bytes) {
-        Some(frame) => frame.kind() == number && is_same(payload, frame.value()),
-        None => false,
-    }
-}
+/// An attribute of a list, and the bytes behind it; all of them where there is none.
+type Sought<'a> = (Option<NlaBuffer<'a>>, &'a [u8]);
 
-/// The bytes from the first attribute of this number on; none where there is no such attribute.
-#[tactic(auto, using(crate::proofs::There::all_tail))]
-fn find_number(number: u16, bytes: &[u8]) -> &[u8]
-    ensures { IsTail bytes.now result.now }
+/// The first attribute of this number.
+fn find_number<'a>(number: u16, all: &'a [u8]) -> Sought<'a>
+    ensures found { IsOfNumber number all.now result.0 }
+    ensures tail { IsTail all.now result.1.now }
 {
-    let mut rest = bytes;
-    for item in NlasIterator::new(bytes) {
+    let mut rest = all;
+    for item in NlasIterator::new(all) {
         let Ok(frame) = item else {
             break;
         };
-        if frame.kind() == number {
-            return rest;
-        }
         rest = behind(rest, &frame);
+        if frame.kind() == number {
+            return (Some(frame), rest);
+        }
     }
-    rest
+    (None, all)
 }
 
-/// Whether these bytes begin with an attribute of this number.
-fn begins_with(number: u16, bytes: &[u8]) -> bool {
-    match first(bytes) {
-        Some(frame) => frame.kind() == number,
+/// An attribute of this number, which is looked for there, and then from the front.
+fn look_up<'a>(number: u16, there: &'a [u8], all: &'a [u8]) -> Sought<'a>
+    requires { IsTail all.now there.now }
+    ensures found { IsOfNumber number all.now result.0 }
+    ensures tail { IsTail all.now result.1.now }
+{
+    match first_of(number, there) {
+        Some(frame) => {
+            let next = behind(there, &frame);
+            (Some(frame), next)
+        }
+        None => find_number(number, all),
+    }
+}
+
+/// Whether there is an attribute with this payload.
+fn is_there(payload: &[u8], beside: &Option<NlaBuffer<'_>>) -> bool
+    ensures { result ≡ is_there payload.now beside.now }
+{
+    match beside {
+        Some(other) => is_same(payload, other.value()),
         None => false,
     }
 }
 
-/// The bytes from an attribute of this number on, which is looked for there, and then from the front.
-fn seek<'a>(number: u16, there: &'a [u8], all: &'a [u8]) -> &'a [u8]
-    requires { IsTail all.now there.now }
-    ensures { IsTail all.now result.now }
+/// The attribute of another list, if there is one.
+fn attribute_there<'a>(
+    others: Attributes<'a>,
+    beside: &Option<NlaBuffer<'a>>,
+) -> Option<Attribute<'a>>
+    ensures row { IfSome result (IsOf others.entry) }
+    ensures frame { AreOfFrame result beside.now }
+    ensures held { (nest : Showing) (inner : Holding) (is_state : Bool)
+        → option_map (held_at nest inner is_state) result
+        ≡ option_map (held_of (reading_at nest inner is_state others.entry.around.now)
+        others.entry.list) beside.now }
 {
-    if begins_with(number, there) {
-        there
-    } else {
-        find_number(number, all)
+    match beside {
+        Some(other) => Some(attribute(others, other)),
+        None => None,
     }
 }
 
-/// The bytes behind the first attribute, if there is one.
-fn behind_first<'a>(bytes: &'a [u8], all: &'a [u8]) -> &'a [u8]
-    requires { IsTail all.now bytes.now }
-    ensures { IsTail all.now result.now }
+/// Whether an attribute is kept as it is, if there is one.
+fn is_kept_there(there: Option<Attribute<'_>>) -> bool
+    ensures { result ≡ is_kept_there there.entry }
 {
-    match first(bytes) {
-        Some(frame) => behind(bytes, &frame),
-        None => all,
+    match there {
+        Some(other) => is_kept(other.way, other.payload),
+        None => false,
     }
 }
 
-/// How many numbers can have a row.
-const NUMBERS: usize = 256;
-
-/// Whether an attribute stands in a list with this payload, and where to look for the next one. Where it is not asked
-/// for, or its number can have no row, it is not looked for.
-#[tactic(auto, using(crate::proofs::There::stands_first))]
-fn look_up<'a>(
-    is_asked: bool,
-    frame: &NlaBuffer<'_>,
-    there: &'a [u8],
-    all: &'a [u8],
-) -> (bool, &'a [u8])
-    requires { IsTail all.now there.now }
-    ensures tail { IsTail all.now result.1.now }
-    ensures found { result.0 ≡ true
-        → (is_asked ≡ true) × Stands (number frame.now) frame.now.payload all.now }
-{
-    if !is_asked || frame.kind() as usize >= NUMBERS {
-        return (false, there);
-    }
-    let found = seek(frame.kind(), there, all);
-    (
-        is_first(frame.kind(), frame.value(), found),
-        behind_first(found, all),
-    )
-}
-
-/// Tells of an attribute by its row, unless it is known to stand in the other list as it is.
-fn tell_unless_there<W: Walk>(
+/// Tells of an attribute beside the one of its number in another list, where no number stands twice in either.
+fn tell_single<W: Walk>(
     texts: &mut Texts,
     pass: Pass,
     page: &mut Page,
@@ -338,36 +324,106 @@ fn tell_unless_there<W: Walk>(
     behind: Attributes<'_>,
     others: Attributes<'_>,
     frame: &NlaBuffer<'_>,
-    is_there: bool,
+    beside: &Option<NlaBuffer<'_>>,
 ) -> Result<(), AllocError>
-    requires rows { pass.is_alike ≡ true → AreAlike behind others }
-    requires same { is_there ≡ true
-        → StandsOnce behind others (number frame.now) frame.now.payload }
+    requires alike { pass.is_alike ≡ true }
+    requires rows { AreAlike behind others }
+    requires none { NoneBehind frame.now behind }
+    requires once { are_twice (items others.bytes.now) ≡ false }
+    requires found { IsOfNumber (number frame.now) others.bytes.now beside.now }
     ensures { OnOk result (page.new ≡ with_members (objects (frame_items pass.side path.now
         (reading_at W.nest W.inner pass.is_state behind.entry.around.now) behind.entry.list
         (forest (named_at W.nest W.inner pass.is_state others.entry))
         (named_at W.nest W.inner pass.is_state behind.entry) frame.now)) page.old) }
 {
-    if is_there {
+    let own = attribute(behind, frame);
+    let there = attribute_there(others, beside);
+    if is_kept(own.way, own.payload) {
+        return tell_frame::<W>(texts, pass, page, path, behind, others, frame);
+    }
+    if is_kept_there(there) {
+        return tell_frame::<W>(texts, pass, page, path, behind, others, frame);
+    }
+    let (name, _) = row_in(behind.around, behind.list, own.number);
+    tell_unless_same::<W>(texts, pass, page, path, name, own, there)
+}
+
+/// Tells of an attribute beside the one of its number in another list. One that stands there as it is costs a look.
+fn tell_found<W: Walk>(
+    texts: &mut Texts,
+    pass: Pass,
+    page: &mut Page,
+    path: &str,
+    behind: Attributes<'_>,
+    others: Attributes<'_>,
+    frame: &NlaBuffer<'_>,
+    beside: &Option<NlaBuffer<'_>>,
+) -> Result<(), AllocError>
+    requires alike { pass.is_alike ≡ true }
+    requires rows { AreAlike behind others }
+    requires none { NoneBehind frame.now behind }
+    requires once { are_twice (items others.bytes.now) ≡ false }
+    requires found { IsOfNumber (number frame.now) others.bytes.now beside.now }
+    ensures { OnOk result (page.new ≡ with_members (objects (frame_items pass.side path.now
+        (reading_at W.nest W.inner pass.is_state behind.entry.around.now) behind.entry.list
+        (forest (named_at W.nest W.inner pass.is_state others.entry))
+        (named_at W.nest W.inner pass.is_state behind.entry) frame.now)) page.old) }
+{
+    if is_there(frame.value(), beside) {
         W::laws();
         return Ok(());
     }
-    tell_frame::<W>(texts, pass, page, path, behind, others, frame)
+    tell_single::<W>(texts, pass, page, path, behind, others, frame, beside)
 }
 
-/// Whether the rows of two lists are known to be the same, and no number stands twice in one of them.
-fn is_once(pass: Pass, own: Attributes<'_>, others: Attributes<'_>) -> bool
-    ensures { result ≡ true
-        → (pass.is_alike ≡ true) × (are_twice (items others.entry.bytes.now) ≡ false) }
+/// Tells of an attribute, and returns where to look for the next one in the other list.
+fn tell_next<'a, W: Walk>(
+    texts: &mut Texts,
+    pass: Pass,
+    page: &mut Page,
+    path: &str,
+    behind: Attributes<'_>,
+    others: Attributes<'a>,
+    frame: &NlaBuffer<'_>,
+    is_once: bool,
+    there: &'a [u8],
+) -> Result<&'a [u8], AllocError>
+    requires rows { pass.is_alike ≡ true → AreAlike behind others }
+    requires once { is_once ≡ true → StandsSingle pass.is_alike behind others frame.now }
+    requires tail { IsTail others.bytes.now there.now }
+    ensures told { OnOk result (page.new ≡ with_members (objects (frame_items pass.side path.now
+        (reading_at W.nest W.inner pass.is_state behind.entry.around.now) behind.entry.list
+        (forest (named_at W.nest W.inner pass.is_state others.entry))
+        (named_at W.nest W.inner pass.is_state behind.entry) frame.now)) page.old) }
+    ensures tail { IfOk result (λ next. IsTail others.entry.bytes.now next.now) }
 {
-    if !pass.is_alike || has_twice(own.bytes) {
-        return false;
+    if !is_once {
+        tell_frame::<W>(texts, pass, page, path, behind, others, frame)?;
+        return Ok(there);
     }
-    !has_twice(others.bytes)
+    let (beside, next) = look_up(frame.kind(), there, others.bytes);
+    tell_found::<W>(texts, pass, page, path, behind, others, frame, &beside)?;
+    Ok(next)
+}
+
+/// Whether the rows of two lists are known to be the same, and no number stands twice in this one.
+pub(crate) fn is_single(pass: Pass, own: Attributes<'_>) -> bool
+    ensures { result ≡ true
+        → (pass.is_alike ≡ true) × (are_twice (items own.entry.bytes.now) ≡ false) }
+{
+    pass.is_alike && !has_twice(own.bytes)
+}
+
+/// Whether no number stands twice in another list either.
+fn is_once(is_single: bool, others: Attributes<'_>) -> bool
+    ensures { result ≡ true
+        → (is_single ≡ true) × (are_twice (items others.entry.bytes.now) ≡ false) }
+{
+    is_single && !has_twice(others.bytes)
 }
 
 /// Tells of the attributes of a list that have a name, each beside that of its name in another list. Where the rows of
-/// both are the same and no number stands twice in the other one, those that stand there as they are cost a look.
+/// both are the same and no number stands twice, each is looked for by its number, behind the one before it.
 pub fn tell_named<W: Walk>(
     texts: &mut Texts,
     pass: Pass,
@@ -375,13 +431,16 @@ pub fn tell_named<W: Walk>(
     path: &str,
     own: Attributes<'_>,
     others: Attributes<'_>,
+    is_single: bool,
 ) -> Result<(), AllocError>
-    requires { pass.is_alike ≡ true → AreAlike own others }
+    requires rows { pass.is_alike ≡ true → AreAlike own others }
+    requires single { is_single ≡ true
+        → (pass.is_alike ≡ true) × (are_twice (items own.bytes.now) ≡ false) }
     ensures { OnOk result (page.new ≡ with_members (objects (items_told pass.side path.now
         (forest (named_at W.nest W.inner pass.is_state own.entry))
         (forest (named_at W.nest W.inner pass.is_state others.entry)))) page.old) }
 {
-    let is_once = is_once(pass, own, others);
+    let is_once = is_once(is_single, others);
     let mut rest = own.bytes;
     let mut there = others.bytes;
     for item in NlasIterator::new(own.bytes) {
@@ -390,9 +449,9 @@ pub fn tell_named<W: Walk>(
         };
         rest = behind(rest, &frame);
         let left = Attributes { bytes: rest, ..own };
-        let (is_there, next) = look_up(is_once, &frame, there, others.bytes);
-        there = next;
-        tell_unless_there::<W>(texts, pass, page, path, left, others, &frame, is_there)?;
+        there = tell_next::<W>(
+            texts, pass, page, path, left, others, &frame, is_once, there,
+        )?;
     }
     Ok(())
 }

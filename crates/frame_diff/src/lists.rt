@@ -11,11 +11,12 @@ ghost use Rattle.frame_diff.specs.Inside.{above, has_none, inside_list, is_of_ob
 ghost use Rattle.frame_diff.specs.Items.{items_told, step_text};
 ghost use Rattle.frame_diff.specs.Members.{is_some};
 ghost use Rattle.frame_diff.specs.Repeated.{members_at};
-ghost use Rattle.frame_diff.specs.Walked.{Holding, Showing};
+ghost use Rattle.frame_diff.specs.Walked.{AreBeside, Holding, Showing};
 
 use crate::groups::tell_group;
 use crate::leaf::Texts;
 use crate::members::{tell_kept, tell_members};
+use crate::same::is_same_list;
 use crate::walk::{Attributes, Pass, Walk};
 use frame_shown::form::List;
 use nla_wire::NlasIterator;
@@ -60,22 +61,25 @@ pub(crate) fn none_of<'a>(own: Attributes<'a>) -> Attributes<'a>
     Attributes { bytes: &[], ..own }
 }
 
-/// Another list that is shown as an object; a list without attributes where it is none.
-fn object_beside<'a>(own: Attributes<'a>, beside: Option<Attributes<'a>>) -> Attributes<'a>
-    ensures { (nest : Showing) (inner : Holding) (is_state : Bool) (s : Step)
+/// Another list that is shown as an object, and whether it has the rows of this one; a list without attributes where it
+/// is none.
+fn object_beside<'a>(own: Attributes<'a>, beside: Option<Attributes<'a>>) -> (Attributes<'a>, bool)
+    ensures found { (nest : Showing) (inner : Holding) (is_state : Bool) (s : Step)
         → is_of_object s ≡ true
-        → find s (forest (members_at nest inner is_state result))
+        → find s (forest (members_at nest inner is_state result.0))
         ≡ find s (inside_list (above nest inner) is_state beside.entry) }
+    ensures rows { result.1 ≡ true
+        → (beside.entry ≡ Some result.0) × (own.entry.list ≡ result.0.list) }
 {
     match beside {
         Some(other) => {
             if is_object(other.list) {
-                other
+                (other, is_same_list(own.list, other.list))
             } else {
-                none_of(own)
+                (none_of(own), false)
             }
         }
-        None => none_of(own),
+        None => (none_of(own), false),
     }
 }
 
@@ -88,17 +92,15 @@ pub(crate) fn tell_object<W: Walk>(
     own: Attributes<'_>,
     beside: Option<Attributes<'_>>,
 ) -> Result<(), AllocError>
-    requires { is_group own.list ≡ false }
+    requires object { is_group own.list ≡ false }
+    requires alike { pass.is_alike ≡ true → AreBeside own beside }
     ensures { OnOk result (page.new ≡ with_members (objects (items_told pass.side path.now
         (inside_list (above W.nest W.inner) pass.is_state (Some own.entry))
         (inside_list (above W.nest W.inner) pass.is_state beside.entry))) page.old) }
 {
-    let others = object_beside(own, beside);
-    let pass = Pass {
-        is_alike: false,
-        ..pass
-    };
-    tell_members::<W>(texts, pass, page, path, own, others)
+    let (others, has_rows) = object_beside(own, beside);
+    let is_alike = pass.is_alike_too(has_rows);
+    tell_members::<W>(texts, Pass { is_alike, ..pass }, page, path, own, others)
 }
 
 /// Another list in which those that have a name stand in one list; a list without attributes where it is none.
@@ -157,6 +159,7 @@ fn tell_listed<W: Walk>(
     beside: Option<Attributes<'_>>,
 ) -> Result<(), AllocError>
     requires listed { (is_group own.list && not (is_entries own.list)) ≡ true }
+    requires alike { pass.is_alike ≡ true → AreBeside own beside }
     requires name { name.now ≡ step_text (group_step own.list) }
     ensures { OnOk result (page.new ≡ with_members (objects (items_told pass.side path.now
         (inside_list (above W.nest W.inner) pass.is_state (Some own.entry))
@@ -177,6 +180,7 @@ fn tell_entries<W: Walk>(
     beside: Option<Attributes<'_>>,
 ) -> Result<(), AllocError>
     requires entries { is_entries own.list ≡ true }
+    requires alike { pass.is_alike ≡ true → AreBeside own beside }
     requires name { name.now ≡ step_text (group_step own.list) }
     ensures { OnOk result (page.new ≡ with_members (objects (items_told pass.side path.now
         (inside_list (above W.nest W.inner) pass.is_state (Some own.entry))
@@ -194,6 +198,7 @@ pub(crate) fn tell_list_by<W: Walk>(
     own: Attributes<'_>,
     beside: Option<Attributes<'_>>,
 ) -> Result<(), AllocError>
+    requires { pass.is_alike ≡ true → AreBeside own beside }
     ensures { OnOk result (page.new ≡ with_members (objects (items_told pass.side path.now
         (inside_list (above W.nest W.inner) pass.is_state (Some own.entry))
         (inside_list (above W.nest W.inner) pass.is_state beside.entry))) page.old) }

@@ -1,19 +1,21 @@
 //! What differs between two lists of attributes.
 
-ghost use Rattle.std.specs.Prelude.{◌≡◌, OnOk, codes, true};
+ghost use Rattle.std.specs.Prelude.{◌≡◌, OnOk, codes, false, true};
+ghost use Rattle.nla_wire.specs.Items.{items};
 ghost use Rattle.shown.specs.Drafts.{with_members};
+ghost use Rattle.frame_shown.specs.Frames.{are_twice};
 ghost use Rattle.frame_shown.specs.Items.{objects};
 ghost use Rattle.frame_diff.specs.Forests.{forest};
 ghost use Rattle.frame_diff.specs.Items.{items_told, joined};
 ghost use Rattle.frame_diff.specs.Members.{places};
 ghost use Rattle.frame_diff.specs.Repeated.{earlier_at, members_at};
 ghost use Rattle.frame_diff.specs.Values.{kept_at};
-ghost use Rattle.frame_diff.specs.Walked.{AreAlike};
+ghost use Rattle.frame_diff.specs.Walked.{AreAlike, HasNames};
 
 use crate::again::tell_repeated;
 use crate::kept::tell_others;
 use crate::leaf::Texts;
-use crate::list::tell_named;
+use crate::list::{is_single, tell_named};
 use crate::path::join;
 use crate::walk::{Attributes, Pass, Walk};
 use shown::Page;
@@ -27,12 +29,18 @@ fn tell_again<W: Walk>(
     path: &str,
     own: Attributes<'_>,
     others: Attributes<'_>,
+    is_single: bool,
 ) -> Result<(), AllocError>
+    requires { is_single ≡ true
+        → HasNames own.around.now × (are_twice (items own.bytes.now) ≡ false) }
     ensures { OnOk result (page.new
         ≡ with_members (objects (items_told pass.side (joined path.now (codes "repeated"))
         (places (earlier_at W.nest W.inner pass.is_state own.entry))
         (places (earlier_at W.nest W.inner pass.is_state others.entry)))) page.old) }
 {
+    if is_single {
+        return Ok(());
+    }
     let text = join(texts.alloc, path, "repeated")?;
     tell_repeated::<W>(texts, pass, page, text.as_str(), own, others)
 }
@@ -70,7 +78,8 @@ pub fn tell_members<W: Walk>(
         (forest (members_at W.nest W.inner pass.is_state own.entry))
         (forest (members_at W.nest W.inner pass.is_state others.entry)))) page.old) }
 {
-    tell_named::<W>(texts, pass, page, path, own, others)?;
-    tell_again::<W>(texts, pass, page, path, own, others)?;
+    let is_single = is_single(pass, own);
+    tell_named::<W>(texts, pass, page, path, own, others, is_single)?;
+    tell_again::<W>(texts, pass, page, path, own, others, is_single)?;
     tell_kept(texts, pass, page, path, own, others)
 }

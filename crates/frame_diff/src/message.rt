@@ -1,34 +1,63 @@
 //! What differs between two messages.
 
-ghost use Rattle.std.specs.Prelude.{◌≡◌, ◌==◌, ◌&&◌, [], IfOk, OnOk, drop, map, slice_index, true};
+ghost use Rattle.std.specs.Prelude.{◌≡◌, ◌==◌, ◌&&◌, [], IfOk, OnOk, map, slice_index, true};
 ghost use Rattle.nla_wire.specs.Items.{items};
 ghost use Rattle.link_info.specs.Rows.{AreAllRows};
 ghost use Rattle.link_info.specs.Tables.{frames_in};
 ghost use Rattle.shown.specs.Drafts.{with_members};
 ghost use Rattle.frame_shown.specs.Items.{objects};
 ghost use Rattle.frame_shown.specs.Messages.{address_len, header_members, with_address_len};
+ghost use Rattle.frame_shown.specs.Plain.{plain};
 ghost use Rattle.frame_shown.specs.declared.form.Around.{Around as Beside};
 ghost use Rattle.frame_diff.specs.Forests.{forest};
 ghost use Rattle.frame_diff.specs.Items.{change_item, items_told};
 ghost use Rattle.frame_diff.specs.Laws.{messages_told};
-ghost use Rattle.frame_diff.specs.Members.{attributes_in, fields, message_forest};
-ghost use Rattle.frame_diff.specs.Messages.{with_order};
+ghost use Rattle.frame_diff.specs.Members.{attributes_in, fields, message_forest, refused_in, whole};
+ghost use Rattle.frame_diff.specs.Messages.{parts_of, with_order};
 ghost use Rattle.frame_diff.specs.Rows.{row_shown};
 
 use crate::leaf::{Texts, Value};
 use crate::members::tell_members;
 use crate::rows::{Row, tell_rows};
 use crate::side::Side;
-use crate::walk::{Attributes, Pass};
+use crate::walk::{Attributes, Pass, Walk};
 use frame_shown::depth::{Above, Bottom};
 use frame_shown::form::{Around, List, Order};
 use frame_shown::message::{address_len, rest_of};
+use link_info::all_rows;
 use nla_wire::fields::{i32_at, u8_at, u16_at, u32_at};
 use shown::Page;
 use std::alloc::{AllocError, Global};
 
 /// As deep as lists go.
 type Whole = Above<Above<Above<Above<Above<Bottom>>>>>;
+
+/// A list in which there are no others.
+type Flat = Above<Bottom>;
+
+/// A message that is compared, or a state.
+#[derive(Clone, Copy, Drop)]
+pub struct Message<'a> {
+    /// The bytes of its header, and what stands behind them.
+    pub header: &'a [u8],
+    /// The attributes that are accepted.
+    pub attributes: &'a [u8],
+    /// The attributes that are refused.
+    pub refused: &'a [u8],
+}
+
+impl<'a> Message<'a> {
+    /// A message of which all attributes are accepted.
+    pub fn whole(bytes: &'a [u8]) -> Message<'a>
+        ensures { parts_of result ≡ whole bytes.now }
+    {
+        Message {
+            header: bytes,
+            attributes: rest_of(bytes),
+            refused: &[],
+        }
+    }
+}
 
 /// What the header says.
 fn header_rows<'a>(alloc: Global, bytes: &[u8]) -> Result<Vec<Row<'a>>, AllocError>
@@ -93,28 +122,27 @@ fn are_alike(pass: Pass, own: usize, other: usize, family: u8, theirs: u8) -> bo
     pass.is_alike && own == other && family == theirs
 }
 
-/// Tells of the attributes of a message, or of a state, beside those of another one.
+/// Tells of the attributes of a message that are accepted, beside those of another one.
 fn tell_attributes(
     texts: &mut Texts,
     pass: Pass,
     cx: &Around<'_>,
     theirs: &Around<'_>,
     page: &mut Page,
-    own: &[u8],
-    others: &[u8],
+    own: Message<'_>,
+    others: Message<'_>,
 ) -> Result<(), AllocError>
     requires { pass.is_alike ≡ true → (cx.now ≡ theirs.now) × AreAllRows cx.now.tables.now }
     ensures { OnOk result (page.new ≡ with_members (objects (items_told pass.side []
-        (forest (attributes_in pass.is_state cx.now (slice_index own.now 0) (drop 16 own.now)))
-        (forest (attributes_in pass.is_state theirs.now (slice_index others.now 0) (drop 16 others.now)))))
-        page.old) }
+        (forest (attributes_in pass.is_state cx.now (slice_index own.entry.header.now 0)
+        own.entry.attributes.now))
+        (forest (attributes_in pass.is_state theirs.now (slice_index others.entry.header.now 0)
+        others.entry.attributes.now)))) page.old) }
 {
-    let family = u8_at(own, 0);
-    let their_family = u8_at(others, 0);
-    let bytes = rest_of(own);
-    let their_bytes = rest_of(others);
-    let here = around(cx, bytes);
-    let there = around(theirs, their_bytes);
+    let family = u8_at(own.header, 0);
+    let their_family = u8_at(others.header, 0);
+    let here = around(cx, own.attributes);
+    let there = around(theirs, others.attributes);
     let is_alike = are_alike(
         pass,
         here.address_len,
@@ -125,15 +153,49 @@ fn tell_attributes(
     let list = Attributes {
         around: &here,
         list: List::Message(family),
-        bytes,
+        bytes: own.attributes,
     };
     let beside = Attributes {
         around: &there,
         list: List::Message(their_family),
-        bytes: their_bytes,
+        bytes: others.attributes,
     };
     let pass = Pass { is_alike, ..pass };
     tell_members::<Whole>(texts, pass, page, "", list, beside)
+}
+
+/// Tells of the attributes of a message that are refused, beside those of another one.
+fn tell_refused(
+    texts: &mut Texts,
+    pass: Pass,
+    cx: &Around<'_>,
+    theirs: &Around<'_>,
+    page: &mut Page,
+    own: &[u8],
+    others: &[u8],
+) -> Result<(), AllocError>
+    ensures { OnOk result (page.new ≡ with_members (objects (items_told pass.side []
+        (forest (refused_in pass.is_state cx.now own.now))
+        (forest (refused_in pass.is_state theirs.now others.now)))) page.old) }
+{
+    if own.is_empty() {
+        return Ok(());
+    }
+    let list = Attributes {
+        around: cx,
+        list: List::Refused,
+        bytes: own,
+    };
+    let beside = Attributes {
+        around: theirs,
+        list: List::Refused,
+        bytes: others,
+    };
+    let pass = Pass {
+        is_alike: false,
+        ..pass
+    };
+    Flat::tell_list(texts, pass, page, "refused", list, Some(beside))
 }
 
 /// Tells of a message, or of a state, beside another one: in the old one of what went or turned, in the new one of what
@@ -144,16 +206,25 @@ pub fn tell_side(
     cx: &Around<'_>,
     theirs: &Around<'_>,
     page: &mut Page,
-    own: &[u8],
-    others: &[u8],
+    own: Message<'_>,
+    others: Message<'_>,
 ) -> Result<(), AllocError>
     requires { pass.is_alike ≡ true → (cx.now ≡ theirs.now) × AreAllRows cx.now.tables.now }
     ensures { OnOk result (page.new ≡ with_members (objects (items_told pass.side []
-        (message_forest pass.is_state cx.now own.now)
-        (message_forest pass.is_state theirs.now others.now))) page.old) }
+        (message_forest pass.is_state cx.now (parts_of own.entry))
+        (message_forest pass.is_state theirs.now (parts_of others.entry)))) page.old) }
 {
-    tell_header(texts, cx, theirs, page, pass.side, own, others)?;
-    tell_attributes(texts, pass, cx, theirs, page, own, others)
+    tell_header(
+        texts,
+        cx,
+        theirs,
+        page,
+        pass.side,
+        own.header,
+        others.header,
+    )?;
+    tell_attributes(texts, pass, cx, theirs, page, own, others)?;
+    tell_refused(texts, pass, cx, theirs, page, own.refused, others.refused)
 }
 
 /// Whether two orders are the same.
@@ -176,12 +247,13 @@ pub fn tell_messages(
     cx: &Around<'_>,
     order: Order,
     page: &mut Page,
-    old: &[u8],
-    new: &[u8],
+    old: Message<'_>,
+    new: Message<'_>,
 ) -> Result<(), AllocError>
     requires { AreAllRows cx.now.tables.now }
     ensures { OnOk result (page.new ≡ with_members (objects (map change_item
-        (messages_told is_state cx.now (with_order cx.now order) old.now new.now))) page.old) }
+        (messages_told is_state cx.now (with_order cx.now order)
+        (parts_of old.entry) (parts_of new.entry)))) page.old) }
 {
     let theirs = Around { order, ..*cx };
     let is_alike = is_same_order(cx.order, order);
@@ -196,4 +268,23 @@ pub fn tell_messages(
         ..pass
     };
     tell_side(texts, pass, &theirs, cx, page, new, old)
+}
+
+/// Tells of all that differs between two messages, or between two states, by the rows of all places; each has an order
+/// of the counters of IPv6.
+pub fn tell(
+    texts: &mut Texts,
+    is_state: bool,
+    orders: (Order, Order),
+    page: &mut Page,
+    old: Message<'_>,
+    new: Message<'_>,
+) -> Result<(), AllocError>
+    ensures { OnOk result (page.new ≡ with_members (objects (map change_item
+        (messages_told is_state (plain orders.0) (plain orders.1)
+        (parts_of old.entry) (parts_of new.entry)))) page.old) }
+{
+    let tables = all_rows();
+    let cx = Around::plain(&tables, orders.0);
+    tell_messages(texts, is_state, &cx, orders.1, page, old, new)
 }

@@ -1,6 +1,6 @@
 //! The attribute that stands beside one: the last one of its name.
 
-ghost use Rattle.std.specs.Prelude.{◌≡◌, option_map};
+ghost use Rattle.std.specs.Prelude.{◌≡◌, Bool, option_map};
 ghost use Rattle.nla_wire.specs.Items.{items};
 ghost use Rattle.link_info.specs.Tables.{frames_in};
 ghost use Rattle.frame_shown.specs.Values.{Nesting};
@@ -8,44 +8,28 @@ ghost use Rattle.frame_diff.specs.Beside.{held_of, is_named, last_named};
 ghost use Rattle.frame_diff.specs.Forests.{Step, find, forest};
 ghost use Rattle.frame_diff.specs.Members.{Inner, Reading, named_in};
 
-use crate::counters::is_passed;
 use frame_shown::form::{Around, List, is_kept, row_in};
 use nla_wire::{NlaBuffer, NlasIterator};
 
 /// Whether an attribute is told under this name.
-pub fn is_named(
-    is_state: bool,
-    cx: &Around<'_>,
-    list: List,
-    name: &str,
-    frame: &NlaBuffer<'_>,
-) -> bool
-    ensures { result ≡ is_named is_state cx.now list name.now frame.now }
+pub fn is_named(cx: &Around<'_>, list: List, name: &str, frame: &NlaBuffer<'_>) -> bool
+    ensures { result ≡ is_named cx.now list name.now frame.now }
 {
-    if is_passed(is_state, list, frame.kind()) {
-        return false;
-    }
     let (own, way) = row_in(cx, list, frame.kind());
     !is_kept(way, frame.value()) && own == name
 }
 
 /// The last attribute that is told under this name.
-fn find_last<'a>(
-    is_state: bool,
-    cx: &Around<'_>,
-    list: List,
-    name: &str,
-    bytes: &'a [u8],
-) -> Option<NlaBuffer<'a>>
+fn find_last<'a>(cx: &Around<'_>, list: List, name: &str, bytes: &'a [u8]) -> Option<NlaBuffer<'a>>
     ensures { result
-        ≡ last_named is_state cx.now list name.now None (frames_in (items bytes.now)) }
+        ≡ last_named cx.now list name.now None (frames_in (items bytes.now)) }
 {
     let mut last = None;
     for item in NlasIterator::new(bytes) {
         let Ok(frame) = item else {
             break;
         };
-        if is_named(is_state, cx, list, name, &frame) {
+        if is_named(cx, list, name, &frame) {
             last = Some(frame);
         }
     }
@@ -54,16 +38,15 @@ fn find_last<'a>(
 
 /// The attribute that is the member with this name, whatever the lists in it are shown as.
 pub fn find_named<'a>(
-    is_state: bool,
     cx: &Around<'_>,
     list: List,
     name: &str,
     bytes: &'a [u8],
 ) -> Option<NlaBuffer<'a>>
-    ensures { (nest : Nesting) (inner : Inner) →
+    ensures { (is_state : Bool) (nest : Nesting) (inner : Inner) →
         let r : Reading = record { is_state = is_state; nest = nest; inner = inner; around = cx.now } in
         find (Step.name name.now) (forest (named_in r list (frames_in (items bytes.now))))
         ≡ option_map (held_of r list) result }
 {
-    find_last(is_state, cx, list, name, bytes)
+    find_last(cx, list, name, bytes)
 }

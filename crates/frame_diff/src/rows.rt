@@ -15,12 +15,12 @@ ghost use Rattle.frame_diff.specs.Differences.{leaf_in};
 ghost use Rattle.frame_diff.specs.Forests.{Forest, comes, field_step, find};
 ghost use Rattle.frame_diff.specs.Items.{items_told};
 ghost use Rattle.frame_diff.specs.Members.{Inner, fields, fields_kept, form_inside, ipv6_inside, is_some};
-ghost use Rattle.frame_diff.specs.Members.{meaning_inside, named, way_inside};
+ghost use Rattle.frame_diff.specs.Members.{held_inside, meaning_inside, named, way_inside};
 ghost use Rattle.frame_diff.specs.Rows.{clearing, inside_by, is_under, last_value, row_shown};
 ghost use Rattle.frame_diff.specs.Values.{value_shown};
 ghost use Rattle.frame_diff.specs.Walked.{last_items};
 
-use crate::counters::{Cleared, cleared_part};
+use crate::counters::{Cleared, cleared_part, is_passed};
 use crate::fields::{counter_rows, event_rows, ipv6_rows, member_rows, record_rows, settings_rows};
 use crate::leaf::{Texts, Value, tell_step};
 use crate::side::Side;
@@ -47,6 +47,8 @@ pub struct Row<'a> {
 pub enum Holds<'a> {
     /// Nothing: its value is a leaf.
     Nothing,
+    /// What moves by itself, all of which is passed over.
+    Passed,
     /// Fields, and whether there were any before those that a state clears were left out.
     Fields(Vec<Row<'a>>, bool),
     /// A list of attributes.
@@ -214,10 +216,13 @@ pub fn held_in<'a>(
     is_state: bool,
     own: Attribute<'a>,
 ) -> Result<Holds<'a>, AllocError>
-    ensures { IfOk result (λ held. (inner : Inner) → way_inside inner own.entry.around.now
+    ensures { IfOk result (λ held. (inner : Inner) → held_inside inner own.entry.around.now
         (action_in is_state own.entry.list own.entry.number) own.entry.way own.entry.payload.now
         ≡ inside_by inner own.entry.around.now held) }
 {
+    if is_passed(is_state, own.list, own.number) {
+        return Ok(Holds::Passed);
+    }
     let part = cleared_part(is_state, own.list, own.number);
     way_holds(alloc, own.around, part, own.way, own.payload)
 }

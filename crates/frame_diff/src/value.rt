@@ -1,6 +1,6 @@
 //! What an attribute tells beside another one.
 
-ghost use Rattle.std.specs.Prelude.{◌≡◌, ℕ, Bool, IfOk, List as Seq, OnOk, Some, false, map, option_map, true};
+ghost use Rattle.std.specs.Prelude.{◌≡◌, ℕ, Bool, IfOk, IfSome, List as Seq, OnOk, Some, false, map, option_map, true};
 ghost use Rattle.shown.specs.Drafts.{with_members};
 ghost use Rattle.frame_shown.specs.Items.{objects};
 ghost use Rattle.frame_shown.specs.declared.form.Around.{Around as Beside};
@@ -10,7 +10,8 @@ ghost use Rattle.frame_diff.specs.Inside.{HoldsNoField, has_none, inside_list, i
 ghost use Rattle.frame_diff.specs.Items.{items_told, leaf_items};
 ghost use Rattle.frame_diff.specs.Members.{fields, named};
 ghost use Rattle.frame_diff.specs.Rows.{inside_by, row_shown};
-ghost use Rattle.frame_diff.specs.Walked.{HasRowOf, Holding, Showing, held_at, held_items};
+ghost use Rattle.frame_diff.specs.Walked.{AreBeside, HasRowOf, Holding, Showing, StandsInside, held_at, held_items};
+ghost use Rattle.frame_diff.specs.declared.walk.Attributes.{Attributes as Lists};
 
 use crate::leaf::{Texts, Value, tell_leaf};
 use crate::rows::{Holds, Row, held_in, tell_rows};
@@ -33,6 +34,7 @@ fn holds_none<W: Walk>(own: Attribute<'_>, held: &Holds<'_>) -> bool
 {
     match held {
         Holds::Nothing => true,
+        Holds::Passed => false,
         Holds::Fields(rows, is_any) => are_none(rows, *is_any),
         Holds::List(list, bytes) => W::is_bare(Attributes {
             around: own.around,
@@ -110,7 +112,7 @@ fn rows_in<'a>(
 {
     match held_in(alloc, is_state, other)? {
         Holds::Fields(rows, _) => Ok(rows),
-        Holds::Nothing | Holds::List(_, _) => Ok(Vec::new(alloc)),
+        Holds::Nothing | Holds::Passed | Holds::List(_, _) => Ok(Vec::new(alloc)),
     }
 }
 
@@ -151,7 +153,8 @@ fn tell_fields<W: Walk>(
 /// The list among what may be held.
 #[tactic(auto, using(crate::proofs::Inside::none_in_fields))]
 fn list_of<'a>(around: &'a Around<'a>, held: Holds<'a>) -> Option<Attributes<'a>>
-    ensures { (inner : Holding) (is_state : Bool) (s : Step) → is_field s ≡ false
+    ensures around { IfSome result (λ a. a.around.now ≡ around.now) }
+    ensures held { (inner : Holding) (is_state : Bool) (s : Step) → is_field s ≡ false
         → find s (inside_list inner is_state result)
         ≡ find s (inside_by (inner is_state around.now) around.now held.entry) }
 {
@@ -161,7 +164,7 @@ fn list_of<'a>(around: &'a Around<'a>, held: Holds<'a>) -> Option<Attributes<'a>
             list,
             bytes,
         }),
-        Holds::Nothing | Holds::Fields(_, _) => None,
+        Holds::Nothing | Holds::Passed | Holds::Fields(_, _) => None,
     }
 }
 
@@ -171,7 +174,9 @@ fn list_in<'a>(
     is_state: bool,
     other: Attribute<'a>,
 ) -> Result<Option<Attributes<'a>>, AllocError>
-    ensures { IfOk result (λ list. (nest : Showing) (inner : Holding) (s : Step)
+    ensures around { IfOk result (λ list. IfSome list (λ a.
+        a.around.now ≡ other.entry.around.now)) }
+    ensures held { IfOk result (λ list. (nest : Showing) (inner : Holding) (s : Step)
         → is_field s ≡ false
         → find s (inside_list inner is_state list)
         ≡ find s (held_at nest inner is_state other.entry).1) }
@@ -186,7 +191,9 @@ fn list_beside<'a>(
     is_state: bool,
     beside: Option<Attribute<'a>>,
 ) -> Result<Option<Attributes<'a>>, AllocError>
-    ensures { IfOk result (λ list. (nest : Showing) (inner : Holding) (s : Step)
+    ensures alike { IfOk result (λ list. (own : Lists)
+        → StandsInside own beside.entry → AreBeside own list) }
+    ensures held { IfOk result (λ list. (nest : Showing) (inner : Holding) (s : Step)
         → is_field s ≡ false
         → find s (inside_list inner is_state list)
         ≡ find s (inside_in (option_map (held_at nest inner is_state) beside.entry))) }
@@ -206,6 +213,7 @@ fn tell_inside<W: Walk>(
     own: Attributes<'_>,
     beside: Option<Attribute<'_>>,
 ) -> Result<(), AllocError>
+    requires { pass.is_alike ≡ true → StandsInside own beside }
     ensures { OnOk result (page.new ≡ with_members (objects (items_told pass.side path.now
         (inside_list W.inner pass.is_state (Some own.entry))
         (inside_in (option_map (held_at W.nest W.inner pass.is_state) beside.entry)))) page.old) }
@@ -225,12 +233,13 @@ fn tell_held<W: Walk>(
     held: &Holds<'_>,
     beside: Option<Attribute<'_>>,
 ) -> Result<(), AllocError>
+    requires { pass.is_alike ≡ true → HasRowOf own beside }
     ensures { OnOk result (page.new ≡ with_members (objects (items_told pass.side path.now
         (inside_by (W.inner pass.is_state own.entry.around.now) own.entry.around.now held.now)
         (inside_in (option_map (held_at W.nest W.inner pass.is_state) beside.entry)))) page.old) }
 {
     match held {
-        Holds::Nothing => Ok(()),
+        Holds::Nothing | Holds::Passed => Ok(()),
         Holds::Fields(rows, _) => tell_fields::<W>(texts, pass, page, path, own, rows, beside),
         Holds::List(list, bytes) => {
             let own = Attributes {

@@ -19,3 +19,6 @@ pub mod FramesMeant
 pub mod MessagesMeant
 pub mod Tied
 pub mod Placed
+pub mod PlainRows
+pub mod PlainStyles
+pub mod Plain

@@ -9,6 +9,7 @@ use Rattle.link_info.specs.Places.{rows_of}
 use Rattle.link_info.specs.declared.place.Place.{Place}
 use Rattle.link_info.specs.declared.place.Place.TheVariants as Places
 use Rattle.link_info.specs.declared.style.Row.{Row as PlaceRow}
+use Rattle.link_info.specs.declared.style.Style.TheVariants as S
 use Rattle.frame_shown.specs.declared.form.Around.{Around}
 use Rattle.frame_shown.specs.declared.form.Form.{Form}
 use Rattle.frame_shown.specs.declared.form.Form.TheVariants as Forms
@@ -18,10 +19,10 @@ use Rattle.frame_shown.specs.declared.form.Table.{Table}
 use Rattle.frame_shown.specs.declared.form.Table.TheVariants as Tables
 use Rattle.frame_shown.specs.declared.form.Way.{Way}
 use Rattle.frame_shown.specs.declared.form.Way.TheVariants as Ways
-use Rattle.frame_shown.specs.declared.tables.TheConstants.{MESSAGE}
+use Rattle.frame_shown.specs.declared.tables.TheConstants.{KERNEL_NAMES, MESSAGE}
 use Rattle.frame_shown.specs.Tables.{Known, Rows, no_row, rows_in, row_by, row_found, row_of_list, styled, is_own}
 use Rattle.frame_shown.specs.Tables.{place_row, proto_inet6_row, nest_row, xstats_row, info_row, message_row}
-use Rattle.frame_shown.specs.Tables.{af_spec_form, proto_info_form, listed_row, row_in}
+use Rattle.frame_shown.specs.Tables.{af_spec_form, proto_info_form, listed_row, refused_row, row_in}
 
 both : (a b : Bool) → a && b ≡ true → (a ≡ true) × (b ≡ true)
 both true true h = (refl, refl)
@@ -122,6 +123,15 @@ info_key cx link port n =
     (either (n == 5) (nest_row (codes "slave-data") port) no_row (nest_key (codes "slave-data") port refl)
     (λ _. refl)))))
 
+bytes_key : {A : Type 0} (name : A → List ℕ) (names : List A) (n : ℕ)
+    → HasKey (get_or (map (λ x. (name x, Ways.By S.Bytes)) names) n no_row)
+bytes_key name [] n own = refl
+bytes_key name (x ∷ names) zero own = absurd cc
+bytes_key name (x ∷ names) (suc n) own = bytes_key name names n own
+
+pub refused_key : (n : ℕ) → HasKey (refused_row n)
+refused_key n = bytes_key (λ name. name.now) KERNEL_NAMES n
+
 listed_key : (cx : Around) (list : Shape) (n : ℕ) → HasKey (listed_row cx list n)
 listed_key cx (Shapes.Message family) n = message_key family n
 listed_key cx (Shapes.Own table) n = table_key table n
@@ -130,6 +140,7 @@ listed_key cx (Shapes.Entries group) n = λ own. refl
 listed_key cx (Shapes.Of place) n = place_key cx place n
 listed_key cx Shapes.ProtoInet6 n = inet6_key cx n
 listed_key cx (Shapes.Info link port) n = info_key cx link port n
+listed_key cx Shapes.Refused n = refused_key n
 
 pub row_key : (cx : Around) (list : Shape) (n : ℕ) → is_own (row_in cx list n).1 ≡ true → IsKey (row_in cx list n).0
 row_key cx list n = either (nat_lt n 256) (listed_row cx list n) no_row (listed_key cx list n) (λ own. refl)

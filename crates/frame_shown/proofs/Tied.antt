@@ -6,14 +6,15 @@ use Rattle.frame_shown.specs.declared.tables.TheConstants.{VF_MAC, VF_VLAN, VF_T
 use Rattle.frame_shown.specs.declared.tables.TheConstants.{VF_RATE, VF_GUID, VF_VLAN_INFO, MESSAGE, PROPS}
 use Rattle.frame_shown.specs.declared.tables.TheConstants.{DEVLINK_PORT, DPLL_PIN, DOWN_REASON, FUNCTION}
 use Rattle.frame_shown.specs.declared.tables.TheConstants.{FUNCTION_STATS, FUNCTION_VLANS, FAMILIES, INET, INET6}
-use Rattle.frame_shown.specs.declared.tables.TheConstants.{MCTP, XDP, INET6_STATS, MCTP_BINDINGS, VF_LINK_STATES}
+use Rattle.frame_shown.specs.declared.tables.TheConstants.{MCTP, XDP, INET6_STATS, KERNEL_NAMES, MCTP_BINDINGS}
+use Rattle.frame_shown.specs.declared.tables.TheConstants.{VF_LINK_STATES}
 use Rattle.frame_shown.specs.declared.tables.TheConstants.{ICMP6_STATS, INET_CONF, INET6_CONF, CACHE_INFO}
 use Rattle.frame_shown.specs.declared.tables.TheConstants.{INET6_FLAGS, ADDR_GEN_MODES, XDP_ATTACHED, EVENTS}
 use Rattle.frame_shown.specs.Tied.{TablesAreThese}
 
 pub tables_are_these : TablesAreThese
 unfolding OPERSTATES LINK_MODES EXT_MASK LINK_FLAGS STATS MAP VF_MAC VF_VLAN VF_TX_RATE VF_SETTING VF_LINK_STATE
-    VF_RATE VF_GUID VF_VLAN_INFO MESSAGE PROPS DEVLINK_PORT DPLL_PIN DOWN_REASON FUNCTION FUNCTION_STATS
+    VF_RATE VF_GUID VF_VLAN_INFO MESSAGE KERNEL_NAMES PROPS DEVLINK_PORT DPLL_PIN DOWN_REASON FUNCTION FUNCTION_STATS
     FUNCTION_VLANS FAMILIES INET INET6 MCTP XDP INET6_STATS MCTP_BINDINGS VF_LINK_STATES ICMP6_STATS INET_CONF
     INET6_CONF CACHE_INFO INET6_FLAGS ADDR_GEN_MODES XDP_ATTACHED EVENTS FRAME_FLAGS
 tables_are_these = record {
@@ -32,6 +33,7 @@ tables_are_these = record {
   vf_guid = refl;
   vf_vlan_info = refl;
   message = refl;
+  kernel_names = refl;
   props = refl;
   devlink_port = refl;
   dpll_pin = refl;

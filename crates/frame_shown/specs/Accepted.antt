@@ -1,6 +1,7 @@
 -- The attributes that are accepted of bytes that are no message.
 use Rattle.std.specs.Prelude.{ℕ, List, [], ◌∷◌, Bool, true, false, Result, Ok, Err}
-use Rattle.std.specs.Prelude.{◌++◌, codes, cond, drop, slice_index}
+use Rattle.std.specs.Prelude.{◌++◌, codes, cond, drop, not, slice_index}
+use Rattle.std.specs.List.{filter}
 use Rattle.std.specs.Int.{w32}
 use Rattle.link_info.specs.Tables.{frames_in}
 use Rattle.link_msg.specs.Tables.{attribute_place}
@@ -32,6 +33,10 @@ picked is_all test (f ∷ fs) =
 -- they alone, spelled one after the other
 abbrev pub accepted : Bool → ℕ → List ℕ → List ℕ
 accepted is_all family bytes = canons (λ f. f) (picked is_all (accepts family) (frames_in (items bytes)))
+
+-- those that are not, spelled so
+abbrev pub refused : ℕ → List ℕ → List ℕ
+refused family bytes = canons (λ f. f) (filter (λ f. not (accepts family f)) (frames_in (items bytes)))
 
 -- what is shown of bytes of which some attributes are refused: the header, and the others
 abbrev pub lenient_members : Around → List ℕ → Members

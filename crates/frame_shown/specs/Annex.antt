@@ -1,6 +1,6 @@
 -- The tables as they stand: names, numbers, places and forms, an annex that is to be compared with rt_link.yaml and the
 -- kernel's headers.
-use Rattle.std.specs.Prelude.{ℕ, List, [], ◌∷◌, codes}
+use Rattle.std.specs.Prelude.{ℕ, ◌==◌, List, [], ◌∷◌, ◌++◌, codes, cond, map}
 use Rattle.shown.specs.Values.{BitNames}
 use Rattle.link_info.specs.declared.place.Place.TheVariants as Places
 use Rattle.link_info.specs.declared.style.Size.TheVariants as Sizes
@@ -175,6 +175,13 @@ vf_vlan_info =
     (codes "qos", (8, Kinds.Number Sizes.Four)) ∷
     (codes "vlan-proto", (12, Kinds.Protocol)) ∷
     []
+
+-- the kernel's name of an attribute, in small letters
+abbrev pub underlined : ℕ → ℕ
+underlined letter = cond (letter == 45) 95 letter
+
+abbrev pub kernel_name : List ℕ → List ℕ
+kernel_name name = codes "ifla_" ++ map underlined name
 
 -- the attributes of a link, each at the place of its number
 abbrev pub message : List (List ℕ × Form)

@@ -10,3 +10,4 @@ pub mod Names
 pub mod Meaning
 pub mod Annex
 pub mod Tied
+pub mod Plain

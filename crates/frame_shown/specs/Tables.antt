@@ -27,7 +27,7 @@ use Rattle.frame_shown.specs.declared.form.Way.{Way}
 use Rattle.frame_shown.specs.declared.form.Way.TheVariants as Ways
 use Rattle.frame_shown.specs.declared.tables.TheConstants.{MESSAGE, PROPS, DEVLINK_PORT, DPLL_PIN, DOWN_REASON}
 use Rattle.frame_shown.specs.declared.tables.TheConstants.{FUNCTION, FUNCTION_STATS, FUNCTION_VLANS, FAMILIES, INET}
-use Rattle.frame_shown.specs.declared.tables.TheConstants.{INET6, MCTP, XDP}
+use Rattle.frame_shown.specs.declared.tables.TheConstants.{INET6, KERNEL_NAMES, MCTP, XDP}
 
 -- a name, and how a payload is shown
 abbrev pub Known : Type 0
@@ -42,6 +42,7 @@ manner_way (Manners.Own form) = Ways.Own form.now
 manner_way (Manners.By style) = Ways.By style.now
 manner_way (Manners.Nest place) = Ways.By (S.Nest place)
 manner_way (Manners.Counters members) = Ways.By (S.Record members)
+manner_way Manners.Bytes = Ways.By S.Bytes
 
 -- ** tables of this crate: a number, a name and a form
 abbrev pub Rows : Type 0
@@ -140,6 +141,10 @@ info_row cx link port n =
     (cond (n == 4) (codes "slave-kind", Ways.Own Forms.Text)
     (cond (n == 5) (nest_row (codes "slave-data") port) no_row))))
 
+-- ** attributes of a link that are refused: their bytes under the kernel's names
+abbrev pub refused_row : ℕ → Known
+refused_row n = get_or (map (λ name. (name.now, Ways.By S.Bytes)) KERNEL_NAMES) n no_row
+
 -- ** the row of a number
 abbrev pub listed_row : Around → Shape → ℕ → Known
 listed_row cx (Shapes.Message family) n = message_row family n
@@ -149,6 +154,7 @@ listed_row cx (Shapes.Entries group) n = no_row
 listed_row cx (Shapes.Of place) n = place_row cx place n
 listed_row cx Shapes.ProtoInet6 n = proto_inet6_row cx n
 listed_row cx (Shapes.Info link port) n = info_row cx link port n
+listed_row cx Shapes.Refused n = refused_row n
 
 -- only numbers below 256 have one
 abbrev pub row_in : Around → Shape → ℕ → Known

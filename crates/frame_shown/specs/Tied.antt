@@ -7,7 +7,8 @@ use Rattle.frame_shown.specs.declared.tables.TheConstants.{VF_MAC, VF_VLAN, VF_T
 use Rattle.frame_shown.specs.declared.tables.TheConstants.{VF_RATE, VF_GUID, VF_VLAN_INFO, MESSAGE, PROPS}
 use Rattle.frame_shown.specs.declared.tables.TheConstants.{DEVLINK_PORT, DPLL_PIN, DOWN_REASON, FUNCTION}
 use Rattle.frame_shown.specs.declared.tables.TheConstants.{FUNCTION_STATS, FUNCTION_VLANS, FAMILIES, INET, INET6}
-use Rattle.frame_shown.specs.declared.tables.TheConstants.{MCTP, XDP, INET6_STATS, MCTP_BINDINGS, VF_LINK_STATES}
+use Rattle.frame_shown.specs.declared.tables.TheConstants.{MCTP, XDP, INET6_STATS, KERNEL_NAMES, MCTP_BINDINGS}
+use Rattle.frame_shown.specs.declared.tables.TheConstants.{VF_LINK_STATES}
 use Rattle.frame_shown.specs.declared.tables.TheConstants.{ICMP6_STATS, INET_CONF, INET6_CONF, CACHE_INFO}
 use Rattle.frame_shown.specs.declared.tables.TheConstants.{INET6_FLAGS, ADDR_GEN_MODES, XDP_ATTACHED, EVENTS}
 
@@ -27,6 +28,7 @@ pub record TablesAreThese : Type 0 where
   pub vf_guid : map (λ part. (part.0.now, (part.1, part.2))) VF_GUID ≡ annex.vf_guid
   pub vf_vlan_info : map (λ part. (part.0.now, (part.1, part.2))) VF_VLAN_INFO ≡ annex.vf_vlan_info
   pub message : map (λ row. (row.0.now, row.1)) MESSAGE ≡ annex.message
+  pub kernel_names : map (λ name. name.now) KERNEL_NAMES ≡ map (λ row. annex.kernel_name row.0) annex.message
   pub props : map (λ row. (row.0, (row.1.now, row.2))) PROPS ≡ annex.props
   pub devlink_port : map (λ row. (row.0, (row.1.now, row.2))) DEVLINK_PORT ≡ annex.devlink_port
   pub dpll_pin : map (λ row. (row.0, (row.1.now, row.2))) DPLL_PIN ≡ annex.dpll_pin

@@ -5,7 +5,7 @@ ghost use Rattle.nla_wire.specs.Canon.{canon};
 ghost use Rattle.nla_wire.specs.Items.{items};
 ghost use Rattle.link_info.specs.Styles.{are_frames};
 ghost use Rattle.shown.specs.Drafts.{object_of, with_members, with_value};
-ghost use Rattle.frame_shown.specs.Accepted.{accepted, accepts, before_members, lenient_members};
+ghost use Rattle.frame_shown.specs.Accepted.{accepted, accepts, before_members, lenient_members, refused};
 ghost use Rattle.frame_shown.specs.Messages.{attribute_members};
 
 use crate::form::Around;
@@ -57,6 +57,22 @@ pub fn accepted(
             push_frame(&mut out, &frame)?;
         } else if !is_all {
             break;
+        }
+    }
+    Ok(out)
+}
+
+/// The attributes that are refused of a message of this family, spelled one after the other.
+pub fn refused(alloc: Global, bytes: &[u8], family: u8) -> Result<Vec<u8>, AllocError>
+    ensures { IfOk result (λ out. out.items ≡ refused family bytes.now) }
+{
+    let mut out = Vec::new(alloc);
+    for item in NlasIterator::new(bytes) {
+        let Ok(frame) = item else {
+            break;
+        };
+        if !is_accepted(&frame, family) {
+            push_frame(&mut out, &frame)?;
         }
     }
     Ok(out)

@@ -1,17 +1,23 @@
 //! Tables: how the payload of each number of a list is shown.
 
-ghost use Rattle.std.specs.Prelude.{◌≡◌, ◌<◌, ℕ, List as Seq, false, map, true};
+ghost use Rattle.std.specs.Prelude.{◌≡◌, ◌<◌, ℕ, List as Seq, false, get_or, map, true};
+ghost use Rattle.link_info.specs.Rows.{AreAllRows};
+ghost use Rattle.link_info.specs.declared.style.Style.TheVariants as Styles;
 ghost use Rattle.shown.specs.Keys.{IsKey};
+ghost use Rattle.frame_shown.specs.declared.form.Way.TheVariants as Ways;
+ghost use Rattle.frame_shown.specs.Plain.{IsPlain};
 ghost use Rattle.frame_shown.specs.Tables.{af_spec_form, entry_list, group_name, info_row, is_kept, is_kept_form};
 ghost use Rattle.frame_shown.specs.Tables.{are_from, is_own, kind_shown};
 ghost use Rattle.frame_shown.specs.Tables.{manner_way, message_row, nest_row, no_row, place_row, proto_info_form};
-ghost use Rattle.frame_shown.specs.Tables.{proto_inet6_row, row_by, row_in, row_of_list, rows_in, xstats_row};
+ghost use Rattle.frame_shown.specs.Tables.{proto_inet6_row, refused_row, row_by, row_in, row_of_list, rows_in};
+ghost use Rattle.frame_shown.specs.Tables.{xstats_row};
 
 use crate::tables::{
     DEVLINK_PORT, DOWN_REASON, DPLL_PIN, FAMILIES, FUNCTION, FUNCTION_STATS, FUNCTION_VLANS, INET,
-    INET6, MCTP, MESSAGE, PROPS, Row, XDP,
+    INET6, KERNEL_NAMES, MCTP, MESSAGE, PROPS, Row, XDP,
 };
 use link_info::field::row_of;
+use link_info::tables::can::CAN_STATS;
 use link_info::{Member, Place, Row as PlaceRow, Size, Style};
 use nla_wire::NLA_TYPE_MASK;
 
@@ -163,6 +169,8 @@ pub enum List {
     ProtoInet6,
     /// The kind of a link, and its data: by the places of both kinds.
     Info(Option<Place>, Option<Place>),
+    /// Attributes of a link that are refused: the bytes of each under the kernel's name.
+    Refused,
 }
 
 /// The names of lists.
@@ -252,13 +260,15 @@ pub enum Manner {
     Nest(Place),
     /// The counters that a kind of link has beside its data.
     Counters(&'static [Member]),
+    /// Its bytes as they are.
+    Bytes,
 }
 
 /// A name, and how a payload is shown, as both stand in a table.
 pub type Found = (&'static str, Manner);
 
 /// Which order the counters of IPv6 have. It changed between Linux 6.12 and 6.16, and no message says which one it has.
-#[derive(Clone, Copy, Drop)]
+#[derive(Clone, Copy, Debug, PartialEq, Eq)]
 pub enum Order {
     /// It is not known: the counters have no names.
     Unknown,
@@ -305,6 +315,21 @@ const INET6_LIST: Form = Form::List(List::ProtoInet6);
 /// How many numbers can have a row.
 pub(crate) const NUMBERS: usize = 256;
 
+impl<'a> Around<'a> {
+    /// What messages are plainly shown by: the rows of all places, and an order of the counters of IPv6.
+    pub fn plain(tables: &'a [&'static [PlaceRow]], order: Order) -> Around<'a>
+        requires { AreAllRows tables.now }
+        ensures { IsPlain order result }
+    {
+        Around {
+            tables,
+            can_stats: CAN_STATS,
+            order,
+            address_len: 0,
+        }
+    }
+}
+
 impl Manner {
     /// The same by value.
     pub fn way(self) -> Way
@@ -315,6 +340,7 @@ impl Manner {
             Manner::By(style) => Way::By(*style),
             Manner::Nest(place) => Way::By(Style::Nest(place)),
             Manner::Counters(members) => Way::By(Style::Record(members)),
+            Manner::Bytes => Way::By(Style::Bytes),
         }
     }
 }
@@ -483,6 +509,25 @@ fn info_row(cx: &Around<'_>, link: Option<Place>, port: Option<Place>, number: u
     }
 }
 
+/// The row of bytes under the name at a place; behind the last one there is none.
+fn bytes_at(names: &'static [&'static str], number: u16) -> Found
+    ensures { (result.0.now, manner_way result.1)
+        ≡ get_or (map (λ name. (name.now, Ways.By Styles.Bytes)) names.now) number no_row }
+{
+    if (number as usize) < names.len() {
+        (names[number as usize], Manner::Bytes)
+    } else {
+        no_row()
+    }
+}
+
+/// The row of an attribute of a link that is refused.
+fn refused_row(number: u16) -> Found
+    ensures { (result.0.now, manner_way result.1) ≡ refused_row number }
+{
+    bytes_at(&KERNEL_NAMES, number)
+}
+
 /// Whether an attribute of this form with this payload is kept as it is.
 #[inline(always)]
 fn is_kept_form(form: &Form, payload: &[u8]) -> bool
@@ -547,6 +592,7 @@ pub(crate) fn found_in(cx: &Around<'_>, list: &List, number: u16) -> Found
         List::Of(place) => place_row(cx, place, number),
         List::ProtoInet6 => proto_inet6_row(cx, number),
         List::Info(link, port) => info_row(cx, link, port, number),
+        List::Refused => refused_row(number),
     }
 }
 

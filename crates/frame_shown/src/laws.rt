@@ -3,6 +3,7 @@
 ghost use Rattle.frame_shown.specs.Laws.{FunctionsAreMeant, RecordsAreMeant, ValuesAreMeant};
 ghost use Rattle.frame_shown.specs.Meaning.{MessagesAreMeant};
 ghost use Rattle.frame_shown.specs.Names.{NamesAreApart};
+ghost use Rattle.frame_shown.specs.Plain.{ShownByOrder};
 ghost use Rattle.frame_shown.specs.Tied.{TablesAreThese};
 ghost use Rattle.frame_shown.specs.Values.{Nesting};
 ghost use Rattle.frame_shown.specs.declared.form.Around.{Around as Beside};
@@ -36,4 +37,10 @@ pub fn law_tables()
 /// name: messages with such types are one message, and are shown alike where their numbers are the same.
 pub fn law_meaning()
     ensures { (cx : Beside) → MessagesAreMeant cx }
+{}
+
+/// The order of the counters of IPv6 decides what is shown of a message: where the rows are those of each place, tables
+/// that stand elsewhere in memory show the same.
+pub fn law_plain()
+    ensures { ShownByOrder }
 {}

@@ -3,7 +3,7 @@ use Rattle.std.proofs.Common.{ℕ, List, refl}
 use Rattle.std.specs.Prelude.{Ok, Err}
 use Rattle.link_msg.specs.declared.encoding.CanonError.{CanonError}
 use Rattle.link_msg.specs.declared.encoding.CanonError.TheVariants as Errors
-use Rattle.message_shown.specs.declared.context.Order.{Order}
+use Rattle.frame_shown.specs.declared.form.Order.{Order}
 use Rattle.message_diff.specs.Compared.{IsRefusalOfTwoBy}
 use Rattle.link_c.specs.Answers.{of_canon}
 use Rattle.link_c.specs.Diffs.{IsDiffOf, compared}

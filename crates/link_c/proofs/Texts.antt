@@ -3,7 +3,7 @@ use Rattle.std.specs.Prelude.{◌≡◌, ℕ, ℤ, pos, negsuc, Bool, List, [], 
 use Rattle.std.proofs.Common.{refl, sym, subst}
 use Rattle.std.proofs.lemmas.List.{append_cancel_right}
 use Rattle.line_filter.specs.Lines.{with_lf}
-use Rattle.message_shown.specs.declared.context.Order.{Order}
+use Rattle.frame_shown.specs.declared.form.Order.{Order}
 use Rattle.link_c.specs.Answers.{Says}
 use Rattle.link_c.specs.declared.refusal.Refusal.{Refusal}
 use Rattle.link_c.specs.Shown.{Answers, Puts, PutsWhole}

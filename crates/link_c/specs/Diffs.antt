@@ -1,7 +1,7 @@
 -- What `linkwire_diff` writes: a text, for which the buffer may have no room.
 use Rattle.std.specs.Prelude.{◌≡◌, ℕ, ◌<◌, Bool, true, false, List, [], length, Result, Ok, Err, cond}
 use Rattle.link_msg.specs.declared.encoding.CanonError.{CanonError}
-use Rattle.message_shown.specs.declared.context.Order.{Order}
+use Rattle.frame_shown.specs.declared.form.Order.{Order}
 use Rattle.message_diff.specs.Announced.{without_event}
 use Rattle.message_diff.specs.Changed.{AddsListBy}
 use Rattle.message_diff.specs.Compared.{IsRefusalOfTwoBy, TellsIfDiffers}

@@ -5,8 +5,8 @@ use Rattle.message_shown.specs.Contexts.{IsPlain}
 use Rattle.message_shown.specs.Whole.{Whole, IsWholeAnswerTo, IsWholeLenientAnswerTo}
 use Rattle.message_shown.specs.Worded.{order_of, order_or}
 use Rattle.message_shown.specs.declared.context.Context.{Context}
-use Rattle.message_shown.specs.declared.context.Order.{Order}
-use Rattle.message_shown.specs.declared.context.Order.TheVariants as Orders
+use Rattle.frame_shown.specs.declared.form.Order.{Order}
+use Rattle.frame_shown.specs.declared.form.Order.TheVariants as Orders
 use Rattle.link_c.specs.Flags.{AreFlags}
 use Rattle.link_c.specs.declared.flags.Flags.{Flags}
 use Rattle.link_c.specs.declared.refusal.Refusal.{Refusal}

@@ -8,7 +8,7 @@ use Rattle.message_shown.specs.Answered as answered
 use Rattle.message_shown.specs.Leniently.{IsLenientAnswerTo}
 use Rattle.message_shown.specs.Lines.{Answering, AnswersAll, IsAnswer, IsAnswerTo}
 use Rattle.message_shown.specs.Whole.{Whole, BeginsAs, IsWholeAnswer, IsWholeAnswerTo, IsWholeLenientAnswerTo}
-use Rattle.message_shown.specs.declared.context.Order.{Order}
+use Rattle.frame_shown.specs.declared.form.Order.{Order}
 use Rattle.message_shown.proofs.Added.{begins_as, line_begins}
 use Rattle.message_shown.proofs.Leniently.{begins_leniently}
 use Rattle.linkshow.specs.Laws.{RunsBegin, AnswersBegin, LenientAnswersBegin}

@@ -13,7 +13,7 @@ use Rattle.message_shown.specs.Lines.{IsAnswerToSpelled, whole_object}
 use Rattle.message_shown.specs.Meaning.{IsOfMeaning}
 use Rattle.message_shown.specs.Whole.{Whole, IsWholeAnswer, ToLine}
 use Rattle.message_shown.specs.Worded.{order_for, words_shown}
-use Rattle.message_shown.specs.declared.context.Order.{Order}
+use Rattle.frame_shown.specs.declared.form.Order.{Order}
 use Rattle.message_shown.proofs.Meant.{answers_are_meant}
 use Rattle.linkshow.specs.Laws.{AnswersAreMeant, LenientAnswersAreMeant, LinesAreMeant}
 

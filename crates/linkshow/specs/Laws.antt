@@ -17,7 +17,7 @@ use Rattle.shown.specs.Pages.{IsObject}
 use Rattle.message_shown.specs.Leniently.{IsLenientAnswerTo}
 use Rattle.message_shown.specs.Lines.{Answering, IsAnswer, IsAnswerTo, fault_head}
 use Rattle.message_shown.specs.Whole.{Whole, IsWholeAnswer, IsWholeAnswerTo, IsWholeLenientAnswerTo}
-use Rattle.message_shown.specs.declared.context.Order.{Order}
+use Rattle.frame_shown.specs.declared.form.Order.{Order}
 
 -- behind the words of its line the answer to bytes that mean nothing has the cause of their fault, and no other answer
 -- has one there

@@ -3,7 +3,7 @@ use Rattle.std.specs.Prelude.{ℕ, List, Option}
 use Rattle.line_filter.specs.Lines as filter
 use Rattle.line_filter.specs.declared.error.RunError.{RunError}
 use Rattle.message_shown.specs.Whole.{Whole, IsWholeAnswer}
-use Rattle.message_shown.specs.declared.context.Order.{Order}
+use Rattle.frame_shown.specs.declared.form.Order.{Order}
 
 -- the reader was read to its end, and what was written are the answers to the lines of what it gave, with this order of
 -- counters where they say none, in order, each ended by an LF

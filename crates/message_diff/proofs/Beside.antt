@@ -24,7 +24,7 @@ use Rattle.line_filter.specs.declared.error.RunError.{RunError}
 use Rattle.message_diff.specs.declared.snapshot.Compared.{Compared}
 use Rattle.message_diff.specs.declared.watch.Watch.{Watch}
 use Rattle.message_diff.specs.Alone.{AddsAlone}
-use Rattle.message_diff.specs.Changed.{AddsChanged}
+use Rattle.message_diff.specs.Changed.{AddsChanged, changed_line}
 use Rattle.message_diff.specs.Shots.{Shot}
 use Rattle.message_diff.specs.Watched.{host_in}
 use Rattle.message_diff.specs.Files.{host_gone, host_news, gone_at, gone_of, keys_in, all_missing, all_news}
@@ -196,8 +196,8 @@ changed_told by old_front front was is w x b told other tells silent line same =
         one (News.changed by front was is) w x [] refl (inl (decides.0 refl, refl))
         (ap (λ o. o.items) (nothing refl) ∙ sym (append-nil w.out.items)) same
     each true decides nothing more =
-        let h = more refl in
-        one (News.changed by front was is) w x h.0 refl (inr (λ e. clash (decides.1 e), h.1)) h.2 same
+        one (News.changed by front was is) w x (changed_line by front was is) refl
+        (inr (λ e. clash (decides.1 e), refl)) (more refl) same
 
 -- ** by what the files have
 

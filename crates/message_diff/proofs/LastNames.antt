@@ -1,9 +1,10 @@
 -- The last name among frames is that among the attributes that they mean leniently.
-use Rattle.std.proofs.Common.{◌≡◌, ◌≢◌, ℕ, ◌==◌, Bool, true, false, List, [], ◌∷◌, refl, sym, ap, ◌∙◌}
-use Rattle.std.proofs.Common.{Option, None, take, drop, length, inl, inr}
+use Rattle.std.proofs.Common.{◌≡◌, ◌≢◌, ◌<◌, ℕ, ◌==◌, Bool, true, false, List, [], ◌∷◌, refl, sym, ap, ◌∙◌}
+use Rattle.std.proofs.Common.{Option, None, take, drop, length, length-append, inl, inr, arith}
 use Rattle.std.specs.Prelude.{cond}
 use Rattle.std.specs.List.{fold}
 use Rattle.std.proofs.Math.Seq.{take-append_seam, drop-append_seam}
+use Rattle.std.proofs.lemmas.Bool.{le-ltb, lt-ltb}
 use borrow.Author.Tests.{false-eqb}
 use Rattle.nla_wire.specs.Frames.{Frame, number, Frames}
 use Rattle.nla_wire.specs.Reading.{Cut}
@@ -12,6 +13,7 @@ use Rattle.nla_wire.specs.Grammar.{Every}
 use Rattle.nla_wire.specs.declared.error.Cause.{Cause}
 use Rattle.nla_wire.proofs.Cuts.{cut_frames}
 use Rattle.link_vals.specs.declared.address_family.AddressFamily.{AddressFamily}
+use Rattle.shown.specs.Drafts.{Members}
 use Rattle.link_msg.specs.Header.{header_size, header_of}
 use Rattle.link_msg.specs.Lenient.{MeansLeniently, lenient_place}
 use Rattle.link_msg.specs.Tables.{attribute_place, attribute_frame, attribute_view, attribute_lawful, attribute_number}
@@ -19,8 +21,8 @@ use Rattle.link_msg.specs.declared.attribute.LinkAttribute.{LinkAttribute}
 use Rattle.link_msg.specs.declared.attribute.LinkAttribute.TheVariants as Attributes
 use Rattle.link_msg.specs.declared.message.LinkMessage.{LinkMessage}
 use Rattle.link_msg.specs.declared.numbers.TheConstants.{IFLA_IFNAME}
-use Rattle.message_diff.specs.Alone.{name_or, last_name, alone_line, interface_line}
-use Rattle.message_diff.specs.Named.{name_read, name_after, name_in}
+use Rattle.message_diff.specs.Alone.{head_in, interface_members, last_name, name_or}
+use Rattle.message_diff.specs.Named.{IsSplit, head_of, name_read, name_after, name_in}
 
 -- what is written under another number is no name
 no_name : (last : Option (List ℕ)) (v : LinkAttribute) → number (attribute_frame v) ≢ IFLA_IFNAME
@@ -65,19 +67,38 @@ module _ (family : AddressFamily) where
       ap (λ (k : Cut). fold (name_after family) None (items_of k.frames k.stop)) (cut_frames c fs frames)
       ∙ names_same fs vs all None
 
--- the line that is made of the header and the frames is that of the message
-pub line_meant : (front change text rest : List ℕ) (family : AddressFamily)
-    → family ≡ (header_of (take header_size text)).interface_family → rest ≡ drop header_size text
-    → (m : LinkMessage) → MeansLeniently text m
-    → interface_line front change family (name_in family rest) text ≡ alone_line front change text m
-line_meant front change text rest family is behind m (h, c, parts, says, (fs, frames, all)) =
+-- which interface an encoding is of, where it has a header and where it has none
+pub head_read : (text attributes : List ℕ) (family : AddressFamily) (name : Option (List ℕ))
+    → IsSplit text family attributes → name ≡ name_in family attributes
+    → interface_members family name text ≡ head_of text
+unfolding head_of
+head_read text attributes family name split named =
+    let own = (header_of (take header_size text)).interface_family in
+    let some : Members = interface_members own (name_in own (drop header_size text)) text in
+    let read : name ≡ name_in own (drop header_size text) =
+    named ∙ (λ i. name_in (split.family_is i) (split.behind i)) in
+    (λ i. interface_members (split.family_is i) (read i) text)
+    ∙ sym (ap (λ b. cond b [] some) (le-ltb (length text) header_size split.long))
+
+pub head_none : (text : List ℕ) → length text < header_size → [] ≡ head_of text
+unfolding head_of
+head_none text short =
+    let own = (header_of (take header_size text)).interface_family in
+    let some : Members = interface_members own (name_in own (drop header_size text)) text in
+    sym (ap (λ b. cond b [] some) (lt-ltb (length text) header_size short))
+
+-- it is what the message says that the encoding means
+pub head_meant : (text : List ℕ) (m : LinkMessage) → MeansLeniently text m → head_of text ≡ head_in text m
+head_meant text m (h, c, parts, says, (fs, frames, all)) =
+    let family = m.header.interface_family in
     let front_is : take header_size text ≡ h =
     ap (λ n. take n text) (sym says.size) ∙ ap (λ (x : List ℕ). take (length h) x) parts ∙ take-append_seam h c in
-    let rest_is : rest ≡ c =
-    behind ∙ ap (λ n. drop n text) (sym says.size) ∙ ap (λ (x : List ℕ). drop (length h) x) parts
-    ∙ drop-append_seam h c in
-    let same : family ≡ m.header.interface_family =
-    is ∙ ap (λ (x : List ℕ). (header_of x).interface_family) front_is ∙ ap (λ v. v.interface_family) (sym says.says) in
-    ap (λ f. interface_line front change f (name_in f rest) text) same
-    ∙ ap (λ name. interface_line front change m.header.interface_family name text)
-    (ap (name_in m.header.interface_family) rest_is ∙ name_found m.header.interface_family c fs m.attributes frames all)
+    let rest_is : drop header_size text ≡ c =
+    ap (λ n. drop n text) (sym says.size) ∙ ap (λ (x : List ℕ). drop (length h) x) parts ∙ drop-append_seam h c in
+    let split : IsSplit text family c = record {
+      long = omega (arith, says.size, ap (λ (x : List ℕ). length x) parts, length-append h c);
+      family_is = ap (λ v. v.interface_family) says.says
+          ∙ ap (λ (x : List ℕ). (header_of x).interface_family) (sym front_is);
+      behind = sym rest_is;
+    } in
+    sym (head_read text c family (last_name m.attributes) split (sym (name_found family c fs m.attributes frames all)))

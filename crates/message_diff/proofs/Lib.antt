@@ -1,6 +1,3 @@
-pub mod Diffs
-pub mod Found
-pub mod Paths
 pub mod Silent
 pub mod Pictures
 pub mod Missed
@@ -11,11 +8,6 @@ pub mod Unknown
 pub mod LastNames
 pub mod Meant
 pub mod Changed
-pub mod Without
-pub mod Trees
-pub mod Taken
-pub mod Looked
-pub mod Marked
 pub mod TwoKinds
 pub mod Cuts
 pub mod Events
@@ -25,15 +17,3 @@ pub mod Wireless
 pub mod Once
 pub mod Beside
 pub mod Noted
-pub mod Places
-pub mod Spans
-pub mod Passing
-pub mod Below
-pub mod PartFrames
-pub mod Unlike
-pub mod ByPath
-pub mod ByLabel
-pub mod Counted
-pub mod OtherPaths
-pub mod LeftOut
-pub mod Clauses

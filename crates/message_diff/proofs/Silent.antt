@@ -4,7 +4,7 @@ use Rattle.std.specs.Prelude.{◌↔◌, IsTrue, MatchBool}
 use Rattle.std.specs.Bool.{Decides}
 use Rattle.std.proofs.lemmas.Slice.Eq.{bytes_eq-Decides}
 use Rattle.message_diff.specs.declared.snapshot.Compared.{Compared}
-use Rattle.message_diff.specs.Changed.{AddsChanged, IsChanged}
+use Rattle.message_diff.specs.Changed.{AddsChanged, IsChanged, changed_line}
 use Rattle.message_diff.specs.Shots.{Shot}
 use Rattle.message_diff.specs.Known.{is_text}
 use Rattle.message_diff.specs.Told.{AddsTurned}
@@ -18,7 +18,7 @@ turned : (by : Compared) (front : List ℕ) (s t : Shot) (a b : List ℕ) (same 
     → (line : List ℕ) × MatchBool same (line ≡ []) (IsChanged by front s t line) × (b ≡ a ++ line)
 turned by front s t a b true true is tells nothing more = absurd (clash (tells.1 (is.0 refl)))
 turned by front s t a b true false is tells nothing more = ([], refl, nothing refl ∙ sym (append-nil a))
-turned by front s t a b false true is tells nothing more = more refl
+turned by front s t a b false true is tells nothing more = (changed_line by front s t, refl, more refl)
 turned by front s t a b false false is tells nothing more = absurd (clash (sym (is.1 (tells.0 refl))))
 
 pub told_of : (by : Compared) (front : List ℕ) (s t : Shot) (a b : List ℕ) (told : Bool)

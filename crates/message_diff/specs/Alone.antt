@@ -57,13 +57,16 @@ interface_members family name bytes =
     ∷ signed (codes "ifi-index") (signed_at w32 bytes 4)
     ∷ name_members name
 
-unfoldable pub interface_line : List ℕ → List ℕ → AddressFamily → Option (List ℕ) → List ℕ → List ℕ
-interface_line front change family name bytes =
-    with_lf (print (object_of (told_words front ++ change_member change ∷ interface_members family name bytes)))
+-- that of the message that has these bytes
+abbrev pub head_in : List ℕ → LinkMessage → Members
+head_in bytes m = interface_members m.header.interface_family (last_name m.attributes) bytes
+
+-- the words that are told, what became of the interface, and which it is
+unfoldable pub interface_line : List ℕ → List ℕ → Members → List ℕ
+interface_line front change head = with_lf (print (object_of (told_words front ++ change_member change ∷ head)))
 
 abbrev pub alone_line : List ℕ → List ℕ → List ℕ → LinkMessage → List ℕ
-alone_line front change bytes m =
-    interface_line front change m.header.interface_family (last_name m.attributes) bytes
+alone_line front change bytes m = interface_line front change (head_in bytes m)
 
 -- the line that tells that this became of the interface whose encoding this is
 pub record IsAlone (front change text line : List ℕ) : Type 0 where

@@ -1,5 +1,5 @@
 -- What is compared of messages.
-use Rattle.std.specs.Prelude.{◌≡◌, ◌≢◌, ◌↔◌, ◌⊎◌, ◌++◌, ℕ, List, Bool, false}
+use Rattle.std.specs.Prelude.{◌≡◌, ◌≢◌, ◌↔◌, ◌⊎◌, ◌++◌, ℕ, List, Bool, true, false, cond}
 use Rattle.link_msg.specs.Canonical.{HasText, IsAccepted, IsRefusal}
 use Rattle.link_msg.specs.Lenient.{HasLenientText, IsLenientlyAccepted, IsLenientRefusal}
 use Rattle.link_msg.specs.declared.encoding.CanonError.{CanonError}
@@ -7,6 +7,7 @@ use Rattle.link_msg.specs.declared.encoding.CanonError.TheVariants as Refusals
 use Rattle.link_msg.specs.declared.message.LinkMessage.{LinkMessage}
 use Rattle.link_state.specs.State.{HasState}
 use Rattle.link_state.specs.LenientState.{HasLenientState}
+use Rattle.frame_diff.specs.Members.{Parts, leniently as apart, whole}
 use Rattle.message_diff.specs.declared.snapshot.Compared.{Compared}
 use Rattle.message_diff.specs.declared.snapshot.Compared.TheVariants.{State, Message, LenientState, LenientMessage}
 
@@ -23,6 +24,23 @@ with_counters State = Message
 with_counters Message = Message
 with_counters LenientState = LenientMessage
 with_counters LenientMessage = LenientMessage
+
+-- whether what moves by itself does not count
+abbrev pub is_state : Compared → Bool
+is_state State = true
+is_state LenientState = true
+is_state Message = false
+is_state LenientMessage = false
+
+abbrev pub is_lenient : Compared → Bool
+is_lenient State = false
+is_lenient Message = false
+is_lenient LenientState = true
+is_lenient LenientMessage = true
+
+-- what is compared of an encoding: where it is read leniently, attributes that are refused are apart
+abbrev pub parts_by : Compared → List ℕ → Parts
+parts_by by text = cond (is_lenient by) (apart text) (whole text)
 
 -- the encoding of the message that the bytes mean, or mean leniently
 abbrev pub HasTextBy : Compared → List ℕ → List ℕ → Type 0

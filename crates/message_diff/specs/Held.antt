@@ -15,7 +15,7 @@ use Rattle.message_diff.specs.declared.store.Entry.{Entry}
 use Rattle.message_diff.specs.declared.reading.Said.{Said}
 use Rattle.message_diff.specs.declared.reading.Said.TheVariants as Saids
 use Rattle.message_diff.specs.declared.watch.Telling.{Telling}
-use Rattle.message_shown.specs.declared.context.Order.{Order}
+use Rattle.frame_shown.specs.declared.form.Order.{Order}
 use Rattle.message_diff.specs.Shots.{Shot}
 use Rattle.message_diff.specs.Announced.{kind_in, kind_or}
 use Rattle.message_diff.specs.Known.{Item, Seen, Picture, is_text, key_cmp, is_key, is_since, reaches, in_family}

@@ -18,7 +18,7 @@ use Rattle.message_diff.specs.declared.reading.Said.{Said}
 use Rattle.message_diff.specs.declared.reading.Said.TheVariants as Saids
 use Rattle.message_shown.specs.Contexts.{text_in}
 use Rattle.message_shown.specs.Worded.{order_for}
-use Rattle.message_shown.specs.declared.context.Order.TheVariants as Orders
+use Rattle.frame_shown.specs.declared.form.Order.TheVariants as Orders
 use Rattle.message_diff.specs.Shots.{Shot}
 use Rattle.message_diff.specs.Announced.{is_wireless_alone, without_event}
 use Rattle.message_diff.specs.Compared.{HasTextBy, IsRefusalAloneBy}

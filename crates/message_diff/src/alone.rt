@@ -1,13 +1,13 @@
 //! A line that tells of an interface, and not of what changed of it.
 
-ghost use Rattle.std.specs.Prelude.{◌≡◌, ◌≤◌, ◌<◌, ◌++◌, OnOk, MatchOption, length, take, drop};
-ghost use Rattle.link_msg.specs.Header.{header_size, header_of};
+ghost use Rattle.std.specs.Prelude.{◌≡◌, ◌<◌, OnOk, MatchOption, length};
+ghost use Rattle.link_msg.specs.Header.{header_size};
 ghost use Rattle.shown.specs.Drafts.{with_members};
-ghost use Rattle.message_diff.specs.Alone.{interface_members, interface_line, AddsAlone};
-ghost use Rattle.message_diff.specs.Named.{name_in};
+ghost use Rattle.message_diff.specs.Alone.{interface_members, AddsAlone};
+ghost use Rattle.message_diff.specs.Named.{IsSplit, head_of};
 
 use crate::named::last_name;
-use crate::words::{push_line, show_told};
+use crate::words::show_told;
 use link_msg::header::HEADER_SIZE;
 use link_msg::{AddressFamily, LinkHeader};
 use nla_wire::Text;
@@ -33,35 +33,10 @@ fn show_head(
     }
 }
 
-/// Adds a line that tells that this became of the interface of this family whose message has these bytes, and these of
-/// attributes.
-fn push_interface(
-    alloc: Global,
-    front: &[u8],
-    change: &str,
-    bytes: &[u8],
-    family: AddressFamily,
-    attributes: &[u8],
-    out: &mut Vec<u8>,
-) -> Result<(), AllocError>
-    ensures { OnOk result (out.new.items ≡ out.old.items ++ interface_line front.now change.now
-        family (name_in family attributes.now) bytes.now) }
-{
-    let name = last_name(alloc, family, attributes)?;
-    let mut page = Page::new(alloc)?;
-    show_told(&mut page, front)?;
-    page.string("change", change)?;
-    show_head(&mut page, bytes, family, &name)?;
-    page.finish(out)?;
-    out.push(b'\n')?;
-    Ok(())
-}
-
 /// The family of a message and the bytes of its attributes; nothing where it has no header.
 fn split(text: &[u8]) -> Option<(AddressFamily, &[u8])>
-    ensures { MatchOption result (length text.now < header_size) (λ r.
-        (r.0 ≡ (header_of (take header_size text.now)).interface_family)
-        × (r.1.now ≡ drop header_size text.now)) }
+    ensures { MatchOption result (length text.now < header_size)
+        (λ r. IsSplit text.now r.0 r.1.now) }
 {
     if text.len() < HEADER_SIZE {
         return None;
@@ -70,6 +45,19 @@ fn split(text: &[u8]) -> Option<(AddressFamily, &[u8])>
     match LinkHeader::parse(front) {
         Ok(header) => Some((header.interface_family, attributes)),
         Err(_error) => None,
+    }
+}
+
+/// Adds which interface an encoding is of, by its header and the last name among its attributes.
+pub fn show_interface(alloc: Global, page: &mut Page, text: &[u8]) -> Result<(), AllocError>
+    ensures { OnOk result (page.new ≡ with_members (head_of text.now) page.old) }
+{
+    match split(text) {
+        Some((family, attributes)) => {
+            let name = last_name(alloc, family, attributes)?;
+            show_head(page, text, family, &name)
+        }
+        None => Ok(()),
     }
 }
 
@@ -84,10 +72,11 @@ pub fn push_alone(
 ) -> Result<(), AllocError>
     ensures { OnOk result (AddsAlone front.now change.now text.now out.old.items out.new.items) }
 {
-    match split(text) {
-        Some((family, attributes)) => {
-            push_interface(alloc, front, change, text, family, attributes, out)
-        }
-        None => push_line(alloc, front, "change", change, out),
-    }
+    let mut page = Page::new(alloc)?;
+    show_told(&mut page, front)?;
+    page.string("change", change)?;
+    show_interface(alloc, &mut page, text)?;
+    page.finish(out)?;
+    out.push(b'\n')?;
+    Ok(())
 }

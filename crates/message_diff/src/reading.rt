@@ -12,11 +12,12 @@ use crate::announced::{is_wireless_alone, without_event};
 use crate::key::Key;
 use crate::snapshot::{Compared, Snapshot};
 use crate::words::{push_line, push_not_hex, push_words};
+use frame_shown::form::Order;
 use line_filter::digits::{decode, values};
 use line_filter::words::{are_alone, digits_of, value_of};
 use link_msg::CanonError;
 use message_shown::answers::push_answer;
-use message_shown::context::{Order, text_of};
+use message_shown::context::text_of;
 use message_shown::worded::order_for;
 use std::alloc::{AllocError, Global};
 

@@ -2,12 +2,12 @@
 
 ghost use Rattle.std.specs.Prelude.{◌≡◌, IfOk, IfErr};
 ghost use Rattle.message_diff.specs.Announced.{without_event};
-ghost use Rattle.message_diff.specs.Compared.{HasTextBy, IsRefusalBy, leniently, with_counters};
+ghost use Rattle.message_diff.specs.Compared.{HasTextBy, IsRefusalBy, is_lenient, is_state, leniently, with_counters};
 
 use crate::announced::without_event;
+use frame_shown::form::Order;
 use link_msg::{CanonError, canonical, canonical_lenient};
 use link_state::{state, state_lenient};
-use message_shown::context::Order;
 use std::alloc::{AllocError, Global};
 use std::marker::Model;
 
@@ -25,6 +25,26 @@ pub enum Compared {
 }
 
 impl Compared {
+    /// Whether what moves by itself does not count.
+    pub fn is_state(self) -> bool
+        ensures { result ≡ is_state self }
+    {
+        match self {
+            Compared::State | Compared::LenientState => true,
+            Compared::Message | Compared::LenientMessage => false,
+        }
+    }
+
+    /// Whether messages are read leniently.
+    pub fn is_lenient(self) -> bool
+        ensures { result ≡ is_lenient self }
+    {
+        match self {
+            Compared::LenientState | Compared::LenientMessage => true,
+            Compared::State | Compared::Message => false,
+        }
+    }
+
     /// The same of messages that are read leniently.
     pub fn leniently(self) -> Compared
         ensures { result ≡ leniently self }

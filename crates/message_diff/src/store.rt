@@ -14,7 +14,7 @@ ghost use Rattle.std.specs.Map.{keys_of};
 use crate::announced::{are_two, kind_of};
 use crate::key::{AF_BRIDGE, AF_INET6, AF_UNSPEC, Key};
 use crate::snapshot::Snapshot;
-use message_shown::context::Order;
+use frame_shown::form::Order;
 use std::alloc::{AllocError, Global};
 use std::collections::BTreeMap;
 use std::ops::Bound;

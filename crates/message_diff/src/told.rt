@@ -1,20 +1,19 @@
 //! A line for an interface that came, went or changed.
 
-ghost use Rattle.std.specs.Prelude.{◌≡◌, ◌<◌, ◌↔◌, IsTrue, IfOk, IfErr, OnOk, false, length, codes};
+ghost use Rattle.std.specs.Prelude.{◌≡◌, ◌<◌, ◌↔◌, ◌++◌, ℕ, List, IsTrue, IfOk, IfErr, OnOk, false, length, codes};
 ghost use Rattle.message_diff.specs.Announced.{without_event};
 ghost use Rattle.message_diff.specs.Compared.{TellsIfDiffers, Extends, IsRefusalOfTwoBy};
 ghost use Rattle.message_diff.specs.Alone.{AddsAlone};
-ghost use Rattle.message_diff.specs.Shown.{AreCompared};
-ghost use Rattle.message_diff.specs.Shots.{orders_of};
-ghost use Rattle.message_diff.specs.Changed.{AddsChanged, AddsChangedBy};
+ghost use Rattle.message_diff.specs.Changed.{AddsChanged, AddsChangedBy, AddsList, AddsListBy};
 
-use crate::alone::push_alone;
+use crate::alone::{push_alone, show_interface};
+use crate::changes::show_changes;
 use crate::desk::Desk;
-use crate::line::push_head;
-use crate::listed::{push_found, show_both};
 use crate::snapshot::{Compared, Snapshot};
+use crate::words::show_told;
+use frame_shown::form::Order;
 use link_msg::CanonError;
-use message_shown::context::Order;
+use shown::Page;
 use std::alloc::{AllocError, Global};
 
 /// Adds a line that tells that the interface came: the words in front of a line that are told (`type`, `time`, `host`),
@@ -44,28 +43,7 @@ pub fn push_gone(
     push_alone(alloc, front, "gone", old.text(), out)
 }
 
-/// Adds a line for an interface whose encoding is another, by what is shown of both.
-fn push_shown(
-    alloc: Global,
-    by: Compared,
-    front: &[u8],
-    old: &Snapshot,
-    new: &Snapshot,
-    desk: &mut Desk,
-    out: &mut Vec<u8>,
-) -> Result<(), AllocError>
-    ensures { OnOk result
-        (AreCompared (orders_of old.now new.now) old.now.text new.now.text desk.old.pair
-        → AddsChanged by front.now old.now new.now out.old.items out.new.items) }
-{
-    push_head(alloc, front, "changed", desk.pair.new.members(), out)?;
-    out.extend_from_slice(b",\"changes\":")?;
-    push_found(alloc, by, old, new, &desk.pair, &mut desk.counters, out)?;
-    out.extend_from_slice(b"}\n")?;
-    Ok(())
-}
-
-/// The same, where nothing is shown of them yet.
+/// Adds a line for an interface whose encoding is another.
 fn push_difference(
     alloc: Global,
     by: Compared,
@@ -78,16 +56,22 @@ fn push_difference(
     ensures { OnOk result
         (AddsChanged by front.now old.now new.now out.old.items out.new.items) }
 {
-    show_both(alloc, old, new, desk)?;
-    push_shown(alloc, by, front, old, new, desk, out)
+    let mut page = desk.line.begin()?;
+    show_told(&mut page, front)?;
+    page.string("change", "changed")?;
+    show_interface(alloc, &mut page, new.text())?;
+    show_changes(&mut desk.texts, by, old, new, &mut page)?;
+    desk.line.finish(page, out)?;
+    out.push(b'\n')?;
+    Ok(())
 }
 
 /// Adds a line that tells what changed of the interface, if its encoding is another, and returns whether it is.
 ///
 /// The line has the words in front of a line that are told, `change`, which is `changed`, family, index and name of the
-/// new message, and `changes`: of each path whose value differs `path`, `old` and `new`, of which one is
-/// left out where the path came or went. Of state encodings, paths that have a counter's zero are left out. Where the
-/// encodings differ and no path does, the one path `state` has both of them in hexadecimal.
+/// new message, and `changes`: of each path whose value differs `path`, `old` and `new`, of which one is left out where
+/// the path came or went. Of states, what moves by itself is not told. Where the encodings differ and no path does, the
+/// one path `state` has both of them in hexadecimal.
 pub fn push_changed(
     alloc: Global,
     by: Compared,
@@ -110,6 +94,36 @@ pub fn push_changed(
     }
     push_difference(alloc, by, front, old, new, desk, out)?;
     Ok(true)
+}
+
+/// What stands in front of a list that is the one member of an object, and behind it.
+const OPENED: &[u8] = b"{\"changes\":";
+
+/// Adds the list of what changed, which is written as the one member of an object.
+fn push_inside(text: &[u8], out: &mut Vec<u8>) -> Result<(), AllocError>
+    ensures { OnOk result ((list : List ℕ) → text.now ≡ codes "{\"changes\":" ++ (list ++ codes "}")
+        → out.new.items ≡ out.old.items ++ list) }
+{
+    let end = text.len().max(1) - 1;
+    out.extend_from_slice(text.get(OPENED.len()..end).unwrap_or(b""))
+}
+
+/// Adds the list of what changed of an interface whose encoding is another.
+fn push_changes(
+    alloc: Global,
+    by: Compared,
+    old: &Snapshot,
+    new: &Snapshot,
+    out: &mut Vec<u8>,
+) -> Result<(), AllocError>
+    ensures { OnOk result (AddsList by old.now new.now out.old.items out.new.items) }
+{
+    let mut desk = Desk::new(alloc);
+    let mut text = Vec::new(alloc);
+    let mut page = Page::new(alloc)?;
+    show_changes(&mut desk.texts, by, old, new, &mut page)?;
+    page.finish(&mut text)?;
+    push_inside(text.as_slice(), out)
 }
 
 /// Adds a line that tells what differs between the messages that the bytes are, if their encodings do, and returns
@@ -141,6 +155,42 @@ pub fn push_compared(
     let mut desk = Desk::new(alloc);
     match push_changed(alloc, by, b"", &was, &is, &mut desk, out) {
         Ok(told) => Ok(told),
+        Err(AllocError) => Err(CanonError::OutOfMemory),
+    }
+}
+
+/// Adds the list of what differs between the messages that the bytes are, if their encodings do, and returns whether
+/// they do. Attributes IFLA_EVENT, which say why a message was announced, are not compared. It is what a line of
+/// `push_compared` has as `changes`: a JSON list, and no line's end.
+///
+/// Refuses as `Snapshot::of_link` does, each refusal of the old one before those of the new one; then nothing was
+/// added.
+pub fn push_list(
+    alloc: Global,
+    by: Compared,
+    order: Order,
+    old: &[u8],
+    new: &[u8],
+    out: &mut Vec<u8>,
+) -> Result<bool, CanonError>
+    ensures told { IfOk result
+        (TellsIfDiffers by (without_event old.now) (without_event new.now)) }
+    ensures silent { IfOk result (λ told. told ≡ false → out.new ≡ out.old) }
+    ensures said { IfOk result
+        (λ told. IsTrue told → length out.old.items < length out.new.items) }
+    ensures list { IfOk result (λ told. IsTrue told
+        → AddsListBy by order (without_event old.now) (without_event new.now)
+        out.old.items out.new.items) }
+    ensures err { IfErr result
+        (IsRefusalOfTwoBy by (without_event old.now) (without_event new.now)) }
+{
+    let was = Snapshot::of_link(alloc, by, order, old)?;
+    let is = Snapshot::of_link(alloc, by, order, new)?;
+    if was.text() == is.text() {
+        return Ok(false);
+    }
+    match push_changes(alloc, by, &was, &is, out) {
+        Ok(()) => Ok(true),
         Err(AllocError) => Err(CanonError::OutOfMemory),
     }
 }

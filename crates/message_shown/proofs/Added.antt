@@ -34,7 +34,6 @@ use Rattle.link_msg.proofs.Reading.{message_agrees}
 use Rattle.shown.specs.Values.{numbered}
 use Rattle.frame_shown.specs.Messages.{message_members}
 use Rattle.message_shown.specs.Causes.{cause_text, cause_members}
-use Rattle.message_shown.specs.Contexts.{for_frames}
 use Rattle.message_shown.specs.Faults.{AddsFault}
 use Rattle.message_shown.specs.Lines.{Answering, IsAnswer, IsAnswerTo, IsAnswerToSpelled, IsAnswerOf, head}
 use Rattle.message_shown.specs.Lines.{TellsMessage, message_line, whole_object}
@@ -43,7 +42,7 @@ use Rattle.message_shown.specs.Lines.{fault_member, fault_head, family_member, n
 use Rattle.message_shown.specs.Whole.{Whole, BeginsAs, TellsAs, IsWholeAnswer, IsWholeAnswerTo, ToLine}
 use Rattle.message_shown.specs.Worded.{words_shown}
 use Rattle.message_shown.specs.declared.context.Context.{Context}
-use Rattle.message_shown.specs.declared.context.Order.{Order}
+use Rattle.frame_shown.specs.declared.form.Order.{Order}
 
 -- ** what is added
 pub lf_after : (old text mid new : List ℕ) → mid ≡ old ++ text → new ≡ mid ++ 10 ∷ [] → new ≡ old ++ with_lf text
@@ -79,7 +78,7 @@ module _ (place : AddressFamily → Grammar Frame LinkAttribute) (b : List ℕ) 
 
 pub adds_message : (cx : Context) (words : Members) (page : Draft) (bytes old mid new : List ℕ)
     → (m : LinkMessage) × Means bytes m
-    → page ≡ with_members (words ++ message_members (for_frames cx) bytes) empty_object
+    → page ≡ with_members (words ++ message_members cx.around bytes) empty_object
     → AddsText page old mid → new ≡ mid ++ 10 ∷ [] → AddsAnswerTo (IsWholeAnswerTo cx) words bytes old new
 unfolding message_line
 adds_message cx words page bytes old mid new (m, means) is s k = (
@@ -87,7 +86,7 @@ adds_message cx words page bytes old mid new (m, means) is s k = (
   IsWholeAnswerTo.message m means
       (object_found page (head words (family_member m)) _ s.0
       (begins words _ (family_member m) page (family_begins attribute_place bytes m means words _ page is)) s.1)
-      (whole_text (words ++ message_members (for_frames cx) bytes) page s.0 is s.1),
+      (whole_text (words ++ message_members cx.around bytes) page s.0 is s.1),
   lf_after old s.0 mid new s.2 k,
 )
 
@@ -110,14 +109,6 @@ pub words_then : (words ms : Members) (first worded page : Draft) → first ≡ 
 words_then words ms first worded page e w is =
     is ∙ ap (with_members ms) (w ∙ ap (with_members words) e)
     ∙ sym (fold-append (λ (p : Draft) m. with_value m.0 m.1 p) empty_object words ms)
-
--- a member, and others behind it
-pub members_next : (ms more : Members) (member : List ℕ × List Token) (first named page : Draft)
-    → named ≡ with_value member.0 member.1 first → page ≡ with_members more (with_members ms named)
-    → page ≡ with_members (member ∷ (ms ++ more)) first
-members_next ms more member first named page n is =
-    is ∙ ap (λ (d : Draft). with_members more (with_members ms d)) n
-    ∙ sym (fold-append (λ (p : Draft) m. with_value m.0 m.1 p) (with_value member.0 member.1 first) ms more)
 
 -- ** of a fault
 pub adds_fault : (cx : Context) (words : Members) (text : List ℕ) (e : DecodeError) (first worded named page : Draft)
@@ -215,10 +206,6 @@ takes_line To order after line front rest old new f is s same = (
   ),
   s.2,
 )
-
-pub same_message : (b : List ℕ) (m n : LinkMessage) → Means b m → Means b n → m ≡ n
-same_message b m n h k =
-    let same : Ok m ≡ Ok n = sym (message_agrees.only b m h) ∙ message_agrees.only b n k in cc
 
 -- bytes with a fault mean no message
 pub means_nothing : (b : List ℕ) (c : Cause) (m : LinkMessage) → FirstFault b c → Means b m → ⊥

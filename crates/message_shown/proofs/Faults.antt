@@ -19,7 +19,6 @@ use Rattle.link_msg.proofs.Reading.{message_agrees}
 use Rattle.shown.specs.Drafts.{Members}
 use Rattle.shown.specs.Values.{numbered}
 use Rattle.frame_shown.specs.Accepted.{before_members}
-use Rattle.message_shown.specs.Contexts.{for_frames}
 use Rattle.message_shown.specs.Faults.{AreBefore, AreBehind}
 use Rattle.message_shown.specs.declared.context.Context.{Context}
 
@@ -59,7 +58,7 @@ reads_before b c at long (numbers, inr after) =
     )
 
 before_found : (cx : Context) (b : List ℕ) (c : Cause) (at : ℕ) (ms : Members) → FaultsAt b c at
-    → ((length b < header_size) × (ms ≡ [])) ⊎ ((header_size ≤ length b) × (ms ≡ before_members (for_frames cx) b))
+    → ((length b < header_size) × (ms ≡ [])) ⊎ ((header_size ≤ length b) × (ms ≡ before_members cx.around b))
     → AreBefore cx b c ms
 before_found cx b c at ms there (inl short) = inl short
 before_found cx b c at ms there (inr (long, is)) =
@@ -68,7 +67,7 @@ before_found cx b c at ms there (inr (long, is)) =
 pub behind_found : (cx : Context) (b : List ℕ) (c : Cause) (at : ℕ) (before : Members) → FirstFault b c
     → (d : Cause) × FirstFault b d × FaultsAt b d at
     → ((length b < header_size) × (before ≡ []))
-    ⊎ ((header_size ≤ length b) × (before ≡ before_members (for_frames cx) b))
+    ⊎ ((header_size ≤ length b) × (before ≡ before_members cx.around b))
     → AreBehind cx b c (numbered (codes "offset") at ∷ before)
 behind_found cx b c at before fault (d, other, there) reads =
     let here : FaultsAt b c at = subst (λ x. FaultsAt b x at) (same_cause b d c other fault) there in

@@ -1,7 +1,7 @@
 -- Bytes that are read leniently: which they are, and what their answers hold.
 use Rattle.std.proofs.Common.{◌≡◌, ℕ, ◌<◌, ◌≤◌, Bool, true, false, List, [], ◌∷◌, ◌++◌, length, take, drop, refl}
 use Rattle.std.proofs.Common.{sym, ap, ◌∙◌, subst, arith, inl, inr, append-nil, append_assoc, length-append}
-use Rattle.std.specs.Prelude.{Result, Ok, Err, Option, Some, codes, decimal}
+use Rattle.std.specs.Prelude.{Result, Err, codes, decimal}
 use Rattle.std.proofs.lemmas.List.Sums.{fold-append}
 use Rattle.json.specs.Token.{number, string}
 use Rattle.std.proofs.Math.Seq.{take-append_seam, drop-append_seam}
@@ -34,18 +34,17 @@ use Rattle.shown.specs.Pages.{AddsText, IsObject, IsWholeText}
 use Rattle.shown.specs.Values.{numbered}
 use Rattle.shown.proofs.Pages.{object_found, whole_text}
 use Rattle.frame_shown.specs.Accepted.{lenient_members}
+use Rattle.frame_shown.specs.Items.{objects}
+use Rattle.frame_shown.proofs.Items.{both_added}
 use Rattle.message_shown.specs.Causes.{cause_members, cause_text}
-use Rattle.message_shown.specs.Contexts.{for_frames}
-use Rattle.message_shown.specs.Leniently.{taken, in_front, accepted, ReadsAccepted, AreTold}
+use Rattle.message_shown.specs.Leniently.{taken, accepted, AreTold}
 use Rattle.message_shown.specs.Leniently.{Fits, IsSplit, EachIsTold}
 use Rattle.message_shown.specs.Leniently.{AddsOne, AddsTold, IsLenientAnswerTo, TellsLeniently, frame_told}
 use Rattle.message_shown.specs.Leniently.{lenient_line, refusal_members, refused_member}
 use Rattle.message_shown.specs.Lines.{AddsAnswerTo, family_member, head, message_head}
-use Rattle.message_shown.specs.Places.{objects}
 use Rattle.message_shown.specs.Whole.{BeginsAs, TellsAs, IsWholeAnswerTo, IsWholeLenientAnswerTo}
 use Rattle.message_shown.specs.declared.context.Context.{Context}
 use Rattle.message_shown.proofs.Added.{begins, family_begins, lf_after, means_nothing}
-use Rattle.message_shown.proofs.Places.{both_added}
 
 -- ** which bytes mean a message leniently
 
@@ -110,36 +109,6 @@ pub fits_or_not : (b : List ℕ) → IsBytes b → header_size ≤ length b → 
     → whole ≡ are_frames (items (drop header_size b)) → Fits b whole
 fits_or_not b bytes long true is = meant_whole b bytes long (sym is)
 fits_or_not b bytes long false is = none_stray b bytes (sym is)
-
--- what is read of frames that fit
-pub accepted_whole : (b : List ℕ) (v : LinkHeader) (vs : List LinkAttribute) → IsBytes b → header_size ≤ length b
-    → are_frames (items (drop header_size b)) ≡ true → v ≡ header_of (take header_size b)
-    → vs ≡ accepted v.interface_family (items (drop header_size b))
-    → ReadsAccepted b (Some (record { header = v; attributes = vs }))
-accepted_whole b v vs bytes long whole says read =
-    let it = meant_whole b bytes long whole in
-    let same : v ≡ it.0.header = says ∙ sym (header_is b it.0 it.1) in
-    let all = read ∙ ap (λ (x : LinkHeader). accepted x.interface_family (items (drop header_size b))) same in
-    (it.0, it.1, λ k. record { header = same k; attributes = all k })
-
--- ** the attributes that are accepted
-
--- the next frame, and those behind it
-pub next_accepted : (family : AddressFamily) (f : Frame) (o : Option LinkAttribute) (left rest : List Item)
-    (front all : List LinkAttribute) → left ≡ Ok f ∷ rest
-    → ((vs : List LinkAttribute) → taken ((attribute_place family).reads f) vs ≡ in_front o vs)
-    → front ++ accepted family left ≡ all → front ++ in_front o (accepted family rest) ≡ all
-next_accepted family f o left rest front all is read so_far =
-    ap (λ vs. front ++ vs) (sym (read (accepted family rest)))
-    ∙ ap (λ (xs : List Item). front ++ accepted family xs) (sym is) ∙ so_far
-
-pub one_accepted : (family : AddressFamily) (f : Frame) (v : LinkAttribute) (left rest : List Item)
-    (front all : List LinkAttribute) → left ≡ Ok f ∷ rest
-    → ((vs : List LinkAttribute) → taken ((attribute_place family).reads f) vs ≡ v ∷ vs)
-    → front ++ accepted family left ≡ all → (front ++ v ∷ []) ++ accepted family rest ≡ all
-one_accepted family f v left rest front all is read so_far =
-    append_assoc front (v ∷ []) (accepted family rest)
-    ∙ next_accepted family f (Some v) left rest front all is read so_far
 
 -- ** nothing is left out
 
@@ -254,9 +223,6 @@ abbrev pub Telling : List Told → List Told → Draft → Draft → Type 0
 Telling all left old page = (told : List Members) × (page ≡ with_members (objects told) old)
     × ((more : List Members) → AreTold left more → AreTold all (told ++ more))
 
-pub telling_starts : (all left : List Told) (page : Draft) → left ≡ all → Telling all left page page
-telling_starts all left page is = ([], refl, λ more h. subst (λ ts. AreTold ts more) is h)
-
 pub one_told : (all left rest : List Told) (t : Told) (old page new : Draft) → left ≡ t ∷ rest → AddsOne t page new
     → Telling all left old page → Telling all rest old new
 one_told all left rest t old page new is (ms, told, added) (done, so_far, go) = (
@@ -277,15 +243,15 @@ telling_ends all left old page is (done, so_far, go) = (
 
 -- ** the line
 lenient_text : (words : Members) (cx : Context) (b : List ℕ) (told : List Members) (page : Draft) (text : List ℕ)
-    → page ≡ with_members (words ++ (lenient_members (for_frames cx) b ++ refused_member told ∷ [])) empty_object
+    → page ≡ with_members (words ++ (lenient_members cx.around b ++ refused_member told ∷ [])) empty_object
     → IsWholeText page text → text ≡ lenient_line words cx b told
 unfolding lenient_line
 lenient_text words cx b told page text is whole =
-    whole_text (words ++ (lenient_members (for_frames cx) b ++ refused_member told ∷ [])) page text is whole
+    whole_text (words ++ (lenient_members cx.around b ++ refused_member told ∷ [])) page text is whole
 
 module _ (words : Members) (cx : Context) (b old mid new : List ℕ) (told : List Members) (page : Draft)
     (reads : (m : LinkMessage) × MeansLeniently b m)
-    (is : page ≡ with_members (words ++ (lenient_members (for_frames cx) b ++ refused_member told ∷ [])) empty_object)
+    (is : page ≡ with_members (words ++ (lenient_members cx.around b ++ refused_member told ∷ [])) empty_object)
     (s : AddsText page old mid) (k : new ≡ mid ++ 10 ∷ []) where
   found : IsObject (message_head words reads.0) s.0
   found = object_found page (head words (family_member reads.0)) _ s.0

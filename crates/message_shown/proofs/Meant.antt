@@ -8,14 +8,14 @@ use Rattle.shown.specs.Drafts.{Members, object_of}
 use Rattle.shown.specs.Print.{print}
 use Rattle.frame_shown.specs.Meaning.{MeanOne}
 use Rattle.frame_shown.proofs.MessagesMeant.{messages_meant}
-use Rattle.message_shown.specs.Contexts.{IsPlain, for_frames}
+use Rattle.frame_shown.proofs.Plain.{plain_alike}
+use Rattle.message_shown.specs.Contexts.{IsPlain}
 use Rattle.message_shown.specs.Lines.{message_line}
 use Rattle.message_shown.specs.Meaning.{AnswersAreMeant, IsOfMeaning}
 use Rattle.message_shown.specs.Whole.{IsWholeAnswerTo, IsWholeLenientAnswerTo}
 use Rattle.message_shown.specs.declared.context.Context.{Context}
-use Rattle.message_shown.specs.declared.context.Order.{Order}
+use Rattle.frame_shown.specs.declared.form.Order.{Order}
 use Rattle.message_shown.proofs.Added.{means_nothing}
-use Rattle.message_shown.proofs.Alike.{shown_by_order}
 
 line_meant : (order : Order) (cx other : Context) (words : Members) (a b : List ℕ) (m : LinkMessage)
     → IsPlain order cx → IsPlain order other → MeanOne a b m → number_at w16 a 2 ≡ number_at w16 b 2
@@ -23,7 +23,7 @@ line_meant : (order : Order) (cx other : Context) (words : Members) (a b : List 
 unfolding message_line
 line_meant order cx other words a b m own its h kinds =
     ap (λ ms. print (object_of (words ++ ms)))
-    ((messages_meant (for_frames cx)).whole a b m h kinds ∙ (shown_by_order order cx other own its).whole b)
+    ((messages_meant cx.around).whole a b m h kinds ∙ (plain_alike order cx.around other.around own its).whole b)
 
 -- an answer to bytes that mean a message is its line
 strict_is : (cx : Context) (words : Members) (b x : List ℕ) (m : LinkMessage) → Means b m

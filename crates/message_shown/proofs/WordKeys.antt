@@ -12,7 +12,7 @@ use Rattle.std.proofs.lemmas.Bool.Decides.{nat_tests}
 use Rattle.std.proofs.lemmas.List.Folds.{list_any-append}
 use lib.Pointwise.{pointwise}
 use Rattle.message_shown.specs.WordKeys.{own_keys, answer_keys, written_keys, is_among, is_member, name_if}
-use Rattle.message_shown.specs.declared.names.TheConstants.{ATTRIBUTES}
+use Rattle.frame_shown.specs.declared.tables.TheConstants.{MESSAGE}
 use Rattle.message_shown.specs.declared.word_keys.TheConstants.{OWN_KEYS, FIRSTS}
 
 pub any_mapped : {A : Type 0} (p : List ℕ → Bool) (f : A → List ℕ) (xs : List A)
@@ -50,12 +50,12 @@ not_written key fails = none_passes may_be key written_keys all_may_be fails
 -- the keys that are written, table by table
 pub written_by : (key : List ℕ) → is_among key written_keys
     ≡ (list_any (λ name. pointwise ◌==◌ name.now key) OWN_KEYS
-    || list_any (λ row. pointwise ◌==◌ row.0.now key) ATTRIBUTES)
+    || list_any (λ row. pointwise ◌==◌ row.0.now key) MESSAGE)
 unfolding written_keys answer_keys own_keys
 written_by key =
-    list_any-append (λ name. pointwise ◌==◌ name key) (codes "words" ∷ own_keys) (map (λ row. row.0.now) ATTRIBUTES)
+    list_any-append (λ name. pointwise ◌==◌ name key) (codes "words" ∷ own_keys) (map (λ row. row.0.now) MESSAGE)
     ∙ ap (λ b. list_any (λ name. pointwise ◌==◌ name key) (codes "words" ∷ own_keys) || b)
-    (sym (any_mapped (λ name. pointwise ◌==◌ name key) (λ row. row.0.now) ATTRIBUTES))
+    (sym (any_mapped (λ name. pointwise ◌==◌ name key) (λ row. row.0.now) MESSAGE))
 
 -- what the length and the first byte of a key tell
 pub too_long : (key : List ℕ) → 27 ≤ length key → is_among key written_keys ≡ false
@@ -79,14 +79,14 @@ pub own_found : (key : List ℕ) (own : Bool) → own ≡ list_any (λ name. poi
     → own ≡ true → own ≡ is_among key written_keys
 own_found key own is found =
     found ∙ sym (written_by key
-    ∙ ap (λ b. b || list_any (λ row. pointwise ◌==◌ row.0.now key) ATTRIBUTES) (sym is ∙ found))
+    ∙ ap (λ b. b || list_any (λ row. pointwise ◌==◌ row.0.now key) MESSAGE) (sym is ∙ found))
 
 pub rows_found : (key : List ℕ) (own rows : Bool)
     → own ≡ list_any (λ name. pointwise ◌==◌ name.now key) OWN_KEYS → own ≡ false
-    → rows ≡ list_any (λ row. pointwise ◌==◌ row.0.now key) ATTRIBUTES → rows ≡ is_among key written_keys
+    → rows ≡ list_any (λ row. pointwise ◌==◌ row.0.now key) MESSAGE → rows ≡ is_among key written_keys
 rows_found key own rows is none then =
     then ∙ sym (written_by key
-    ∙ ap (λ b. b || list_any (λ row. pointwise ◌==◌ row.0.now key) ATTRIBUTES) (sym is ∙ none))
+    ∙ ap (λ b. b || list_any (λ row. pointwise ◌==◌ row.0.now key) MESSAGE) (sym is ∙ none))
 
 -- ** a name
 

@@ -20,7 +20,7 @@ use Rattle.shown.specs.Drafts.{Draft, Ends, Members, list_of, with_begun, with_m
 use Rattle.shown.specs.declared.page.Nest.TheVariants.{List as Items}
 use Rattle.shown.proofs.Drafts.{list_ended}
 use Rattle.shown.proofs.Pages.{no_items}
-use Rattle.message_shown.specs.Places.{are_any}
+use Rattle.frame_shown.specs.Items.{are_any}
 use Rattle.message_shown.specs.WordKeys.{answer_keys, is_among, is_member, own_keys, with_key, written_keys}
 use Rattle.message_shown.specs.Worded.{Word, word_text, member_if, text_unless, members_in, others_in}
 use Rattle.message_shown.specs.Worded.{as_items, list_shown, shown_words, words_shown}

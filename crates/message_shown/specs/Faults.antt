@@ -12,13 +12,12 @@ use Rattle.shown.specs.Drafts.{Draft, Members, with_members}
 use Rattle.shown.specs.Values.{numbered}
 use Rattle.frame_shown.specs.Accepted.{before_members}
 use Rattle.message_shown.specs.Causes.{cause_members}
-use Rattle.message_shown.specs.Contexts.{for_frames}
 use Rattle.message_shown.specs.declared.context.Context.{Context}
 
 -- what is read in front of the fault: nothing of bytes that are shorter than a header
 abbrev pub AreBefore : Context → List ℕ → Cause → Members → Type 0
 AreBefore cx bytes c ms = ((length bytes < header_size) × (ms ≡ []))
-    ⊎ ((m : LinkMessage) × ReadsBefore bytes c m × (ms ≡ before_members (for_frames cx) bytes))
+    ⊎ ((m : LinkMessage) × ReadsBefore bytes c m × (ms ≡ before_members cx.around bytes))
 
 -- the offset of the fault, and that
 abbrev pub AreBehind : Context → List ℕ → Cause → Members → Type 0
@@ -38,7 +37,7 @@ AreOfFault cx bytes c ms =
 abbrev pub AddsBefore : Context → List ℕ → Draft → Draft → Type 0
 AddsBefore cx bytes old new = (ms : Members) × (new ≡ with_members ms old)
     × (((length bytes < header_size) × (ms ≡ []))
-    ⊎ ((header_size ≤ length bytes) × (ms ≡ before_members (for_frames cx) bytes)))
+    ⊎ ((header_size ≤ length bytes) × (ms ≡ before_members cx.around bytes)))
 
 -- all that is said of the fault was added
 abbrev pub AddsFault : Context → List ℕ → DecodeError → Draft → Draft → Type 0

@@ -1,6 +1,6 @@
 -- The answer to bytes of which some attributes are refused: the others as ever, and those last.
 use Rattle.std.specs.Prelude.{◌≡◌, ◌⊎◌, ℕ, List, [], ◌∷◌, ◌++◌, codes, drop, map, Option, None, Some, Result, Ok, Err}
-use Rattle.std.specs.Prelude.{Bool, MatchBool}
+use Rattle.std.specs.Prelude.{Bool, MatchBool, bit_and, get_or}
 use Rattle.std.specs.List.{AllZip, flat_map}
 use Rattle.hex.specs.Hex.{encode_lower}
 use Rattle.json.specs.Token.{Token, string}
@@ -24,11 +24,10 @@ use Rattle.shown.specs.Drafts.{Draft, Members, list_of, object_of, with_members,
 use Rattle.shown.specs.Pages.{IsObject}
 use Rattle.shown.specs.Values.{numbered}
 use Rattle.frame_shown.specs.Accepted.{lenient_members}
-use Rattle.message_shown.specs.Attributes.{name_of}
+use Rattle.frame_shown.specs.Items.{objects}
+use Rattle.frame_shown.specs.declared.tables.TheConstants.{MESSAGE}
 use Rattle.message_shown.specs.Causes.{cause_members, cause_text}
-use Rattle.message_shown.specs.Contexts.{for_frames}
 use Rattle.message_shown.specs.Lines.{TellsMessage, fault_head, message_head}
-use Rattle.message_shown.specs.Places.{objects}
 use Rattle.message_shown.specs.declared.context.Context.{Context}
 
 -- ** the attributes that are accepted
@@ -36,11 +35,6 @@ use Rattle.message_shown.specs.declared.context.Context.{Context}
 abbrev pub taken : Result LinkAttribute Cause → List LinkAttribute → List LinkAttribute
 taken (Ok v) vs = v ∷ vs
 taken (Err c) vs = vs
-
--- and where it was read by itself
-abbrev pub in_front : Option LinkAttribute → List LinkAttribute → List LinkAttribute
-in_front None vs = vs
-in_front (Some v) vs = v ∷ vs
 
 -- what those frames mean that are accepted
 abbrev pub accepted : AddressFamily → List Item → List LinkAttribute
@@ -55,16 +49,15 @@ accepted_part b m = record {
   attributes = accepted m.header.interface_family (items (drop header_size b));
 }
 
--- that part of the message that b means leniently, if it means one
-abbrev pub ReadsAccepted : List ℕ → Option LinkMessage → Type 0
-ReadsAccepted b None = MeansNoneLeniently b
-ReadsAccepted b (Some part) = (m : LinkMessage) × MeansLeniently b m × (part ≡ accepted_part b m)
-
 -- whether they are a header and frames that fit, and so mean a message leniently
 abbrev pub Fits : List ℕ → Bool → Type 0
 Fits b fits = MatchBool fits ((m : LinkMessage) × MeansLeniently b m) (MeansNoneLeniently b)
 
 -- ** the attributes that are refused
+
+-- the name of a kind, by its number, which is without its two flags
+abbrev pub name_of : ℕ → List ℕ
+name_of kind = get_or (map (λ row. row.0.now) MESSAGE) (bit_and kind 0x3fff) []
 
 -- the name of the attribute, where the fault is in one that is inside of it
 abbrev pub holder_members : List ℕ → ℕ → Members
@@ -103,7 +96,7 @@ refused_member told = (codes "refused", list_of (flat_map (λ v. v) (map object_
 -- the answer to bytes that mean a message leniently, of which these attributes are refused
 unfoldable pub lenient_line : Members → Context → List ℕ → List Members → List ℕ
 lenient_line words cx bytes told =
-    print (object_of (words ++ (lenient_members (for_frames cx) bytes ++ refused_member told ∷ [])))
+    print (object_of (words ++ (lenient_members cx.around bytes ++ refused_member told ∷ [])))
 
 -- each attribute that is refused was told, behind all that are accepted
 abbrev pub TellsRefused : Members → Context → List ℕ → List ℕ → List ℕ → Type 0

@@ -12,12 +12,10 @@ use Rattle.link_msg.specs.Messages.{Means, FirstFault}
 use Rattle.link_msg.specs.declared.message.LinkMessage.{LinkMessage}
 use Rattle.frame_shown.specs.Messages.{message_members}
 use Rattle.message_shown.specs.Causes.{cause_text}
-use Rattle.message_shown.specs.Contexts.{for_frames}
 use Rattle.shown.specs.Drafts.{Members, object_of}
 use Rattle.shown.specs.Pages.{IsObject}
 use Rattle.shown.specs.Values.{numbered}
 use Rattle.line_filter.specs.Lines.{with_lf}
-use Rattle.line_filter.specs.Steps as steps
 use Rattle.line_filter.specs.Words.{are_alone, digits_of, front_of, rest_of}
 use Rattle.message_shown.specs.Worded.{strings, words_shown}
 use Rattle.message_shown.specs.declared.context.Context.{Context}
@@ -89,15 +87,11 @@ AddsSpelled To words digits old new =
 abbrev pub AddsAnswerOf : Answering → List ℕ → List ℕ → List ℕ → List ℕ → Type 0
 AddsAnswerOf To front rest old new = (answer : List ℕ) × IsAnswerOf To front rest answer × (new ≡ old ++ with_lf answer)
 
--- the answer to the line was added
-abbrev pub AddsAnswer : Answering → List ℕ → List ℕ → List ℕ → Type 0
-AddsAnswer To = steps.AddsAnswer (IsAnswer To)
-
 -- ** which tokens are added
 
 -- the answer to bytes that mean a message, with the words in front of them
 unfoldable pub message_line : Members → Context → List ℕ → List ℕ
-message_line words cx bytes = print (object_of (words ++ message_members (for_frames cx) bytes))
+message_line words cx bytes = print (object_of (words ++ message_members cx.around bytes))
 
 -- where the bytes mean a message, its answer was added
 abbrev pub TellsMessage : Members → Context → List ℕ → List ℕ → List ℕ → Type 0

@@ -16,7 +16,7 @@ use Rattle.message_shown.specs.Contexts.{IsPlain}
 use Rattle.message_shown.specs.Leniently.{accepted_part}
 use Rattle.message_shown.specs.Whole.{Whole, IsWholeAnswerTo, IsWholeLenientAnswerTo}
 use Rattle.message_shown.specs.declared.context.Context.{Context}
-use Rattle.message_shown.specs.declared.context.Order.{Order}
+use Rattle.frame_shown.specs.declared.form.Order.{Order}
 
 -- bytes that mean one message have one answer behind the same words and by the same order of counters, where they have
 -- one type of link: a message does not tell types without a name apart, and the number is shown

@@ -15,7 +15,7 @@ use Rattle.message_shown.specs.Lines.{Answering, Telling, AddsAnswerTo, IsAnswer
 use Rattle.message_shown.specs.Lines.{message_head, message_line, whole_object}
 use Rattle.message_shown.specs.Worded.{order_for}
 use Rattle.message_shown.specs.declared.context.Context.{Context}
-use Rattle.message_shown.specs.declared.context.Order.{Order}
+use Rattle.frame_shown.specs.declared.form.Order.{Order}
 
 -- ** to bytes
 

@@ -4,7 +4,7 @@ use Rattle.std.specs.Prelude.{Option, Some, None}
 use Rattle.std.specs.List.{list_any}
 use Rattle.std.specs.Str.{is_utf8}
 use lib.Pointwise.{pointwise}
-use Rattle.message_shown.specs.declared.names.TheConstants.{ATTRIBUTES}
+use Rattle.frame_shown.specs.declared.tables.TheConstants.{MESSAGE}
 
 -- the keys of an answer that are no attribute's name: of the header, of lists, and of faults
 unfoldable pub own_keys : List (List ℕ)
@@ -30,7 +30,7 @@ own_keys =
 
 -- all keys of an answer beside those of its words
 unfoldable pub answer_keys : List (List ℕ)
-answer_keys = own_keys ++ map (λ row. row.0.now) ATTRIBUTES
+answer_keys = own_keys ++ map (λ row. row.0.now) MESSAGE
 
 -- the keys that no word has as a member: these, and that of the list of words
 unfoldable pub written_keys : List (List ℕ)

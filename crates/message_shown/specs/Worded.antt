@@ -8,8 +8,8 @@ use Rattle.line_filter.specs.Words.{words_of, value_in}
 use Rattle.shown.specs.Drafts.{Members, list_of}
 use Rattle.message_shown.specs.Contexts.{text_in}
 use Rattle.message_shown.specs.WordKeys.{answer_keys, is_among, is_member, with_key, written_keys}
-use Rattle.message_shown.specs.declared.context.Order.{Order}
-use Rattle.message_shown.specs.declared.context.Order.TheVariants as Orders
+use Rattle.frame_shown.specs.declared.form.Order.{Order}
+use Rattle.frame_shown.specs.declared.form.Order.TheVariants as Orders
 
 -- a key or a value as a text: bytes that are no UTF-8 by their digits
 abbrev pub text_or_digits : List ℕ → Option (List ℕ) → List ℕ

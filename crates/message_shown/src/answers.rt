@@ -38,7 +38,7 @@ pub struct Shown<R: Reading> {
 
 impl<R: Reading> Model for Shown<R> {
     ghost use Rattle.link_info.specs.Rows.{AreAllRows};
-    ghost use Rattle.message_shown.specs.declared.context.Order.{Order};
+    ghost use Rattle.frame_shown.specs.declared.form.Order.{Order};
 
     ghost Value = { Order };
 
@@ -160,7 +160,7 @@ pub(crate) fn push_message(
 {
     let mut page = room.begin()?;
     show_words(cx.alloc, &mut page, front)?;
-    show_message(&cx.for_frames(), &mut page, bytes)?;
+    show_message(&cx.around, &mut page, bytes)?;
     room.finish(page, waiting)?;
     waiting.push(b'\n')?;
     Ok(())

@@ -3,9 +3,6 @@
 ghost use Rattle.message_shown.specs.Leniently.{EachIsTold, IsLenientAnswerTo, TellsLeniently};
 ghost use Rattle.message_shown.specs.Lines.{IsAnswerTo, TellsMessage};
 ghost use Rattle.message_shown.specs.Meaning.{AcceptedAreMeant, AnswersAreMeant};
-ghost use Rattle.message_shown.specs.NamesShown.{NamesAreShown};
-ghost use Rattle.message_shown.specs.NamesTied.{NamesAreThese};
-ghost use Rattle.message_shown.specs.Plain.{ShownByOrder};
 ghost use Rattle.message_shown.specs.Whole.{BeginsAs, TellsAs, IsWholeAnswerTo, IsWholeLenientAnswerTo};
 
 /// Of a message that is read leniently each attribute is shown with those that are accepted, or told with those that
@@ -13,13 +10,6 @@ ghost use Rattle.message_shown.specs.Whole.{BeginsAs, TellsAs, IsWholeAnswerTo, 
 pub fn law_lenient()
     ensures each { EachIsTold }
     ensures accepted { AcceptedAreMeant }
-{}
-
-/// The tables of names that the code goes by are those of the annex: those of what is compared, and those of the annex
-/// of `frame_shown`, by which frames are shown.
-pub fn law_names()
-    ensures these { NamesAreThese }
-    ensures shown { NamesAreShown }
 {}
 
 /// A whole answer begins with a fault or with the family of a message, and tells what the bytes mean.
@@ -35,10 +25,4 @@ pub fn law_answers()
 /// numbers of their types are the same.
 pub fn law_meaning()
     ensures { AnswersAreMeant }
-{}
-
-/// The order of the counters of IPv6 decides what is shown of a message: contexts that begin with the same one show the
-/// same.
-pub fn law_shown()
-    ensures { ShownByOrder }
 {}

@@ -1,6 +1,6 @@
 //! Bytes of which some attributes are refused: the others are shown, and those last.
 
-ghost use Rattle.std.specs.Prelude.{◌≡◌, ◌≤◌, OnOk, length};
+ghost use Rattle.std.specs.Prelude.{◌≡◌, ◌≤◌, [], OnOk, get_or, length, map};
 ghost use Rattle.link_msg.specs.Header.{header_size};
 ghost use Rattle.link_msg.specs.Lenient.{MeansLeniently};
 ghost use Rattle.link_msg.specs.Messages.{FirstFault, MeansNothing};
@@ -8,19 +8,20 @@ ghost use Rattle.link_msg.specs.Told.{told_all};
 ghost use Rattle.link_msg.specs.declared.message.LinkMessage.{LinkMessage};
 ghost use Rattle.shown.specs.Drafts.{with_members};
 ghost use Rattle.message_shown.specs.Leniently.{AddsOne, AddsTold, AddsList, holder_members, frame_told};
-ghost use Rattle.message_shown.specs.Leniently.{Fits, IsLenientAnswerTo, TellsLeniently};
+ghost use Rattle.message_shown.specs.Leniently.{Fits, IsLenientAnswerTo, TellsLeniently, name_of};
 ghost use Rattle.message_shown.specs.Lines.{AddsAnswerTo};
 ghost use Rattle.message_shown.specs.Whole.{IsWholeLenientAnswerTo};
 ghost use Rattle.message_shown.specs.Worded.{words_shown};
 
 use crate::answers::{push_fault, push_message};
-use crate::attribute::row_of;
 use crate::context::Context;
 use crate::wire::{cause_name, show_cause};
 use crate::worded::show_words;
 use frame_shown::accepted::{are_frames, show_leniently};
+use frame_shown::form::Form;
+use frame_shown::tables::MESSAGE;
 use link_msg::header::HEADER_SIZE;
-use link_msg::{DecodeError, LinkMessage, Refusal};
+use link_msg::{DecodeError, LinkMessage, NLA_TYPE_MASK, Refusal};
 use shown::{Nest, Page, Room};
 use std::alloc::AllocError;
 
@@ -35,12 +36,30 @@ fn fits(bytes: &[u8]) -> bool
     are_frames(rest)
 }
 
+/// The name at a place of a table; behind the last one there is none.
+fn name_at(rows: &[(&'static str, Form)], number: usize) -> &'static str
+    ensures { result.now ≡ get_or (map (λ row. row.0.now) rows.now) number [] }
+{
+    if number < rows.len() {
+        rows[number].0
+    } else {
+        ""
+    }
+}
+
+/// The name of an attribute of this kind.
+fn name_of(kind: u16) -> &'static str
+    ensures { result.now ≡ name_of kind }
+{
+    name_at(&MESSAGE, (kind & NLA_TYPE_MASK) as usize)
+}
+
 /// Adds the name of an attribute of this kind, where these numbers lead to one that is inside of it.
 fn show_holder(page: &mut Page, numbers: &[u16], kind: u16) -> Result<(), AllocError>
     ensures { OnOk result (page.new ≡ with_members (holder_members numbers.now kind) page.old) }
 {
     match numbers {
-        [_, _, ..] => page.string("in", row_of(kind).0),
+        [_, _, ..] => page.string("in", name_of(kind)),
         _ => Ok(()),
     }
 }
@@ -114,7 +133,7 @@ fn push_accepted(
 {
     let mut page = room.begin()?;
     show_words(cx.alloc, &mut page, front)?;
-    show_leniently(&cx.for_frames(), &mut page, cx.alloc, bytes)?;
+    show_leniently(&cx.around, &mut page, cx.alloc, bytes)?;
     show_refused(&mut page, bytes)?;
     room.finish(page, waiting)?;
     waiting.push(b'\n')?;

@@ -1,18 +1,13 @@
-//! What the frames of attributes hold, and why bytes were refused, as values of a page.
+//! Why bytes were refused, as members of a page.
 
 ghost use Rattle.std.specs.Prelude.{◌≡◌, [], ◌∷◌, OnOk};
-ghost use Rattle.message_shown.specs.Causes.{cause_text, cause_members, frame_members, text_unless_empty};
-ghost use Rattle.shown.specs.Drafts.{with_value, with_members, object_of};
+ghost use Rattle.message_shown.specs.Causes.{cause_text, cause_members};
+ghost use Rattle.shown.specs.Drafts.{with_members};
 ghost use Rattle.shown.specs.Values.{numbered};
 
-use nla_wire::{Cause, NLA_F_NESTED, NLA_F_NET_BYTEORDER, NLA_TYPE_MASK};
-use shown::{Nest, Page};
+use nla_wire::Cause;
+use shown::Page;
 use std::alloc::AllocError;
-
-const FRAME_FLAGS: [(u64, &str); 2] = [
-    (NLA_F_NESTED as u64, "nested"),
-    (NLA_F_NET_BYTEORDER as u64, "net-byteorder"),
-];
 
 /// The name of a cause.
 pub fn cause_name(cause: &Cause) -> &'static str
@@ -65,32 +60,4 @@ pub fn show_cause(page: &mut Page, cause: &Cause) -> Result<(), AllocError>
         Cause::WrongLength { got, want } => show_two(page, "got", *got, "want", *want),
         _ => Ok(()),
     }
-}
-
-/// Adds a text where it is not empty.
-fn show_text(page: &mut Page, name: &str, text: &str) -> Result<(), AllocError>
-    ensures { OnOk result
-        (page.new ≡ with_members (text_unless_empty name.now text.now) page.old) }
-{
-    if text.is_empty() {
-        return Ok(());
-    }
-    page.string(name, text)
-}
-
-/// Adds an attribute as it is, to a list: its number, the name that the number has, if any, its flags and its payload.
-pub fn show_frame(page: &mut Page, name: &str, kind: u16, payload: &[u8]) -> Result<(), AllocError>
-    ensures { OnOk result
-        (page.new ≡ with_value [] (object_of (frame_members name.now kind payload.now)) page.old) }
-{
-    page.begin("", Nest::Object)?;
-    page.number("number", (kind & NLA_TYPE_MASK).into())?;
-    show_text(page, "name", name)?;
-    page.flags(
-        "flags",
-        (kind & (NLA_F_NESTED | NLA_F_NET_BYTEORDER)).into(),
-        &FRAME_FLAGS,
-    )?;
-    page.hex("payload", payload)?;
-    page.end()
 }

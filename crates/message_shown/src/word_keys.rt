@@ -6,8 +6,8 @@ ghost use Rattle.std.specs.List.{list_any};
 ghost use lib.Pointwise.{pointwise};
 ghost use Rattle.message_shown.specs.WordKeys.{written_keys, is_among, is_member, name_if, with_key};
 
-use crate::form::Form;
-use crate::names::ATTRIBUTES;
+use frame_shown::form::Form;
+use frame_shown::tables::MESSAGE;
 use std::marker::Model;
 use std::str;
 
@@ -121,7 +121,7 @@ fn has_row(rows: &[(&str, Form)], key: &[u8]) -> bool
 fn is_written(key: &[u8]) -> bool
     ensures { result ≡ is_among key.now written_keys }
 {
-    may_be_written(key) && (has_name(&OWN_KEYS, key) || has_row(&ATTRIBUTES, key))
+    may_be_written(key) && (has_name(&OWN_KEYS, key) || has_row(&MESSAGE, key))
 }
 
 /// Whether it is one of these keys.

@@ -4,7 +4,7 @@ ghost use Rattle.std.specs.Prelude.{◌≡◌, ◌≤◌, ◌++◌, [], ◌∷�
 ghost use Rattle.json.specs.Token.{string};
 ghost use Rattle.line_filter.specs.Words.{has_word, first_key, first_value, words_of};
 ghost use Rattle.shown.specs.Drafts.{with_members, with_value};
-ghost use Rattle.message_shown.specs.Places.{are_any};
+ghost use Rattle.frame_shown.specs.Items.{are_any};
 ghost use Rattle.message_shown.specs.WordKeys.{written_keys, is_member, with_key};
 ghost use Rattle.message_shown.specs.Worded.{digits_len, number_of, order_in, order_of, order_for, word_text};
 ghost use Rattle.message_shown.specs.Worded.{words_shown, member_if, members_in, others_in, as_items, list_shown};

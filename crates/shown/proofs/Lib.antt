@@ -8,8 +8,6 @@ pub mod Drafts
 pub mod Escapes
 pub mod Keys
 pub mod Pages
-pub mod Noted
-pub mod MarkTrees
 pub mod Octets
 pub mod Names
 pub mod Flags

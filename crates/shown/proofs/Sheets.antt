@@ -1,15 +1,13 @@
 -- What one more token does to a text.
 use Rattle.std.proofs.Common.{◌≡◌, ℕ, ◌^◌, ◌<◌, Bool, true, false, List, [], ◌∷◌, ◌++◌, cond, ◌&&◌, decimal}
-use Rattle.std.proofs.Common.{append_assoc, length, length-append, ◌+◌, refl, ap, sym, ◌∙◌}
+use Rattle.std.proofs.Common.{append_assoc, refl, ap, sym, ◌∙◌}
 use Rattle.std.proofs.Common.{subst}
 use Rattle.std.specs.Bool.{OnTrue, OnFalse}
-use Rattle.std.specs.Int.{from_bool}
 use Rattle.json.specs.Token.{Token, key, number}
 use Rattle.json.specs.Lex.{tokens}
 use Rattle.shown.specs.Print.{print, print_from, ends, ends_value, separator, token_text, IsPrintable, ArePrintable}
 use Rattle.shown.proofs.Printed.{tokens-print, print_from_push, ends_push, ArePrintable-push}
 use Rattle.json.proofs.Printed.Decimals.{IsNumber-decimal}
-use Rattle.shown.specs.Marks.{next_place}
 use Rattle.shown.specs.Nesting.{opening, closing}
 use Rattle.shown.specs.Sheets.{IsText, comma_if}
 use Rattle.shown.specs.declared.page.Nest.{Nest}
@@ -37,19 +35,9 @@ module _ (old new : List ℕ) (after : Bool) (t : Token) (comma : List ℕ) (due
   unfolding token_added
   token_seen = shown new (ends t) token_added ∙ ap (λ ts. ts ++ t ∷ []) (sym (shown old after h))
 
-pub comma_len : (after : Bool) → from_bool after ≡ length (comma_if after)
-comma_len true = refl
-comma_len false = refl
-
--- where the next token stands
-pub place_seen : (text : List ℕ) (len comma : ℕ) (after : Bool) → IsText text after → len ≡ length text
-    → comma ≡ length (comma_if after) → len + comma ≡ next_place (tokens text)
-place_seen text len comma after h is due =
-    (λ i. is i + due i) ∙ sym (length-append text (comma_if after))
-    ∙ (λ i. length (says_tokens text after h i ++ comma_if (place i)))
-  where
-    place : after ≡ ends_value (tokens text)
-    place = h.place ∙ ap ends_value (sym (shown text after h))
+-- whether the last token ends a value
+pub end_seen : (text : List ℕ) (after : Bool) → IsText text after → after ≡ ends_value (tokens text)
+end_seen text after h = h.place ∙ ap ends_value (sym (shown text after h))
 
 -- no token
 pub none_said : IsText [] false

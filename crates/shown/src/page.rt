@@ -1,7 +1,7 @@
 //! An object that is written, member by member.
 
 ghost use Rattle.std.specs.Prelude.{◌≡◌, ◌==◌, ◌≤◌, true, List, [], ◌∷◌, ◌++◌, map, decimal, option_map, length, take};
-ghost use Rattle.std.specs.Prelude.{OnOk, IfOk, IfSome};
+ghost use Rattle.std.specs.Prelude.{OnOk, IfOk};
 ghost use Rattle.std.specs.Bool.{OnTrue, OnFalse};
 ghost use Rattle.std.specs.List.{find};
 ghost use Rattle.std.specs.Fmt.{signed_decimal};
@@ -13,11 +13,10 @@ ghost use Rattle.shown.specs.Values.{hardware_address, name_or_number, named_num
 ghost use Rattle.shown.specs.Drafts.{named, empty_object, with_value, with_begun, Ends};
 ghost use Rattle.shown.specs.Keys.{IsKey};
 ghost use Rattle.shown.specs.Nesting.{opening};
-ghost use Rattle.shown.specs.Marks.{scalar_token, noted, nothing_noted, marks_of};
-ghost use Rattle.shown.specs.Pages.{IsPlain, IsWholeText, AddsText, ended};
+ghost use Rattle.shown.specs.Pages.{IsWholeText, AddsText};
+ghost use Rattle.shown.specs.Print.{ends_value};
 
 use crate::address::{DOTTED, address_text, put_address, put_hex, put_ipv4};
-use crate::marks::Marks;
 use crate::sheet::Sheet;
 use std::alloc::{AllocError, Global};
 use std::fmt::InlineText;
@@ -43,41 +42,23 @@ pub enum Nest {
     List,
 }
 
-/// Whether the members of a page are marked as they are written, and whether a part of it could not be written.
-#[derive(Clone, Copy, Drop)]
-pub(crate) enum Writing {
-    Plain,
-    Marked,
-    Broken,
-}
-
-/// A value that is no object and no list.
-#[derive(Clone, Copy, Drop)]
-pub(crate) enum Scalar<'a> {
-    Text(&'a str),
-    Number(u64),
-    Signed(i64),
-    Truth(bool),
-}
-
 /// An object that is written, with the objects and lists that are open in it.
 ///
 /// A value goes to the innermost of them. A name that is passed is written where that is an object. What failed once,
-/// for lack of memory, fails from then on. Where its members are marked, each write leaves at its first line for a copy
-/// that marks, so that other pages pay nothing for it.
+/// for lack of memory, fails from then on.
 #[derive(Drop)]
 pub struct Page {
     alloc: Global,
     sheet: Sheet,
     outer: Vec<Nest>,
     inside: Nest,
-    writing: Writing,
-    marks: Option<Box<Marks>>,
+    is_broken: bool,
 }
 
 impl Model for Page {
+    ghost use Rattle.std.specs.Bool.{OnFalse};
     ghost use Rattle.shown.specs.Drafts.{Draft, draft_code};
-    ghost use Rattle.shown.specs.Marks.{IsWritten};
+    ghost use Rattle.shown.specs.Pages.{IsPage};
 
     ghost Value = { Draft };
 
@@ -90,7 +71,7 @@ impl Model for Page {
     } };
 
     ghost invariant = { λ page.
-        IsWritten page.writing page.marks page.sheet page.inside page.outer.items };
+        OnFalse page.is_broken (IsPage page.sheet page.inside page.outer.items) };
 }
 
 /// Writes a name, where one is due.
@@ -181,19 +162,6 @@ fn put_begun<const IS_KEY: bool>(
     }
 }
 
-/// Writes a value that is no object and no list.
-fn put_scalar(sheet: &mut Sheet, value: Scalar<'_>) -> Result<(), AllocError>
-    ensures tokens { OnOk result (sheet.new ≡ sheet.old ++ scalar_token value.entry ∷ []) }
-    ensures plain { IsPlain (scalar_token value.entry) }
-{
-    match value {
-        Scalar::Text(text) => sheet.string(text),
-        Scalar::Number(number) => sheet.number(number),
-        Scalar::Signed(number) => sheet.signed(number),
-        Scalar::Truth(truth) => sheet.truth(truth),
-    }
-}
-
 /// The first row that has a number.
 fn row_of<'a>(names: &'a [(u64, &'a str)], value: u64) -> Option<&'a (u64, &'a str)>
     ensures { option_map (λ row. row.now) result ≡ find (λ row. row.0 == value) names.now }
@@ -207,132 +175,23 @@ impl Page {
         ensures { IfOk result (λ page. page ≡ empty_object) }
     {
         let room = Vec::with_capacity(alloc, ROOM)?;
-        Page::over(alloc, room, Vec::new(alloc), None)
+        Page::over(alloc, room, Vec::new(alloc))
     }
 
-    /// An object with no member, which is written over these bytes, and whose members are marked where there are marks.
-    pub(crate) fn over(
-        alloc: Global,
-        room: Vec<u8>,
-        outer: Vec<Nest>,
-        marks: Option<Box<Marks>>,
-    ) -> Result<Page, AllocError>
+    /// An object with no member, which is written over these bytes.
+    pub(crate) fn over(alloc: Global, room: Vec<u8>, outer: Vec<Nest>) -> Result<Page, AllocError>
         requires nests { outer.items ≡ [] }
-        requires noted { IfSome marks (λ m. noted m.value ≡ nothing_noted) }
         ensures { IfOk result (λ page. page ≡ empty_object) }
     {
         let mut sheet = Sheet::new(alloc, room);
         sheet.begin(Nest::Object)?;
-        let writing = match &marks {
-            None => Writing::Plain,
-            Some(_) => Writing::Marked,
-        };
         Ok(Page {
             alloc,
             sheet,
             outer,
             inside: Nest::Object,
-            writing,
-            marks,
+            is_broken: false,
         })
-    }
-
-    /// Adds a value to a page whose members are marked.
-    #[cold]
-    #[inline(never)]
-    fn scalar_marked(&mut self, name: &str, value: Scalar<'_>) -> Result<(), AllocError>
-        ensures { OnOk result
-            (self.new ≡ with_value name.now (scalar_token value.entry ∷ []) self.old) }
-    {
-        let Writing::Marked = self.writing else {
-            return Err(AllocError);
-        };
-        self.writing = Writing::Broken;
-        let place = self.sheet.next_place();
-        put_name(&mut self.sheet, self.inside, name)?;
-        let at = self.sheet.next_place();
-        put_scalar(&mut self.sheet, value)?;
-        let Some(marks) = &mut self.marks else {
-            return Err(AllocError);
-        };
-        marks.scalar(self.inside, place, at, self.sheet.len())?;
-        self.writing = Writing::Marked;
-        Ok(())
-    }
-
-    /// Adds a text to a page whose members are marked.
-    #[cold]
-    #[inline(never)]
-    fn string_marked(&mut self, name: &str, text: &str) -> Result<(), AllocError>
-        ensures { OnOk result (self.new ≡ with_value name.now (string text.now ∷ []) self.old) }
-    {
-        self.scalar_marked(name, Scalar::Text(text))
-    }
-
-    /// Adds a number to a page whose members are marked.
-    #[cold]
-    #[inline(never)]
-    fn number_marked(&mut self, name: &str, value: u64) -> Result<(), AllocError>
-        ensures { OnOk result
-            (self.new ≡ with_value name.now (number (decimal value) ∷ []) self.old) }
-    {
-        self.scalar_marked(name, Scalar::Number(value))
-    }
-
-    /// Adds a number that may be below zero to a page whose members are marked.
-    #[cold]
-    #[inline(never)]
-    fn signed_marked(&mut self, name: &str, value: i64) -> Result<(), AllocError>
-        ensures { OnOk result
-            (self.new ≡ with_value name.now (number (signed_decimal value) ∷ []) self.old) }
-    {
-        self.scalar_marked(name, Scalar::Signed(value))
-    }
-
-    /// Begins an object or a list in a page whose members are marked.
-    #[cold]
-    #[inline(never)]
-    fn begin_marked(&mut self, name: &str, begun: Nest) -> Result<(), AllocError>
-        ensures { OnOk result (self.new ≡ with_begun name.now begun self.old) }
-    {
-        let Writing::Marked = self.writing else {
-            return Err(AllocError);
-        };
-        self.writing = Writing::Broken;
-        self.outer.push(self.inside)?;
-        let place = self.sheet.next_place();
-        put_name(&mut self.sheet, self.inside, name)?;
-        let Some(marks) = &mut self.marks else {
-            return Err(AllocError);
-        };
-        marks.begin(self.inside, place, self.sheet.next_place())?;
-        self.sheet.begin(begun)?;
-        self.inside = begun;
-        self.writing = Writing::Marked;
-        Ok(())
-    }
-
-    /// Ends the innermost object or list in a page whose members are marked.
-    #[cold]
-    #[inline(never)]
-    fn end_marked(&mut self) -> Result<(), AllocError>
-        ensures { OnOk result (Ends self.old self.new) }
-    {
-        let Writing::Marked = self.writing else {
-            return Err(AllocError);
-        };
-        let Some(outer) = self.outer.pop() else {
-            return Ok(());
-        };
-        self.writing = Writing::Broken;
-        self.sheet.end(self.inside)?;
-        let Some(marks) = &mut self.marks else {
-            return Err(AllocError);
-        };
-        marks.end(self.sheet.len());
-        self.inside = outer;
-        self.writing = Writing::Marked;
-        Ok(())
     }
 
     /// Adds a text where it is not written at once.
@@ -341,13 +200,13 @@ impl Page {
     fn string_late(&mut self, name: &str, text: &str) -> Result<(), AllocError>
         ensures { OnOk result (self.new ≡ with_value name.now (string text.now ∷ []) self.old) }
     {
-        let Writing::Plain = self.writing else {
-            return self.string_marked(name, text);
-        };
-        self.writing = Writing::Broken;
+        if self.is_broken {
+            return Err(AllocError);
+        }
+        self.is_broken = true;
         put_name(&mut self.sheet, self.inside, name)?;
         self.sheet.string(text)?;
-        self.writing = Writing::Plain;
+        self.is_broken = false;
         Ok(())
     }
 
@@ -358,12 +217,12 @@ impl Page {
         ensures { OnOk result
             (self.new ≡ with_value name.now (number (decimal value) ∷ []) self.old) }
     {
-        let Writing::Plain = self.writing else {
-            return self.number_marked(name, value);
-        };
-        self.writing = Writing::Broken;
+        if self.is_broken {
+            return Err(AllocError);
+        }
+        self.is_broken = true;
         put_number(&mut self.sheet, self.inside, name, value)?;
-        self.writing = Writing::Plain;
+        self.is_broken = false;
         Ok(())
     }
 
@@ -374,12 +233,12 @@ impl Page {
         ensures { OnOk result
             (self.new ≡ with_value name.now (number (signed_decimal value) ∷ []) self.old) }
     {
-        let Writing::Plain = self.writing else {
-            return self.signed_marked(name, value);
-        };
-        self.writing = Writing::Broken;
+        if self.is_broken {
+            return Err(AllocError);
+        }
+        self.is_broken = true;
         put_signed(&mut self.sheet, self.inside, name, value)?;
-        self.writing = Writing::Plain;
+        self.is_broken = false;
         Ok(())
     }
 
@@ -391,9 +250,9 @@ impl Page {
             (self.new ≡ with_value name.now (string text.now ∷ []) self.old) }
         ensures kept { OnFalse result (self.new ≡ self.old) }
     {
-        let Writing::Plain = self.writing else {
+        if self.is_broken {
             return false;
-        };
+        }
         try_string::<IS_KEY>(&mut self.sheet, self.inside, name, text)
     }
 
@@ -405,9 +264,9 @@ impl Page {
             (self.new ≡ with_value name.now (number (decimal value) ∷ []) self.old) }
         ensures kept { OnFalse result (self.new ≡ self.old) }
     {
-        let Writing::Plain = self.writing else {
+        if self.is_broken {
             return false;
-        };
+        }
         try_number::<IS_KEY>(&mut self.sheet, self.inside, name, value)
     }
 
@@ -488,13 +347,13 @@ impl Page {
     pub fn truth(&mut self, name: &str, value: bool) -> Result<(), AllocError>
         ensures { OnOk result (self.new ≡ with_value name.now (boolean value ∷ []) self.old) }
     {
-        let Writing::Plain = self.writing else {
-            return self.scalar_marked(name, Scalar::Truth(value));
-        };
-        self.writing = Writing::Broken;
+        if self.is_broken {
+            return Err(AllocError);
+        }
+        self.is_broken = true;
         put_name(&mut self.sheet, self.inside, name)?;
         self.sheet.truth(value)?;
-        self.writing = Writing::Plain;
+        self.is_broken = false;
         Ok(())
     }
 
@@ -502,14 +361,14 @@ impl Page {
     pub fn begin(&mut self, name: &str, nest: Nest) -> Result<(), AllocError>
         ensures { OnOk result (self.new ≡ with_begun name.now nest self.old) }
     {
-        let Writing::Plain = self.writing else {
-            return self.begin_marked(name, nest);
-        };
-        self.writing = Writing::Broken;
+        if self.is_broken {
+            return Err(AllocError);
+        }
+        self.is_broken = true;
         self.outer.push(self.inside)?;
         put_begun::<false>(&mut self.sheet, self.inside, name, nest)?;
         self.inside = nest;
-        self.writing = Writing::Plain;
+        self.is_broken = false;
         Ok(())
     }
 
@@ -518,14 +377,14 @@ impl Page {
         requires key { IsKey name.now }
         ensures { OnOk result (self.new ≡ with_begun name.now nest self.old) }
     {
-        let Writing::Plain = self.writing else {
-            return self.begin_marked(name, nest);
-        };
-        self.writing = Writing::Broken;
+        if self.is_broken {
+            return Err(AllocError);
+        }
+        self.is_broken = true;
         self.outer.push(self.inside)?;
         put_begun::<true>(&mut self.sheet, self.inside, name, nest)?;
         self.inside = nest;
-        self.writing = Writing::Plain;
+        self.is_broken = false;
         Ok(())
     }
 
@@ -533,16 +392,16 @@ impl Page {
     pub fn end(&mut self) -> Result<(), AllocError>
         ensures { OnOk result (Ends self.old self.new) }
     {
-        let Writing::Plain = self.writing else {
-            return self.end_marked();
-        };
+        if self.is_broken {
+            return Err(AllocError);
+        }
         let Some(around) = self.outer.pop() else {
             return Ok(());
         };
-        self.writing = Writing::Broken;
+        self.is_broken = true;
         self.sheet.end(self.inside)?;
         self.inside = around;
-        self.writing = Writing::Plain;
+        self.is_broken = false;
         Ok(())
     }
 
@@ -699,34 +558,34 @@ impl Page {
         self.end()
     }
 
-    /// Its bytes, of which so many are the text of the object, where all that was begun has been ended; what was open,
-    /// and its marks.
-    pub(crate) fn text(self) -> Result<(Vec<u8>, usize, Vec<Nest>, Option<Box<Marks>>), AllocError>
+    /// Whether the last thing that was written ends a value: not so where what is open holds nothing yet.
+    pub fn ends_value(&self) -> bool
+        ensures { result ≡ ends_value self.now.tokens }
+    {
+        self.sheet.ends_value()
+    }
+
+    /// Its bytes, of which so many are the text of the object, where all that was begun has been ended; what was open.
+    fn text(self) -> Result<(Vec<u8>, usize, Vec<Nest>), AllocError>
         ensures within { IfOk result (λ text. text.1 ≤ length text.0.items) }
         ensures whole { IfOk result (λ text. IsWholeText self (take text.1 text.0.items)) }
-        ensures marks { IfOk result
-            (λ text. IfSome text.3 (λ m. m.value.list.items ≡ marks_of (ended self))) }
     {
         let Page {
             mut sheet,
             outer,
             inside,
-            writing,
-            mut marks,
+            is_broken,
             ..
         } = self;
-        if let Writing::Broken = writing {
+        if is_broken {
             return Err(AllocError);
         }
         if !outer.is_empty() {
             return Err(AllocError);
         }
         sheet.end(inside)?;
-        if let Some(marks) = &mut marks {
-            marks.end(sheet.len());
-        }
         let (bytes, len) = sheet.into_bytes();
-        Ok((bytes, len, outer, marks))
+        Ok((bytes, len, outer))
     }
 
     /// Adds the text of the object to `out`. Where something that was begun has not been ended, it fails as where there
@@ -742,7 +601,7 @@ impl Page {
     pub(crate) fn finish_over(self, out: &mut Vec<u8>) -> Result<(Vec<u8>, Vec<Nest>), AllocError>
         ensures { OnOk result (AddsText self out.old.items out.new.items) }
     {
-        let (bytes, len, outer, _) = self.text()?;
+        let (bytes, len, outer) = self.text()?;
         out.extend_from_slice(&bytes[..len])?;
         Ok((bytes, outer))
     }

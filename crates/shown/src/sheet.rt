@@ -4,9 +4,8 @@ ghost use Rattle.std.specs.Prelude.{◌≡◌, ◌≤◌, [], ◌∷◌, ◌++�
 ghost use Rattle.std.specs.Bool.{OnTrue, OnFalse};
 ghost use Rattle.std.specs.Fmt.{signed_decimal};
 ghost use Rattle.json.specs.Token.{key, string, number, boolean};
-ghost use Rattle.shown.specs.Print.{print, token_text};
+ghost use Rattle.shown.specs.Print.{print, ends_value, token_text};
 ghost use Rattle.shown.specs.Keys.{IsKey};
-ghost use Rattle.shown.specs.Marks.{next_place};
 ghost use Rattle.shown.specs.Nesting.{opening, closing};
 
 use crate::page::Nest;
@@ -96,18 +95,11 @@ impl Sheet {
         (bytes, len)
     }
 
-    /// How many bytes the text has.
-    pub(crate) fn len(&self) -> usize
-        ensures { result ≡ length (print self.now) }
+    /// Whether the last token ends a value.
+    pub(crate) fn ends_value(&self) -> bool
+        ensures { result ≡ ends_value self.now }
     {
-        self.len
-    }
-
-    /// Where one more name or value begins, behind a comma where one is due.
-    pub(crate) fn next_place(&self) -> usize
-        ensures { result ≡ next_place self.now }
-    {
-        self.len + usize::from(self.after_value)
+        self.after_value
     }
 
     /// Adds a name.

@@ -2,9 +2,13 @@ pub mod Alike
 pub mod Apart
 pub mod Entries
 pub mod Turns
+pub mod Bare
+pub mod Passed
+pub mod Orders
+pub mod Leading
+pub mod Following
 pub mod Orderly
 pub mod Fewer
-pub mod Leading
 pub mod Views
 pub mod Dumps
 pub mod TwoWays

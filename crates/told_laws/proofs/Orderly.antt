@@ -23,6 +23,7 @@ use Rattle.told_laws.specs.Hosts.{HostTells, IsPiece, Piece}
 use Rattle.told_laws.specs.Turns.{AllWent, HaveTurns, Orderly, TakeTurns, TellNothingElse, TellsItem}
 use Rattle.told_laws.specs.Turns.{TellsMessage, TellsOther, all_by, is_del, may_go, there_after}
 use Rattle.told_laws.proofs.Entries.{are_told, entries_at, gone_at, gone_entry, new_entry, news_entry, of_key_both}
+use Rattle.told_laws.proofs.Following.{turns_lead}
 use Rattle.told_laws.proofs.Turns.{leads, text_of, there}
 
 -- ** the kind that is known is that of the last message, if it names one
@@ -309,4 +310,10 @@ pub orderly : Orderly
 orderly by pieces h =
     let from : OrderlyFrom by 0 nothing_known (λ q. None) pieces =
     orderly_from by 0 nothing_known (λ q. None) pieces h (λ q. refl) (λ q. refl) in
-    record { steps = from.steps; are = from.are; turns = from.turns; nothing = from.nothing }
+    record {
+      steps = from.steps;
+      are = from.are;
+      turns = from.turns;
+      nothing = from.nothing;
+      lead = λ q. turns_lead by q 0 nothing_known from.steps (from.turns q);
+    }

@@ -7,10 +7,10 @@ use Rattle.message_diff.specs.declared.snapshot.Compared.{Compared}
 use Rattle.message_diff.specs.Known.{Item, Picture, after, in_family, is_part, nothing_known}
 use Rattle.message_diff.specs.Files.{Found, Missing, are_two, found, gone_of, news_of}
 use Rattle.message_diff.specs.Watched.{known_of}
-use Rattle.told_laws.specs.Entries.{AreSteps, Step, of_key}
+use Rattle.told_laws.specs.Entries.{AreSteps, Step, all_entries, of_key}
 use Rattle.told_laws.specs.Fewer.{changes_by}
 use Rattle.told_laws.specs.Hosts.{HostTells, Piece}
-use Rattle.told_laws.specs.TwoWays.{IsDump, IsKnown, TwoWays, all_entries, files_tell}
+use Rattle.told_laws.specs.TwoWays.{IsDump, IsKnown, TwoWays, files_tell}
 use Rattle.told_laws.specs.TwoWays.{known_behind, news_entries, unworded}
 use Rattle.told_laws.proofs.Dumps.{DumpDoes, as_found, below_walk, dump_does, end_at, entries_both, files_by, found_as}
 use Rattle.told_laws.proofs.Dumps.{is_none, is_torn, mine, none_told, none_yet, put, stays, table, told_of, whole_at}

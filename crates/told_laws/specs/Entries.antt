@@ -1,6 +1,6 @@
 -- What a line tells, as entries: that an interface came, changed or went.
 use Rattle.std.specs.Prelude.{◌≡◌, ◌++◌, ℕ, List, [], ◌∷◌, codes}
-use Rattle.std.specs.List.{filter}
+use Rattle.std.specs.List.{filter, flat_map}
 use Rattle.line_filter.specs.Words.{front_of, rest_of}
 use Rattle.message_diff.specs.declared.key.Key.{Key}
 use Rattle.message_diff.specs.declared.reading.Said.{Said}
@@ -48,6 +48,10 @@ of_key q es = filter (λ e. is_key (key_of e) q) es
 pub record Step : Type 0 where
   pub item : Item
   pub entries : List Entry
+
+-- what all of them tell, one after another
+abbrev pub all_entries : List Step → List Entry
+all_entries steps = flat_map (λ step. step.entries) steps
 
 -- a line that tells that messages were lost has no entries
 abbrev pub IsToldAs : List ℕ → Compared → Said → List Entry → List ℕ → Type 0

@@ -1,82 +1,102 @@
 -- The leaves of the message that was told as new, with the changes that are told since, are those of the last one.
-use Rattle.std.specs.Prelude.{◌≡◌, ℕ, true, false, List, [], ◌∷◌, Option, None, Some, codes, cond}
-use Rattle.std.specs.List.{fold}
-use Rattle.message_diff.specs.declared.desk.Pair.{Pair}
+use Rattle.std.specs.Prelude.{◌≡◌, ◌++◌, ℕ, true, false, List, [], ◌∷◌, Option, None, Some, codes, cond, map}
+use Rattle.std.specs.Prelude.{option_map}
+use Rattle.std.specs.List.{flat_map, fold}
+use Rattle.frame_diff.specs.Differences.{Change, path_of, text_of}
+use Rattle.frame_diff.specs.Forests.{Leaf, Path, Step, is_path, leaves, value_at}
+use Rattle.message_diff.specs.declared.key.Key.{Key}
 use Rattle.message_diff.specs.declared.snapshot.Compared.{Compared}
-use Rattle.message_diff.specs.declared.snapshot.Compared.TheVariants.{State, Message, LenientState, LenientMessage}
-use Rattle.message_diff.specs.Changed.{told_diffs}
-use Rattle.message_diff.specs.Counted.{AreCounterPaths, IsLeftBy}
-use Rattle.message_diff.specs.Differences.{Diff, HasOneEach, Leaf, diffs, has_path, old_of, path_of, value_at}
-use Rattle.message_diff.specs.Ipv6.{is_ipv6_counter}
-use Rattle.message_diff.specs.Known.{is_text}
+use Rattle.message_diff.specs.Changed.{forest_by, told_changes}
+use Rattle.message_diff.specs.Compared.{is_state}
+use Rattle.message_diff.specs.Shots.{Shot}
+use Rattle.told_laws.specs.Entries.{Entry}
 
--- ** one change
+-- ** leaves, by the texts of their values
 
--- what stands at a path behind a change, where this stood there: the new value in the place of the old one
-abbrev pub behind : List ℕ → Option (List ℕ) → Diff → Option (List ℕ)
-behind q value (Diff.came path is) = cond (is_text path q) (Some is) value
-behind q value (Diff.went path was) = cond (is_text path q) None value
-behind q value (Diff.turned path was is) = cond (is_text path q) (Some is) value
+-- the text that stands at a path
+abbrev pub text_in : List Leaf → Path → Option (List ℕ)
+text_in ls q = option_map text_of (value_at ls q)
 
--- what is told of two messages with these leaves: all that differs between them, without the values at counters
-pub record IsToldBetween (by : Compared) (pair : Pair) (was is : List ℕ) (old new : List Leaf) (told : List Diff)
-    : Type 0 where
-  pub left : List Diff
-  pub are_left : IsLeftBy by pair (diffs old new) left
-  pub are : told ≡ told_diffs was is left
+-- of a message as it is compared
+abbrev pub text_at : Compared → Shot → Path → Option (List ℕ)
+text_at by shot q = text_in (leaves (forest_by by shot)) q
 
--- a path that is no counter of the two messages, where counters do not count
-abbrev pub IsNoCounter : Pair → List ℕ → Type 0
-IsNoCounter pair q =
-    (is_ipv6_counter q ≡ false)
-    × ((paths : List (List ℕ)) → AreCounterPaths pair.is_part pair.old paths → has_path paths q ≡ false)
-    × ((paths : List (List ℕ)) → AreCounterPaths pair.is_part pair.new paths → has_path paths q ≡ false)
+-- ** changes
 
-abbrev pub Counts : Compared → Pair → List ℕ → Type 0
-Counts State pair q = IsNoCounter pair q
-Counts LenientState pair q = IsNoCounter pair q
-Counts Message pair q = Unit {0}
-Counts LenientMessage pair q = Unit {0}
+-- what stands at a path behind a change, where this text stood there: the new one in the place of the old one
+abbrev pub behind : Path → Option (List ℕ) → Change → Option (List ℕ)
+behind q text (Change.came path value) = cond (is_path path q) (Some (text_of value)) text
+behind q text (Change.went path value) = cond (is_path path q) None text
+behind q text (Change.turned path was is) = cond (is_path path q) (Some (text_of is)) text
 
--- ** one after another
+-- what stood at its path, as it says
+abbrev pub old_of : Change → Option (List ℕ)
+old_of (Change.came path value) = None
+old_of (Change.went path value) = Some (text_of value)
+old_of (Change.turned path was is) = Some (text_of was)
 
--- a line `changed`: the encodings before it and behind it, and what it tells
-pub record Change : Type 0 where
-  pub pair : Pair
-  pub was : List ℕ
-  pub is : List ℕ
-  pub told : List Diff
+-- one after another, each of those at a path has the old text that stands there by then
+abbrev pub HaveOld : Path → Option (List ℕ) → List Change → Type 0
+HaveOld q text [] = Unit {0}
+HaveOld q text (c ∷ cs) = (is_path (path_of c) q ≡ true → old_of c ≡ text) × HaveOld q (behind q text c) cs
 
-abbrev pub last_text : List ℕ → List Change → List ℕ
-last_text text [] = text
-last_text text (c ∷ cs) = last_text c.is cs
+-- at a path they lead from one text to another
+pub record Lead (q : Path) (first last : Option (List ℕ)) (cs : List Change) : Type 0 where
+  pub old : HaveOld q first cs
+  pub leads : fold (behind q) first cs ≡ last
+
+-- ** lines `changed`
+
+-- the messages before such a line and behind it
+pub record Turn : Type 0 where
+  pub was : Shot
+  pub is : Shot
+
+-- what they tell, one after another
+abbrev pub told_by : Compared → List Turn → List Change
+told_by by ts = flat_map (λ t. told_changes by t.was t.is) ts
+
+-- a message behind which this one tells nothing: it has its encoding, and where counters are compared it was read in
+-- the same order of them
+abbrev pub IsAgain : Compared → Shot → Shot → Type 0
+IsAgain by was is = (is.text ≡ was.text) × (is_state by ≡ false → is.order ≡ was.order)
 
 -- each of them begins where the last one ended
-abbrev pub Follow : Compared → (List ℕ → List Leaf) → List ℕ → List ℕ → List Change → Type 0
-Follow by leaves q text [] = Unit {0}
-Follow by leaves q text (c ∷ cs) =
-    (c.was ≡ text) × IsToldBetween by c.pair c.was c.is (leaves c.was) (leaves c.is) c.told × Counts by c.pair q
-    × Follow by leaves q c.is cs
+abbrev pub Follow : Compared → Shot → List Turn → Type 0
+Follow by shot [] = Unit {0}
+Follow by shot (t ∷ ts) = IsAgain by shot t.was × Follow by t.is ts
 
-abbrev pub behind_all : List ℕ → Option (List ℕ) → List Change → Option (List ℕ)
-behind_all q value cs = fold (λ at c. fold (behind q) at c.told) value cs
+abbrev pub last_shot : Shot → List Turn → Shot
+last_shot shot [] = shot
+last_shot shot (t ∷ ts) = last_shot t.is ts
 
--- changes at a path have the old value that stands there
-abbrev pub HaveOld : List ℕ → Option (List ℕ) → List Diff → Type 0
-HaveOld q value [] = Unit {0}
-HaveOld q value (d ∷ ds) = (is_text (path_of d) q ≡ true → old_of d ≡ value) × HaveOld q value ds
+-- ** the law
 
-abbrev pub AllHaveOld : (List ℕ → List Leaf) → List ℕ → List Change → Type 0
-AllHaveOld leaves q [] = Unit {0}
-AllHaveOld leaves q (c ∷ cs) = HaveOld q (value_at (leaves c.was) q) c.told × AllHaveOld leaves q cs
+-- from the first message to the last one, and to each that tells nothing behind it
+abbrev pub LeadsAt : Compared → Path → Shot → List Turn → Type 0
+LeadsAt by q shot ts = (last : Shot) → IsAgain by (last_shot shot ts) last
+    → Lead q (text_at by shot q) (text_at by last q) (told_by by ts)
 
--- so at each path but `state`, and but counters, the old values are there, and the changes lead to the last message
-pub record LeadsAt (leaves : List ℕ → List Leaf) (q text : List ℕ) (cs : List Change) : Type 0 where
-  pub old : AllHaveOld leaves q cs
-  pub leads : behind_all q (value_at (leaves text) q) cs ≡ value_at (leaves (last_text text cs)) q
+-- at each path but `state`, at which a line tells both encodings where no leaf differs
+abbrev pub AllLead : Compared → Shot → List Turn → Type 0
+AllLead by shot ts = (q : Path) → is_path (Step.name (codes "state") ∷ []) q ≡ false → LeadsAt by q shot ts
 
 abbrev pub LeadThere : Type 0
-LeadThere =
-    (by : Compared) (leaves : List ℕ → List Leaf) → ((text : List ℕ) → HasOneEach (leaves text))
-    → (q : List ℕ) → is_text (codes "state") q ≡ false → (text : List ℕ) (cs : List Change)
-    → Follow by leaves q text cs → LeadsAt leaves q text cs
+LeadThere = (by : Compared) (shot : Shot) (ts : List Turn) → Follow by shot ts → AllLead by shot ts
+
+-- ** lines of an interface
+
+-- the message before each of them was read in the order of counters in which the last one was
+abbrev pub AreInOrder : Shot → List Turn → Type 0
+AreInOrder shot [] = Unit {0}
+AreInOrder shot (t ∷ ts) = (t.was.order ≡ shot.order) × AreInOrder t.is ts
+
+abbrev pub turn_entries : Key → List Turn → List Entry
+turn_entries key ts = map (λ t. Entry.changed key t.was t.is) ts
+
+-- wherever lines `changed` stand behind a line `new`, they lead from its message to the last one
+abbrev pub EntriesLead : Compared → Key → List Entry → Type 0
+EntriesLead by key es =
+    (before after : List Entry) (shot : Shot) (ts : List Turn)
+    → es ≡ before ++ Entry.came key shot ∷ (turn_entries key ts ++ after)
+    → (is_state by ≡ false → AreInOrder shot ts) → AllLead by shot ts

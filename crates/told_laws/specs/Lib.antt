@@ -1,7 +1,7 @@
 pub mod Hosts
 pub mod Entries
+pub mod Leading
 pub mod Turns
 pub mod Fewer
-pub mod Leading
 pub mod TwoWays
 pub mod Whole

@@ -1,5 +1,5 @@
--- Of one interface `new` and `gone` take turns, and `changed` stands between them; and a message whose encoding is that
--- of the last one tells nothing.
+-- Of one interface `new` and `gone` take turns, and `changed` stands between them and leads to the last message; and a
+-- message whose encoding is that of the last one tells nothing.
 use Rattle.std.specs.Prelude.{◌≡◌, ◌⊎◌, ◌&&◌, ◌||◌, ◌++◌, ℕ, suc, Bool, true, false, MatchBool, List, [], ◌∷◌, Option}
 use Rattle.std.specs.Prelude.{None, Some, is_some}
 use Rattle.message_diff.specs.declared.key.Key.{Key}
@@ -9,8 +9,9 @@ use Rattle.message_diff.specs.declared.watch.Told.TheVariants as Tellings
 use Rattle.message_diff.specs.Known.{Item, Picture, after, is_key, is_text, nothing_known}
 use Rattle.message_diff.specs.Shots.{Shot}
 use Rattle.message_diff.specs.Told.{is_told_gone}
-use Rattle.told_laws.specs.Entries.{AreSteps, Entry, Step, of_key}
+use Rattle.told_laws.specs.Entries.{AreSteps, Entry, Step, all_entries, of_key}
 use Rattle.told_laws.specs.Hosts.{HostTells, Piece}
+use Rattle.told_laws.specs.Leading.{EntriesLead}
 
 -- where all is told
 abbrev pub all_by : Compared → Telling
@@ -86,13 +87,14 @@ TellNothingElse there (step ∷ steps) =
 
 -- ** the laws
 
--- what lines of a host add are lines of entries, of which those of each interface take turns, `new` first; and nothing
--- else is told
+-- what lines of a host add are lines of entries, of which those of each interface take turns, `new` first; nothing else
+-- is told; and lines `changed` lead from the message of the line `new` to the last one
 pub record IsOrderly (by : Compared) (pieces : List Piece) : Type 0 where
   pub steps : List Step
   pub are : AreSteps (all_by by) pieces steps
   pub turns : (q : Key) → TakeTurns q None 0 nothing_known steps
   pub nothing : TellNothingElse (λ q. None) steps
+  pub lead : (q : Key) → EntriesLead by q (of_key q (all_entries steps))
 
 abbrev pub Orderly : Type 0
 Orderly = (by : Compared) (pieces : List Piece) → HostTells (all_by by) 0 nothing_known pieces → IsOrderly by pieces

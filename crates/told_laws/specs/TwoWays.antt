@@ -1,7 +1,7 @@
 -- Two files tell of an interface what a stream of both, one after the other, tells where only changes are told.
 use Rattle.std.specs.Prelude.{◌≡◌, ◌≢◌, ◌++◌, ℕ, suc, Bool, true, false, MatchBool, List, [], ◌∷◌, Option, None, Some}
 use Rattle.std.specs.Prelude.{cond, map}
-use Rattle.std.specs.List.{flat_map, list_all, list_any}
+use Rattle.std.specs.List.{list_all, list_any}
 use Rattle.message_diff.specs.declared.key.Key.{Key}
 use Rattle.message_diff.specs.declared.store.Host.{Host}
 use Rattle.message_diff.specs.declared.snapshot.Compared.{Compared}
@@ -10,7 +10,7 @@ use Rattle.message_diff.specs.Known.{Item, Picture, Seen, after, is_key, is_part
 use Rattle.message_diff.specs.Known.{value_or_nothing}
 use Rattle.message_diff.specs.Shots.{Shot}
 use Rattle.message_diff.specs.Watched.{known_of}
-use Rattle.told_laws.specs.Entries.{AreSteps, Entry, Step, of_key}
+use Rattle.told_laws.specs.Entries.{AreSteps, Entry, Step, all_entries, of_key}
 use Rattle.told_laws.specs.Fewer.{changes_by}
 use Rattle.told_laws.specs.Hosts.{HostTells, Piece}
 
@@ -89,9 +89,6 @@ files_tell by name old new q =
 abbrev pub unworded : Item → Item
 unworded (Item.is key shot words) = Item.is key shot None
 unworded x = x
-
-abbrev pub all_entries : List Step → List Entry
-all_entries steps = flat_map (λ step. step.entries) steps
 
 -- two dumps, one after the other: of each interface that is not of family 7 or 10, and that the first file does not
 -- refuse, they tell as files what their stream tells

@@ -15,8 +15,9 @@ pub fn law_apart()
     ensures { Apart }
 {}
 
-/// Of one interface lines `new` and `gone` take turns, and lines `changed` stand between them. A message with the
-/// encoding that is there tells nothing, one with another encoding one line `changed`, or lines `gone` and one `new`.
+/// Of one interface lines `new` and `gone` take turns, and lines `changed` stand between them, which lead from the
+/// message of the line `new` to the last one. A message with the encoding that is there tells nothing, one with another
+/// encoding one line `changed`, or lines `gone` and one `new`.
 pub fn law_orderly()
     ensures { Orderly }
 {}
@@ -26,8 +27,8 @@ pub fn law_fewer_lines()
     ensures { FewerLines }
 {}
 
-/// Where what is told of two messages is all that differs between their leaves, changes lead from the leaves of the
-/// first message to those of the last one, counters aside, and each old value is there.
+/// The changes of lines `changed`, one after another, lead from the leaves of the first message to those of the last
+/// one, at each path but `state`, and the old text of each change is there.
 pub fn law_lead_there()
     ensures { LeadThere }
 {}
@@ -39,7 +40,7 @@ pub fn law_two_ways()
 {}
 
 /// A run that tells all, by its contract, tells of each host what its lines tell alone, and the entries of each
-/// interface take turns.
+/// interface take turns and lead to its last message.
 pub fn law_whole_runs()
     ensures { WholeRuns }
 {}

@@ -41,13 +41,13 @@ loop-item-preserved g c =
       behind = left;
       goes = subst (λ n. GoesOnAt nest inner is_state others n c.beside_again.result.1.now)
           (sym c.place_by-place.ensures)
-          (c.beside_again.ensures nest inner c.loop-item.place c.loop-item.invariant.goes).1;
+          (c.beside_again.ensures nest inner is_state c.loop-item.place c.loop-item.invariant.goes).1;
       few = again_fits c.in-Ok.frame c.again-again.result c.loop-item.item-iterator c.next.new.self here
           c.loop-item.place c.place_by-place.result (frame_count (items own.bytes.now)) c.place_by-place.ensures
           c.loop-item.invariant.few;
       told = again_next nest inner is_state own.list c.in-Ok.frame r c.again-again.result
           c.loop-item.item-iterator c.next.new.self here
-          (c.again-again.ensures nest inner
+          (c.again-again.ensures nest inner is_state
           ∙ ap (λ xs. again_in r own.list (named_in r own.list (frames_in xs)) c.in-Ok.frame) left)
           (named_at nest inner is_state others) c.args.pass.side c.args.path.now c.loop-item.place
           c.place_by-place.result c.loop-item.page c.tell_again.new.page all c.place_by-place.ensures
@@ -56,4 +56,5 @@ loop-item-preserved g c =
 
 pub tell_again-requires : goal.tell_again-requires
 tell_again-requires g c =
-    (c.beside_again.ensures g.W.Depth.nest g.W.Walk.inner c.loop-item.place c.loop-item.invariant.goes).0
+    (c.beside_again.ensures g.W.Depth.nest g.W.Walk.inner c.args.pass.is_state c.loop-item.place
+    c.loop-item.invariant.goes).0

@@ -22,7 +22,8 @@ loop-item-preserved g c =
     let all : Draft = with_members (objects (items_told side text (places (group_at nest inner is_state own))
     (places (group_at nest inner is_state c.args.others)))) c.args.page.now in
     record {
-      same = ap is_entries c.take_beside-taken.ensures.same ∙ c.loop-item.invariant.same;
+      same = ap is_entries c.take_beside-taken.ensures.same.0 ∙ c.loop-item.invariant.same;
+      around = c.take_beside-taken.ensures.same.1 ∙ c.loop-item.invariant.around;
       few = next_fits c.in-Ok.frame c.pick-value.result c.loop-item.item-iterator c.next.new.self here
           c.loop-item.place c.next_place-place.result (frame_count (items own.bytes.now)) c.next_place-place.ensures
           c.loop-item.invariant.few;

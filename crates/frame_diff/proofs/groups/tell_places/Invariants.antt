@@ -17,6 +17,7 @@ invariant-loop-item g l =
     let r = reading_at nest inner l.pass.is_state l.own.around.now in
     record {
       same : is_entries l.rest.list ≡ is_entries l.own.list;
+      around : l.rest.around.now ≡ l.others.around.now;
       few : l.place + frame_count l.item-iterator ≤ frame_count (items l.own.bytes.now);
       told : with_members (objects (items_told l.pass.side l.path
           (forest (placed l.place (group_values r l.own.list (frames_in l.item-iterator))))

@@ -6,8 +6,8 @@ use Rattle.frame_diff.proofs.Walked.{comes_named}
 use Rattle.frame_diff.proofs.list.comes.Goals as goal
 
 pub returns : goal.returns
-returns c nest inner =
+returns c nest inner is_state =
     let list = c.args.list in
     c.is_any_named.ensures
-    ∙ comes_named (reading_at nest inner c.args.is_state list.around.now) list.list c.args.name.now
+    ∙ comes_named (reading_at nest inner is_state list.around.now) list.list c.args.name.now
     (frames_in (items list.bytes.now))

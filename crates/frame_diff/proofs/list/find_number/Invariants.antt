@@ -1,10 +1,14 @@
-use Rattle.std.proofs.Common.{◌≡◌}
+use Rattle.std.proofs.Common.{◌≡◌, ◌++◌, List, false}
+use Rattle.std.specs.Prelude.{◌==◌}
+use Rattle.std.specs.List.{list_any}
+use Rattle.nla_wire.specs.Frames.{Frame, number}
 use Rattle.nla_wire.specs.Items.{items}
-use Rattle.frame_diff.specs.Walked.{IsTail}
+use Rattle.link_info.specs.Tables.{frames_in}
 use Rattle.frame_diff.proofs.list.find_number.Given as goal
 
 abbrev pub invariant-loop-item : goal.invariant-loop-item
 invariant-loop-item l = record {
   left : items l.rest ≡ l.item-iterator;
-  tail : IsTail l.bytes l.rest;
+  passed : (fs : List Frame) × (frames_in (items l.all) ≡ fs ++ frames_in l.item-iterator)
+      × (list_any (λ f. number f == l.number) fs ≡ false);
 }

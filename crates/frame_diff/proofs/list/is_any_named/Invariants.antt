@@ -6,5 +6,5 @@ use Rattle.frame_diff.specs.Beside.{is_named}
 use Rattle.frame_diff.proofs.list.is_any_named.Given as goal
 
 abbrev pub invariant-loop-item : goal.invariant-loop-item
-invariant-loop-item l = list_any (is_named l.is_state l.cx l.list l.name) (frames_in l.item-iterator)
-    ≡ list_any (is_named l.is_state l.cx l.list l.name) (frames_in (items l.bytes))
+invariant-loop-item l = list_any (is_named l.cx l.list l.name) (frames_in l.item-iterator)
+    ≡ list_any (is_named l.cx l.list l.name) (frames_in (items l.bytes))

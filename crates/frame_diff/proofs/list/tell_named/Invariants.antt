@@ -17,6 +17,7 @@ invariant-loop-item g l =
     let others = forest (named_at nest inner l.pass.is_state l.others) in
     record {
       left : items l.rest ≡ l.item-iterator;
+      front : IsTail l.own.bytes.now l.rest;
       tail : IsTail l.others.bytes.now l.there;
       told : with_members (objects (items_told l.pass.side l.path
           (forest (named_in r l.own.list (frames_in l.item-iterator))) others)) l.page

@@ -1,4 +1,4 @@
-use Rattle.std.proofs.Common.{[], drop}
+use Rattle.std.proofs.Common.{[], refl}
 use Rattle.std.proofs.lemmas.Result.{on_ok_weaker}
 use Rattle.std.specs.Prelude.{slice_index}
 use Rattle.nla_wire.specs.Items.{items}
@@ -15,8 +15,8 @@ use Rattle.frame_diff.proofs.message.tell_attributes.Goals as goal
 pub tell_members-requires : goal.tell_members-requires
 tell_members-requires c h =
     alike_lists c.args.cx.now c.args.theirs.now c.around-here.result c.around-there.result
-    (address_len (frames_in (items c.rest_of-bytes.result.now)))
-    (address_len (frames_in (items c.rest_of-their_bytes.result.now))) c.around-here.ensures c.around-there.ensures
+    (address_len (frames_in (items c.args.own.attributes.now)))
+    (address_len (frames_in (items c.args.others.attributes.now))) c.around-here.ensures c.around-there.ensures
     c.u8_at-family.result c.u8_at-their_family.result c.args.pass.is_alike c.are_alike-is_alike.result c.requires
     c.are_alike-is_alike.ensures h
 
@@ -25,19 +25,20 @@ returns c =
     let is_state = c.args.pass.is_state in
     let side = c.args.pass.side in
     let own = members_in (reading 5 is_state c.around-here.result) (Shapes.Message c.u8_at-family.result)
-    (frames_in (items c.rest_of-bytes.result.now)) in
+    (frames_in (items c.args.own.attributes.now)) in
     let others = members_in (reading 5 is_state c.around-there.result) (Shapes.Message c.u8_at-their_family.result)
-    (frames_in (items c.rest_of-their_bytes.result.now)) in
-    let own_too = attributes_in is_state c.args.cx.now (slice_index c.args.own.now 0) (drop 16 c.args.own.now) in
-    let others_too =
-    attributes_in is_state c.args.theirs.now (slice_index c.args.others.now 0) (drop 16 c.args.others.now) in
+    (frames_in (items c.args.others.attributes.now)) in
+    let own_too = attributes_in is_state c.args.cx.now (slice_index c.args.own.header.now 0)
+    c.args.own.attributes.now in
+    let others_too = attributes_in is_state c.args.theirs.now (slice_index c.args.others.header.now 0)
+    c.args.others.attributes.now in
     on_ok_weaker c.tell_members.result (same_written (items_told side [] (forest own) (forest others))
     (items_told side [] (forest own_too) (forest others_too)) c.args.page.now c.tell_members.new.page
     (λ k. items_told side []
     (forest (attributes_are is_state c.args.cx.now c.around-here.result c.u8_at-family.result
-    (slice_index c.args.own.now 0) c.rest_of-bytes.result.now (drop 16 c.args.own.now) c.around-here.ensures
-    c.u8_at-family.ensures c.rest_of-bytes.ensures k))
+    (slice_index c.args.own.header.now 0) c.args.own.attributes.now c.args.own.attributes.now c.around-here.ensures
+    c.u8_at-family.ensures refl k))
     (forest (attributes_are is_state c.args.theirs.now c.around-there.result c.u8_at-their_family.result
-    (slice_index c.args.others.now 0) c.rest_of-their_bytes.result.now (drop 16 c.args.others.now)
-    c.around-there.ensures c.u8_at-their_family.ensures c.rest_of-their_bytes.ensures k))))
+    (slice_index c.args.others.header.now 0) c.args.others.attributes.now c.args.others.attributes.now
+    c.around-there.ensures c.u8_at-their_family.ensures refl k))))
     c.tell_members.ensures

@@ -8,8 +8,8 @@ use Rattle.frame_diff.proofs.Beside.{member_is}
 use Rattle.frame_diff.proofs.named.find_named.Goals as goal
 
 pub returns : goal.returns
-returns c nest inner =
+returns c is_state nest inner =
     let r : Reading =
-    record { is_state = c.args.is_state; nest = nest; inner = inner; around = c.args.cx.now } in
-    member_is c.args.is_state c.args.cx.now c.args.list c.args.name.now nest inner (frames_in (items c.args.bytes.now))
+    record { is_state = is_state; nest = nest; inner = inner; around = c.args.cx.now } in
+    member_is c.args.cx.now c.args.list c.args.name.now is_state nest inner (frames_in (items c.args.bytes.now))
     ∙ ap (option_map (held_of r c.args.list)) (sym c.find_last.ensures)

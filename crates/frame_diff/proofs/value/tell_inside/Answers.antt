@@ -7,6 +7,9 @@ use Rattle.frame_diff.specs.Walked.{held_at}
 use Rattle.frame_diff.proofs.Inside.{list_beside, same_written}
 use Rattle.frame_diff.proofs.value.tell_inside.Goals as goal
 
+pub tell_list-requires : goal.tell_list-requires
+tell_list-requires g c h = c.in_ok-there.ensures.alike c.args.own (c.requires h)
+
 pub returns : goal.returns
 returns g c =
     let nest = g.W.Depth.nest in
@@ -21,4 +24,4 @@ returns g c =
     on_ok_weaker c.tell_list.result (same_written (items_told side text f there) (items_told side text f beside)
     c.args.page.now c.tell_list.new.page
     (list_beside side text f there beside (c.laws.ensures.fieldless is_state own.around.now own.list own.bytes.now)
-    (c.in_ok-there.ensures nest inner))) c.tell_list.ensures
+    (c.in_ok-there.ensures.held nest inner))) c.tell_list.ensures

@@ -1,4 +1,4 @@
-use Rattle.frame_shown.proofs.RowKeys.{keyed_by, message_key, table_key}
+use Rattle.frame_shown.proofs.RowKeys.{keyed_by, message_key, refused_key, table_key}
 use Rattle.frame_shown.specs.Tables.{manner_way}
 use Rattle.frame_shown.proofs.form.found_in.Goals as goal
 
@@ -11,3 +11,8 @@ pub returns-in-Own-clause-key : goal.returns-in-Own-clause-key
 returns-in-Own-clause-key c =
     keyed_by c.table_row.result.0.now (manner_way c.table_row.result.1) _ c.table_row.ensures
     (table_key c.in-Own.table c.args.number)
+
+pub returns-in-Refused-clause-key : goal.returns-in-Refused-clause-key
+returns-in-Refused-clause-key c =
+    keyed_by c.refused_row.result.0.now (manner_way c.refused_row.result.1) _ c.refused_row.ensures
+    (refused_key c.args.number)

@@ -1,16 +1,19 @@
-use Rattle.std.proofs.lemmas.Result.{on_ok_weaker}
-use Rattle.message_diff.proofs.Meant.{alone_meant, alone_short}
+use Rattle.std.proofs.Common.{◌++◌, ◌∷◌, []}
+use Rattle.message_shown.proofs.Added.{members_then, object_told}
+use Rattle.message_diff.specs.Alone.{change_member, interface_line, told_words}
+use Rattle.message_diff.specs.Named.{head_of}
+use Rattle.message_diff.proofs.Meant.{alone_meant}
 use Rattle.message_diff.proofs.alone.push_alone.Goals as goal
 
-pub returns-in-Some : goal.returns-in-Some
-returns-in-Some c =
-    on_ok_weaker c.push_interface.result
-    (alone_meant c.args.front.now c.args.change.now c.args.text.now c.in-Some.attributes.now _ _ c.in-Some.family
-    c.in-Some.ensures.0 c.in-Some.ensures.1)
-    c.push_interface.ensures
-
-pub returns-in-None : goal.returns-in-None
-returns-in-None c =
-    on_ok_weaker c.push_line.result
-    (alone_short c.args.front.now c.args.change.now c.args.text.now _ _ c.in-None.ensures)
-    c.push_line.ensures
+pub returns : goal.returns
+unfolding interface_line
+returns c =
+    let words = told_words c.args.front.now in
+    let member = change_member c.args.change.now in
+    let head = head_of c.args.text.now in
+    alone_meant c.args.front.now c.args.change.now c.args.text.now c.args.out.now.items c.push.new.self.items
+    (object_told (words ++ member ∷ head) c.show_interface.new.page _ _ _
+    (members_then words [] head member c.in_ok-page.page c.show_told.new.page c.string.new.self
+    c.show_interface.new.page c.in_ok-page.ensures c.in_ok-show_told.ensures c.in_ok-string.ensures
+    c.in_ok-show_interface.ensures)
+    c.in_ok-finish.ensures c.in_ok-push.ensures.items)

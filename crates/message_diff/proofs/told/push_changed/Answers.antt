@@ -1,3 +1,4 @@
+use Rattle.message_diff.specs.Changed.{changed_line}
 use Rattle.message_diff.proofs.Changed.{longer_changed}
 use Rattle.message_diff.proofs.told.push_changed.Goals as goal
 
@@ -7,4 +8,5 @@ returns-clause-said c =
     c.push_difference.new.out.items c.in_ok-push_difference.ensures
 
 pub returns-clause-added : goal.returns-clause-added
-returns-clause-added c = (c.in_ok-push_difference.ensures.0, c.in_ok-push_difference.ensures.2)
+returns-clause-added c =
+    (changed_line c.args.by c.args.front.now c.args.old.now c.args.new.now, c.in_ok-push_difference.ensures)

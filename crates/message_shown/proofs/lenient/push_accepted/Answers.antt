@@ -1,13 +1,10 @@
-use Rattle.std.proofs.Common.{[], ◌∷◌, ◌++◌, ap, ◌∙◌}
-use Rattle.shown.specs.Drafts.{with_members}
+use Rattle.std.proofs.Common.{[], ◌∷◌, ◌++◌}
 use Rattle.frame_shown.specs.Accepted.{lenient_members}
-use Rattle.frame_shown.specs.declared.form.Around.{Around}
-use Rattle.message_shown.specs.Contexts.{for_frames}
+use Rattle.frame_shown.proofs.Items.{both_added}
 use Rattle.message_shown.specs.Leniently.{refused_member}
 use Rattle.message_shown.specs.Worded.{words_shown}
 use Rattle.message_shown.proofs.Added.{words_then}
 use Rattle.message_shown.proofs.Leniently.{accepted_answered, accepted_shown, long_enough}
-use Rattle.message_shown.proofs.Places.{both_added}
 use Rattle.message_shown.proofs.lenient.push_accepted.Goals as goal
 
 pub show_refused-requires : goal.show_refused-requires
@@ -17,15 +14,13 @@ pub returns-clause-answer : goal.returns-clause-answer
 returns-clause-answer c =
     let words = words_shown c.args.front.now in
     let bytes = c.args.bytes.now in
-    let members = lenient_members (for_frames c.args.cx.now) bytes in
+    let members = lenient_members c.args.cx.now.around bytes in
     let added = c.in_ok-show_refused.ensures in
     let page = words_then words (members ++ refused_member added.0 ∷ []) c.in_ok-page.page c.show_words.new.page
     c.show_refused.new.page c.in_ok-page.ensures c.in_ok-show_words.ensures
     (both_added members (refused_member added.0 ∷ []) c.show_words.new.page c.show_leniently.new.page
     c.show_refused.new.page
-    (c.in_ok-show_leniently.ensures
-    ∙ ap (λ (a : Around). with_members (lenient_members a bytes) c.show_words.new.page) c.for_frames.ensures)
-    added.2) in
+    c.in_ok-show_leniently.ensures added.2) in
     accepted_answered words c.args.cx.now bytes _ _ _ added.0 c.show_refused.new.page
     c.requires page c.in_ok-finish.ensures c.in_ok-push.ensures.items
 
@@ -33,14 +28,12 @@ pub returns-clause-whole : goal.returns-clause-whole
 returns-clause-whole c nothing =
     let words = words_shown c.args.front.now in
     let bytes = c.args.bytes.now in
-    let members = lenient_members (for_frames c.args.cx.now) bytes in
+    let members = lenient_members c.args.cx.now.around bytes in
     let added = c.in_ok-show_refused.ensures in
     let page = words_then words (members ++ refused_member added.0 ∷ []) c.in_ok-page.page c.show_words.new.page
     c.show_refused.new.page c.in_ok-page.ensures c.in_ok-show_words.ensures
     (both_added members (refused_member added.0 ∷ []) c.show_words.new.page c.show_leniently.new.page
     c.show_refused.new.page
-    (c.in_ok-show_leniently.ensures
-    ∙ ap (λ (a : Around). with_members (lenient_members a bytes) c.show_words.new.page) c.for_frames.ensures)
-    added.2) in
+    c.in_ok-show_leniently.ensures added.2) in
     accepted_shown words c.args.cx.now bytes _ _ _ added.0 c.show_refused.new.page
     c.requires page c.in_ok-finish.ensures c.in_ok-push.ensures.items added.1 nothing

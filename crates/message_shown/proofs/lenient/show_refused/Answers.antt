@@ -2,8 +2,8 @@ use Rattle.std.proofs.Common.{ap, ◌∙◌}
 use Rattle.std.specs.Prelude.{codes}
 use Rattle.std.proofs.lemmas.Result.{on_ok_weaker}
 use Rattle.shown.specs.Drafts.{with_members}
-use Rattle.message_shown.specs.Places.{objects}
-use Rattle.message_shown.proofs.Places.{objects_ended}
+use Rattle.frame_shown.specs.Items.{objects}
+use Rattle.frame_shown.proofs.Items.{objects_ended}
 use Rattle.message_shown.proofs.lenient.show_refused.Goals as goal
 
 pub returns : goal.returns

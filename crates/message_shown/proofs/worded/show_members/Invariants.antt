@@ -2,7 +2,7 @@ use Rattle.std.proofs.Common.{◌≡◌, [], length}
 use Rattle.std.specs.Prelude.{◌||◌}
 use Rattle.line_filter.specs.Words.{words_of}
 use Rattle.shown.specs.Drafts.{with_members}
-use Rattle.message_shown.specs.Places.{are_any}
+use Rattle.frame_shown.specs.Items.{are_any}
 use Rattle.message_shown.specs.WordKeys.{written_keys}
 use Rattle.message_shown.specs.Worded.{members_in, others_in}
 use Rattle.message_shown.proofs.worded.show_members.Given as goal

@@ -1,4 +1,4 @@
-use Rattle.std.proofs.Common.{◌≡◌, refl, sym, ap, ◌∙◌}
+use Rattle.std.proofs.Common.{◌≡◌, sym, ap, ◌∙◌}
 use Rattle.std.specs.Prelude.{Option, None, Some, cond}
 use Rattle.message_diff.specs.Known.{Seen, is_among, is_ended_with, is_key, kind_of, parts}
 use Rattle.message_diff.specs.Announced.{is_another, kind_in, kind_or}

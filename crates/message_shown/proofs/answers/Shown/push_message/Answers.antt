@@ -15,8 +15,6 @@ returns-clause-answer g c =
           tables = subst AreAllRows (sym c.new-cx.ensures.tables) c.self.invariant;
           counters = c.new-cx.ensures.counters;
           order_is = c.new-cx.ensures.order ∙ c.order_for.ensures;
-          link = c.new-cx.ensures.link;
-          port = c.new-cx.ensures.port;
           address = c.new-cx.ensures.address;
         },
         s.1,

@@ -3,5 +3,5 @@ use Rattle.shown.proofs.page.Page.begin.Goals as goal
 
 pub invariant_of-self-2 : goal.invariant_of-self-2
 invariant_of-self-2 c =
-    let page = rw c.in-Plain.is at c.self.invariant in
-    rw (c.in_ok-put_begun.ensures, c.in_ok-push.ensures.items) (page_begin _ _ _ _ _ page.0, page.1)
+    let page = rw c.if-self.false at c.self.invariant in
+    rw (c.in_ok-put_begun.ensures, c.in_ok-push.ensures.items) (page_begin _ _ _ _ _ page)

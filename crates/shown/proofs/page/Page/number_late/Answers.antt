@@ -5,6 +5,6 @@ use Rattle.shown.proofs.page.Page.number_late.Goals as goal
 
 pub invariant_of-self-2 : goal.invariant_of-self-2
 invariant_of-self-2 c =
-    let page = rw c.in-Plain.is at c.self.invariant in
+    let page = rw c.if-self.false at c.self.invariant in
     rw c.in_ok-put_number.ensures
-    (page_value _ _ _ _ _ page.0 (λ _. refl) (decimal_on_line _ c.ranges.value.fits), page.1)
+    (page_value _ _ _ _ _ page (λ _. refl) (decimal_on_line _ c.ranges.value.fits))

@@ -5,5 +5,5 @@ use Rattle.shown.proofs.page.Page.signed_late.Goals as goal
 
 pub invariant_of-self-2 : goal.invariant_of-self-2
 invariant_of-self-2 c =
-    let page = rw c.in-Plain.is at c.self.invariant in
-    rw c.in_ok-put_signed.ensures (page_value _ _ _ _ _ page.0 (λ _. refl) (signed_on_line _ (search rules)), page.1)
+    let page = rw c.if-self.false at c.self.invariant in
+    rw c.in_ok-put_signed.ensures (page_value _ _ _ _ _ page (λ _. refl) (signed_on_line _ (search rules)))

@@ -4,5 +4,5 @@ use Rattle.shown.proofs.page.Page.string_late.Goals as goal
 
 pub invariant_of-self-2 : goal.invariant_of-self-2
 invariant_of-self-2 c =
-    let page = rw c.in-Plain.is at c.self.invariant in
-    rw (c.in_ok-string.ensures, c.in_ok-put_name.ensures) (page_value _ _ _ _ _ page.0 (λ _. refl) tt, page.1)
+    let page = rw c.if-self.false at c.self.invariant in
+    rw (c.in_ok-string.ensures, c.in_ok-put_name.ensures) (page_value _ _ _ _ _ page (λ _. refl) tt)

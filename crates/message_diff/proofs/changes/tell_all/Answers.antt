@@ -1,0 +1,24 @@
+use Rattle.std.proofs.Common.{◌∷◌, [], sym, ◌∙◌}
+use Rattle.std.proofs.lemmas.Result.{on_ok_weaker}
+use Rattle.shown.specs.Drafts.{with_members}
+use Rattle.frame_shown.specs.Items.{objects}
+use Rattle.frame_diff.specs.Items.{change_item}
+use Rattle.message_diff.specs.Changed.{state_change}
+use Rattle.message_diff.proofs.Changed.{any_told, texts_told}
+use Rattle.message_diff.proofs.changes.tell_all.Goals as goal
+
+pub returns-then-ends_value : goal.returns-then-ends_value
+returns-then-ends_value c =
+    any_told c.args.by c.args.old.now c.args.new.now c.args.page.now c.tell_changes.new.page c.requires
+    c.in_ok-tell_changes.ensures (sym c.if-ends_value.ensures)
+
+pub returns : goal.returns
+returns c =
+    let old = c.args.old.now in
+    let new = c.args.new.now in
+    on_ok_weaker c.show_texts.result
+    (λ is. texts_told c.args.by old new c.args.page.now c.tell_changes.new.page c.requires
+    c.in_ok-tell_changes.ensures c.show_texts.new.page (sym c.if-ends_value.ensures)
+    (is ∙ (λ i. with_members (objects (change_item (state_change (c.text.ensures i) (c.text-2.ensures i)) ∷ []))
+    c.tell_changes.new.page)))
+    c.show_texts.ensures

@@ -1,0 +1,297 @@
+-- Members without the values of those that hold others: they have the same leaves.
+use Rattle.std.proofs.Common.{◌≡◌, ℕ, ◌+◌, Bool, true, false, List, [], ◌∷◌, ◌++◌, map, refl, sym, ap, ◌∙◌}
+use Rattle.std.specs.Prelude.{Option, Some, None, cond}
+use Rattle.std.specs.List.{flat_map}
+use Rattle.json.specs.Token.{Token, begin_object}
+use Rattle.shown.specs.Drafts.{list_of}
+use Rattle.frame_diff.specs.Forests.{Forest, Held, Member, Step, comes, forest, is_step, leaves, leaves_at, left_of}
+use Rattle.frame_diff.specs.Members.{alone, earlier, group_of, is_nest, list_at, placed, placed_one, places}
+use Rattle.frame_diff.specs.Members.{unless_none, value_in}
+
+-- the value of an object or a list, if it holds no members
+abbrev pub nest_value : List Token → Forest → List Token
+nest_value v Forest.none = v
+nest_value v Forest.passed = begin_object ∷ []
+nest_value v (Forest.tree s w i rest) = begin_object ∷ []
+
+abbrev pub bare_value : List Token → Forest → List Token
+bare_value v i = cond (is_nest v) (nest_value v i) v
+
+abbrev pub bare : Forest → Forest
+bare Forest.none = Forest.none
+bare Forest.passed = Forest.passed
+bare (Forest.tree s v i rest) = Forest.tree s (bare_value v i) (bare i) (bare rest)
+
+abbrev pub bare_held : Held → Held
+bare_held held = (bare_value held.0 held.1, bare held.1)
+
+abbrev pub bare_one : Member → Member
+bare_one m = (m.0, bare_held m.1)
+
+abbrev pub bare_all : List Member → List Member
+bare_all ms = map bare_one ms
+
+abbrev pub bare_opt : Option Held → Option Held
+bare_opt None = None
+bare_opt (Some held) = Some (bare_held held)
+
+abbrev pub bare_opts : List (Option Held) → List (Option Held)
+bare_opts hs = map bare_opt hs
+
+-- ** leaves
+
+value_there : (v : List Token) → bare_value v Forest.none ≡ v
+value_there v = by (is_nest v)
+  where
+    by : (b : Bool) → cond b v v ≡ v
+    by true = refl
+    by false = refl
+
+-- values that hold no members are there
+one_same : (s : Step) (v : List Token) (i : Forest) → leaves (bare i) ≡ leaves i
+    → leaves_at s (bare_value v i) (bare i) (leaves (bare i)) ≡ leaves_at s v i (leaves i)
+one_same s v Forest.none same = ap (λ w. (s ∷ [], w) ∷ []) (value_there v)
+one_same s v Forest.passed same = refl
+one_same s v (Forest.tree a b c d) same = ap (λ ls. leaves_at s v (Forest.tree a b c d) ls) same
+
+pub leaves_bare : (f : Forest) → leaves (bare f) ≡ leaves f
+leaves_bare Forest.none = refl
+leaves_bare Forest.passed = refl
+leaves_bare (Forest.tree s v i rest) =
+    (λ k. one_same s v i (leaves_bare i) k ++ leaves_bare rest k)
+
+-- ** members
+
+pub bare_append : (xs ys : List Member) → bare_all (xs ++ ys) ≡ bare_all xs ++ bare_all ys
+bare_append [] ys = refl
+bare_append (x ∷ xs) ys = ap (λ ms. bare_one x ∷ ms) (bare_append xs ys)
+
+comes_bare : (s : Step) (ms : List Member) → comes s (bare_all ms) ≡ comes s ms
+comes_bare s [] = refl
+comes_bare s (m ∷ ms) = ap (cond (is_step m.0 s) true) (comes_bare s ms)
+
+pub forest_bare : (ms : List Member) → bare (forest ms) ≡ forest (bare_all ms)
+forest_bare [] = refl
+forest_bare (m ∷ ms) =
+    by (comes m.0 ms)
+    ∙ (λ k. cond (sym (comes_bare m.0 ms) k) (forest_bare ms k)
+    (Forest.tree m.0 (bare_value m.1.0 m.1.1) (bare m.1.1) (forest_bare ms k)))
+  where
+    by : (b : Bool) → bare (cond b (forest ms) (Forest.tree m.0 m.1.0 m.1.1 (forest ms)))
+        ≡ cond b (bare (forest ms))
+        (Forest.tree m.0 (bare_value m.1.0 m.1.1) (bare m.1.1) (bare (forest ms)))
+    by true = refl
+    by false = refl
+
+left_bare : (b : Bool) (ms : List Member) → bare (left_of b ms) ≡ left_of b (bare_all ms)
+left_bare true [] = refl
+left_bare false [] = refl
+left_bare b (m ∷ ms) = forest_bare (m ∷ ms)
+
+-- ** lists of values
+
+nest_bare : (v : List Token) (i : Forest) → is_nest (bare_value v i) ≡ is_nest v
+nest_bare v i = by (is_nest v) refl i
+  where
+    by : (b : Bool) → is_nest v ≡ b → (j : Forest) → is_nest (cond b (nest_value v j) v) ≡ b
+    by true is Forest.none = is
+    by true is Forest.passed = refl
+    by true is (Forest.tree s w x y) = refl
+    by false is j = is
+
+-- values that are the same with what is in them are the same where that is passed over
+pub passed_same : (v w : List Token) (i j : Forest) → bare_held (v, i) ≡ bare_held (w, j)
+    → bare_held (v, Forest.passed) ≡ bare_held (w, Forest.passed)
+passed_same v w i j same =
+    ap (λ t. (t, Forest.passed))
+    (by (is_nest v) (is_nest w) refl refl
+    (sym (nest_bare v i) ∙ ap (λ held. is_nest held.0) same ∙ nest_bare w j) (ap (λ held. held.0) same))
+  where
+    by : (a b : Bool) → is_nest v ≡ a → is_nest w ≡ b → a ≡ b → bare_value v i ≡ bare_value w j
+        → cond a (begin_object ∷ []) v ≡ cond b (begin_object ∷ []) w
+    by true true nest other one is = refl
+    by true false nest other one is = let clash : true ≡ false = one in absurd cc
+    by false true nest other one is = let clash : true ≡ false = sym one in absurd cc
+    by false false nest other one is =
+        sym (ap (λ t. cond t (nest_value v i) v) nest) ∙ is ∙ ap (λ t. cond t (nest_value w j) w) other
+
+placed_bare : (n : ℕ) (hs : List (Option Held)) → bare_all (placed n hs) ≡ placed n (bare_opts hs)
+placed_bare n [] = refl
+placed_bare n (None ∷ hs) = placed_bare (n + 1) hs
+placed_bare n (Some held ∷ hs) =
+    bare_append (placed_one n (Some held)) (placed (n + 1) hs)
+    ∙ (λ k. by (is_nest held.0) k ++ placed_bare (n + 1) hs k)
+    ∙ ap (λ b. cond b ((Step.place n, bare_held held) ∷ []) [] ++ placed (n + 1) (bare_opts hs))
+    (sym (nest_bare held.0 held.1))
+  where
+    by : (b : Bool) → bare_all (cond b ((Step.place n, held) ∷ []) [])
+        ≡ cond b ((Step.place n, bare_held held) ∷ []) []
+    by true = refl
+    by false = refl
+
+places_bare : (hs : List (Option Held)) → bare (places hs) ≡ places (bare_opts hs)
+places_bare hs = forest_bare (placed 0 hs) ∙ ap forest (placed_bare 0 hs)
+
+pub unless_bare : (s : Step) (v : List Token) (f : Forest) → is_nest v ≡ true
+    → bare_all (unless_none s v f) ≡ unless_none s (begin_object ∷ []) (bare f)
+unless_bare s v Forest.none nest = refl
+unless_bare s v Forest.passed nest = refl
+unless_bare s v (Forest.tree a b c d) nest =
+    ap (λ t. (s, (cond t (begin_object ∷ []) v, bare (Forest.tree a b c d))) ∷ []) nest
+
+list_bare : (s : Step) (hs : List (Option Held))
+    → bare_all (list_at s hs) ≡ unless_none s (begin_object ∷ []) (places (bare_opts hs))
+list_bare s hs =
+    unless_bare s (list_of (flat_map value_in hs)) (places hs) refl
+    ∙ ap (unless_none s (begin_object ∷ [])) (places_bare hs)
+
+pub list_same : (s : Step) (hs js : List (Option Held)) → bare_opts hs ≡ bare_opts js
+    → bare_all (list_at s hs) ≡ bare_all (list_at s js)
+list_same s hs js same =
+    list_bare s hs ∙ ap (λ os. unless_none s (begin_object ∷ []) (places os)) same ∙ sym (list_bare s js)
+
+-- the earlier ones of each step
+abbrev pub alone_bare : Member → Option Held
+alone_bare (Step.name name, held) =
+    Some (begin_object ∷ [], Forest.tree (Step.name name) held.0 held.1 Forest.none)
+alone_bare (Step.part sort text, held) = None
+alone_bare (Step.place n, held) = None
+alone_bare (Step.repeated, held) = None
+alone_bare (Step.other, held) = None
+
+one_alone : (m : Member) → bare_opt (alone m) ≡ alone_bare (bare_one m)
+one_alone (Step.name name, held) = refl
+one_alone (Step.part sort text, held) = refl
+one_alone (Step.place n, held) = refl
+one_alone (Step.repeated, held) = refl
+one_alone (Step.other, held) = refl
+
+pub opts_append : (xs ys : List (Option Held)) → bare_opts (xs ++ ys) ≡ bare_opts xs ++ bare_opts ys
+opts_append [] ys = refl
+opts_append (x ∷ xs) ys = ap (λ hs. bare_opt x ∷ hs) (opts_append xs ys)
+
+abbrev pub earlier_ones : List Member → List (Option Held)
+earlier_ones [] = []
+earlier_ones (m ∷ ms) = cond (comes m.0 ms) (alone_bare m ∷ []) [] ++ earlier_ones ms
+
+earlier_bare : (ms : List Member) → bare_opts (earlier ms) ≡ earlier_ones (bare_all ms)
+earlier_bare [] = refl
+earlier_bare (m ∷ ms) =
+    opts_append (cond (comes m.0 ms) (alone m ∷ []) []) (earlier ms)
+    ∙ (λ k. by (comes m.0 ms) k ++ earlier_bare ms k)
+    ∙ ap (λ b. cond b (alone_bare (bare_one m) ∷ []) [] ++ earlier_ones (bare_all ms)) (sym (comes_bare m.0 ms))
+  where
+    by : (b : Bool) → bare_opts (cond b (alone m ∷ []) []) ≡ cond b (alone_bare (bare_one m) ∷ []) []
+    by true = ap (λ o. o ∷ []) (one_alone m)
+    by false = refl
+
+pub earlier_same : (ms ns : List Member) → bare_all ms ≡ bare_all ns
+    → bare_opts (earlier ms) ≡ bare_opts (earlier ns)
+earlier_same ms ns same = earlier_bare ms ∙ ap earlier_ones same ∙ sym (earlier_bare ns)
+
+-- ** values that hold none
+
+abbrev pub is_none : Forest → Bool
+is_none Forest.none = true
+is_none Forest.passed = false
+is_none (Forest.tree s v i rest) = false
+
+nest_by : (v : List Token) (f : Forest) → nest_value v f ≡ cond (is_none f) v (begin_object ∷ [])
+nest_by v Forest.none = refl
+nest_by v Forest.passed = refl
+nest_by v (Forest.tree s w i rest) = refl
+
+none_bare : (f : Forest) → is_none (bare f) ≡ is_none f
+none_bare Forest.none = refl
+none_bare Forest.passed = refl
+none_bare (Forest.tree s v i rest) = refl
+
+-- a forest of some members holds some
+some_there : (m : Member) (ms : List Member) → is_none (forest (m ∷ ms)) ≡ false
+some_there m [] = refl
+some_there m (n ∷ ns) = by (comes m.0 (n ∷ ns)) (some_there n ns)
+  where
+    by : (b : Bool) → is_none (forest (n ∷ ns)) ≡ false
+        → is_none (cond b (forest (n ∷ ns)) (Forest.tree m.0 m.1.0 m.1.1 (forest (n ∷ ns)))) ≡ false
+    by true later = later
+    by false later = refl
+
+-- where none of a list is an object or a list, their values are there
+abbrev pub values : List (Option Held) → List Token
+values hs = flat_map value_in hs
+
+placed_none : (n : ℕ) (hs : List (Option Held)) → is_none (forest (placed n hs)) ≡ true
+    → values hs ≡ values (bare_opts hs)
+placed_none n [] none = refl
+placed_none n (None ∷ hs) none = placed_none (n + 1) hs none
+placed_none n (Some held ∷ hs) none = by (is_nest held.0) none (placed_none (n + 1) hs)
+  where
+    by : (b : Bool)
+        → is_none (forest (cond b ((Step.place n, held) ∷ []) [] ++ placed (n + 1) hs)) ≡ true
+        → (is_none (forest (placed (n + 1) hs)) ≡ true → values hs ≡ values (bare_opts hs))
+        → held.0 ++ values hs ≡ cond b (nest_value held.0 held.1) held.0 ++ values (bare_opts hs)
+    by true h later =
+        let clash : true ≡ false = sym h ∙ some_there (Step.place n, held) (placed (n + 1) hs) in absurd cc
+    by false h later = ap (λ vs. held.0 ++ vs) (later h)
+
+abbrev pub list_value : List (Option Held) → List Token
+list_value hs = nest_value (list_of (values hs)) (places hs)
+
+list_value_bare : (hs : List (Option Held)) → list_value hs ≡ list_value (bare_opts hs)
+list_value_bare hs =
+    nest_by (list_of (values hs)) (places hs)
+    ∙ by (is_none (places hs)) refl
+    ∙ ap (λ b. cond b (list_of (values (bare_opts hs))) (begin_object ∷ []))
+    (sym (ap is_none (sym (places_bare hs)) ∙ none_bare (places hs)))
+    ∙ sym (nest_by (list_of (values (bare_opts hs))) (places (bare_opts hs)))
+  where
+    by : (b : Bool) → is_none (places hs) ≡ b
+        → cond b (list_of (values hs)) (begin_object ∷ [])
+        ≡ cond b (list_of (values (bare_opts hs))) (begin_object ∷ [])
+    by true none = ap list_of (placed_none 0 hs none)
+    by false some = refl
+
+group_bare : (s : Step) (hs : List (Option Held))
+    → bare_one (group_of s hs) ≡ (s, (list_value (bare_opts hs), places (bare_opts hs)))
+group_bare s hs = λ k. (s, (list_value_bare hs k, places_bare hs k))
+
+pub group_same : (s : Step) (hs js : List (Option Held)) → bare_opts hs ≡ bare_opts js
+    → bare_one (group_of s hs) ≡ bare_one (group_of s js)
+group_same s hs js same =
+    group_bare s hs ∙ ap (λ os. (s, (list_value os, places os))) same ∙ sym (group_bare s js)
+
+-- ** an object, and the members inside it
+
+abbrev pub object_value : List Token → Bool → List Member → List Token
+object_value v true ms = begin_object ∷ []
+object_value v false [] = v
+object_value v false (m ∷ ms) = begin_object ∷ []
+
+left_value : (v : List Token) (b : Bool) (ms : List Member)
+    → nest_value v (left_of b ms) ≡ object_value v b (bare_all ms)
+left_value v true [] = refl
+left_value v false [] = refl
+left_value v true (m ∷ ms) =
+    nest_by v (forest (m ∷ ms)) ∙ ap (λ n. cond n v (begin_object ∷ [])) (some_there m ms)
+left_value v false (m ∷ ms) =
+    nest_by v (forest (m ∷ ms)) ∙ ap (λ n. cond n v (begin_object ∷ [])) (some_there m ms)
+
+left_held : (v : List Token) (b : Bool) (ms : List Member) → is_nest v ≡ true
+    → bare_held (v, left_of b ms) ≡ (object_value v b (bare_all ms), left_of b (bare_all ms))
+left_held v b ms nest = λ k.
+    ((ap (λ t. cond t (nest_value v (left_of b ms)) v) nest ∙ left_value v b ms) k, left_bare b ms k)
+
+value_same : (v w : List Token) (b : Bool) (ms : List Member) → (b ≡ false → v ≡ w)
+    → object_value v b ms ≡ object_value w b ms
+value_same v w true ms same = refl
+value_same v w false [] same = same refl
+value_same v w false (m ∷ ms) same = refl
+
+pub left_same : (v w : List Token) (b : Bool) (ms ns : List Member) → is_nest v ≡ true → is_nest w ≡ true
+    → (b ≡ false → v ≡ w) → bare_all ms ≡ bare_all ns
+    → bare_held (v, left_of b ms) ≡ bare_held (w, left_of b ns)
+left_same v w b ms ns nest other value same =
+    left_held v b ms nest
+    ∙ (λ k. (value_same v w b (bare_all ms) value k, left_of b (bare_all ms)))
+    ∙ ap (λ l. (object_value w b l, left_of b l)) same
+    ∙ sym (left_held w b ns other)
