@@ -1,5 +1,6 @@
 //! The crates of the library for C, and what stands for Rattle's std.
 
+pub mod frame_diff;
 pub mod frame_shown;
 pub mod line_filter;
 pub mod link_afspec;

@@ -50,6 +50,21 @@ pub fn accepted(
     Ok(out)
 }
 
+/// The attributes that are refused of a message of this family, spelled one after the other.
+pub fn refused(alloc: Global, bytes: &[u8], family: u8) -> Result<Vec<u8>, AllocError> {
+    let mut out = Vec::new(alloc);
+    for item in NlasIterator::new(bytes) {
+        let frame = match item {
+            Ok(frame) => frame,
+            _ => break,
+        };
+        if !is_accepted(&frame, family) {
+            push_frame(&mut out, &frame)?;
+        }
+    }
+    Ok(out)
+}
+
 /// Whether bytes are frames that fit.
 pub fn are_frames(bytes: &[u8]) -> bool {
     for item in NlasIterator::new(bytes) {

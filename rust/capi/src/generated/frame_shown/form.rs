@@ -3,9 +3,10 @@
 
 use crate::frame_shown::tables::{
     DEVLINK_PORT, DOWN_REASON, DPLL_PIN, FAMILIES, FUNCTION, FUNCTION_STATS, FUNCTION_VLANS, INET,
-    INET6, MCTP, MESSAGE, PROPS, Row, XDP,
+    INET6, KERNEL_NAMES, MCTP, MESSAGE, PROPS, Row, XDP,
 };
 use crate::link_info::field::row_of;
+use crate::link_info::tables::can::CAN_STATS;
 use crate::link_info::{Member, Place, Row as PlaceRow, Size, Style};
 use crate::nla_wire::NLA_TYPE_MASK;
 
@@ -157,6 +158,8 @@ pub enum List {
     ProtoInet6,
     /// The kind of a link, and its data: by the places of both kinds.
     Info(Option<Place>, Option<Place>),
+    /// Attributes of a link that are refused: the bytes of each under the kernel's name.
+    Refused,
 }
 
 /// The names of lists.
@@ -242,13 +245,15 @@ pub enum Manner {
     Nest(Place),
     /// The counters that a kind of link has beside its data.
     Counters(&'static [Member]),
+    /// Its bytes as they are.
+    Bytes,
 }
 
 /// A name, and how a payload is shown, as both stand in a table.
 pub type Found = (&'static str, Manner);
 
 /// Which order the counters of IPv6 have. It changed between Linux 6.12 and 6.16, and no message says which one it has.
-#[derive(Clone, Copy)]
+#[derive(Clone, Copy, Debug, PartialEq, Eq)]
 pub enum Order {
     /// It is not known: the counters have no names.
     Unknown,
@@ -295,6 +300,18 @@ const INET6_LIST: Form = Form::List(List::ProtoInet6);
 /// How many numbers can have a row.
 pub(crate) const NUMBERS: usize = 256;
 
+impl<'a> Around<'a> {
+    /// What messages are plainly shown by: the rows of all places, and an order of the counters of IPv6.
+    pub fn plain(tables: &'a [&'static [PlaceRow]], order: Order) -> Around<'a> {
+        Around {
+            tables,
+            can_stats: CAN_STATS,
+            order,
+            address_len: 0,
+        }
+    }
+}
+
 impl Manner {
     /// The same by value.
     pub fn way(self) -> Way {
@@ -303,6 +320,7 @@ impl Manner {
             Manner::By(style) => Way::By(*style),
             Manner::Nest(place) => Way::By(Style::Nest(place)),
             Manner::Counters(members) => Way::By(Style::Record(members)),
+            Manner::Bytes => Way::By(Style::Bytes),
         }
     }
 }
@@ -441,6 +459,20 @@ fn info_row(cx: &Around<'_>, link: Option<Place>, port: Option<Place>, number: u
     }
 }
 
+/// The row of bytes under the name at a place; behind the last one there is none.
+fn bytes_at(names: &'static [&'static str], number: u16) -> Found {
+    if (number as usize) < names.len() {
+        (names[number as usize], Manner::Bytes)
+    } else {
+        no_row()
+    }
+}
+
+/// The row of an attribute of a link that is refused.
+fn refused_row(number: u16) -> Found {
+    bytes_at(&KERNEL_NAMES, number)
+}
+
 /// Whether an attribute of this form with this payload is kept as it is.
 #[inline(always)]
 fn is_kept_form(form: &Form, payload: &[u8]) -> bool {
@@ -492,6 +524,7 @@ pub(crate) fn found_in(cx: &Around<'_>, list: &List, number: u16) -> Found {
         List::Of(place) => place_row(cx, place, number),
         List::ProtoInet6 => proto_inet6_row(cx, number),
         List::Info(link, port) => info_row(cx, link, port, number),
+        List::Refused => refused_row(number),
     }
 }
 

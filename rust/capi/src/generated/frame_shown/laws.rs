@@ -19,3 +19,7 @@ pub fn law_tables() {}
 /// Bytes that mean one message are shown alike. The header's type of link is shown as its number, also where it has no
 /// name: messages with such types are one message, and are shown alike where their numbers are the same.
 pub fn law_meaning() {}
+
+/// The order of the counters of IPv6 decides what is shown of a message: where the rows are those of each place, tables
+/// that stand elsewhere in memory show the same.
+pub fn law_plain() {}

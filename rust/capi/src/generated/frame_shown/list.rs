@@ -80,6 +80,7 @@ fn show_manner<D: Depth>(
         Manner::By(style) => show_style::<D>(cx, page, name, style, payload),
         Manner::Nest(place) => show_data::<D>(cx, page, name, place, payload),
         Manner::Counters(members) => show_counters::<D>(cx, page, name, members, payload),
+        Manner::Bytes => show_style::<D>(cx, page, name, &Style::Bytes, payload),
     }
 }
 

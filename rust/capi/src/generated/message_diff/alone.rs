@@ -3,7 +3,7 @@
 
 use crate::rattle::prelude::Vec;
 use crate::message_diff::named::last_name;
-use crate::message_diff::words::{push_line, show_told};
+use crate::message_diff::words::show_told;
 use crate::link_msg::header::HEADER_SIZE;
 use crate::link_msg::{AddressFamily, LinkHeader};
 use crate::nla_wire::Text;
@@ -26,27 +26,6 @@ fn show_head(
     }
 }
 
-/// Adds a line that tells that this became of the interface of this family whose message has these bytes, and these of
-/// attributes.
-fn push_interface(
-    alloc: Global,
-    front: &[u8],
-    change: &str,
-    bytes: &[u8],
-    family: AddressFamily,
-    attributes: &[u8],
-    out: &mut Vec<u8>,
-) -> Result<(), AllocError> {
-    let name = last_name(alloc, family, attributes)?;
-    let mut page = Page::new(alloc)?;
-    show_told(&mut page, front)?;
-    page.string("change", change)?;
-    show_head(&mut page, bytes, family, &name)?;
-    page.finish(out)?;
-    out.push(b'\n')?;
-    Ok(())
-}
-
 /// The family of a message and the bytes of its attributes; nothing where it has no header.
 fn split(text: &[u8]) -> Option<(AddressFamily, &[u8])> {
     if text.len() < HEADER_SIZE {
@@ -59,6 +38,17 @@ fn split(text: &[u8]) -> Option<(AddressFamily, &[u8])> {
     }
 }
 
+/// Adds which interface an encoding is of, by its header and the last name among its attributes.
+pub fn show_interface(alloc: Global, page: &mut Page, text: &[u8]) -> Result<(), AllocError> {
+    match split(text) {
+        Some((family, attributes)) => {
+            let name = last_name(alloc, family, attributes)?;
+            show_head(page, text, family, &name)
+        }
+        None => Ok(()),
+    }
+}
+
 /// Adds a line that tells that this became of the interface whose encoding this is: the words that are told, `change`,
 /// and its family, index and name.
 pub fn push_alone(
@@ -68,10 +58,11 @@ pub fn push_alone(
     text: &[u8],
     out: &mut Vec<u8>,
 ) -> Result<(), AllocError> {
-    match split(text) {
-        Some((family, attributes)) => {
-            push_interface(alloc, front, change, text, family, attributes, out)
-        }
-        None => push_line(alloc, front, "change", change, out),
-    }
+    let mut page = Page::new(alloc)?;
+    show_told(&mut page, front)?;
+    page.string("change", change)?;
+    show_interface(alloc, &mut page, text)?;
+    page.finish(out)?;
+    out.push(b'\n')?;
+    Ok(())
 }

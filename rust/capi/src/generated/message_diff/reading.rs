@@ -7,11 +7,12 @@ use crate::message_diff::announced::{is_wireless_alone, without_event};
 use crate::message_diff::key::Key;
 use crate::message_diff::snapshot::{Compared, Snapshot};
 use crate::message_diff::words::{push_line, push_not_hex, push_words};
+use crate::frame_shown::form::Order;
 use crate::line_filter::digits::{decode, values};
 use crate::line_filter::words::{are_alone, digits_of, value_of};
 use crate::link_msg::CanonError;
 use crate::message_shown::answers::push_answer;
-use crate::message_shown::context::{Order, text_of};
+use crate::message_shown::context::text_of;
 use crate::message_shown::worded::order_for;
 use crate::rattle::alloc::{AllocError, Global};
 

@@ -3,9 +3,9 @@
 
 use crate::rattle::prelude::Vec;
 use crate::message_diff::announced::without_event;
+use crate::frame_shown::form::Order;
 use crate::link_msg::{CanonError, canonical, canonical_lenient};
 use crate::link_state::{state, state_lenient};
-use crate::message_shown::context::Order;
 use crate::rattle::alloc::{AllocError, Global};
 
 /// What is compared of two messages.
@@ -22,6 +22,22 @@ pub enum Compared {
 }
 
 impl Compared {
+    /// Whether what moves by itself does not count.
+    pub fn is_state(self) -> bool {
+        match self {
+            Compared::State | Compared::LenientState => true,
+            Compared::Message | Compared::LenientMessage => false,
+        }
+    }
+
+    /// Whether messages are read leniently.
+    pub fn is_lenient(self) -> bool {
+        match self {
+            Compared::LenientState | Compared::LenientMessage => true,
+            Compared::State | Compared::Message => false,
+        }
+    }
+
     /// The same of messages that are read leniently.
     pub fn leniently(self) -> Compared {
         match self {

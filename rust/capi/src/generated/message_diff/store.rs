@@ -6,7 +6,7 @@ use crate::rattle::prelude::Vec;
 use crate::message_diff::announced::{are_two, kind_of};
 use crate::message_diff::key::{AF_BRIDGE, AF_INET6, AF_UNSPEC, Key};
 use crate::message_diff::snapshot::Snapshot;
-use crate::message_shown::context::Order;
+use crate::frame_shown::form::Order;
 use crate::rattle::alloc::{AllocError, Global};
 use crate::rattle::collections::BTreeMap;
 use std::ops::Bound;

@@ -2,13 +2,14 @@
 //! A line for an interface that came, went or changed.
 
 use crate::rattle::prelude::Vec;
-use crate::message_diff::alone::push_alone;
+use crate::message_diff::alone::{push_alone, show_interface};
+use crate::message_diff::changes::show_changes;
 use crate::message_diff::desk::Desk;
-use crate::message_diff::line::push_head;
-use crate::message_diff::listed::{push_found, show_both};
 use crate::message_diff::snapshot::{Compared, Snapshot};
+use crate::message_diff::words::show_told;
+use crate::frame_shown::form::Order;
 use crate::link_msg::CanonError;
-use crate::message_shown::context::Order;
+use crate::shown::Page;
 use crate::rattle::alloc::{AllocError, Global};
 
 /// Adds a line that tells that the interface came: the words in front of a line that are told (`type`, `time`, `host`),
@@ -32,24 +33,7 @@ pub fn push_gone(
     push_alone(alloc, front, "gone", old.text(), out)
 }
 
-/// Adds a line for an interface whose encoding is another, by what is shown of both.
-fn push_shown(
-    alloc: Global,
-    by: Compared,
-    front: &[u8],
-    old: &Snapshot,
-    new: &Snapshot,
-    desk: &mut Desk,
-    out: &mut Vec<u8>,
-) -> Result<(), AllocError> {
-    push_head(alloc, front, "changed", desk.pair.new.members(), out)?;
-    out.extend_from_slice(b",\"changes\":")?;
-    push_found(alloc, by, old, new, &desk.pair, &mut desk.counters, out)?;
-    out.extend_from_slice(b"}\n")?;
-    Ok(())
-}
-
-/// The same, where nothing is shown of them yet.
+/// Adds a line for an interface whose encoding is another.
 fn push_difference(
     alloc: Global,
     by: Compared,
@@ -59,16 +43,22 @@ fn push_difference(
     desk: &mut Desk,
     out: &mut Vec<u8>,
 ) -> Result<(), AllocError> {
-    show_both(alloc, old, new, desk)?;
-    push_shown(alloc, by, front, old, new, desk, out)
+    let mut page = desk.line.begin()?;
+    show_told(&mut page, front)?;
+    page.string("change", "changed")?;
+    show_interface(alloc, &mut page, new.text())?;
+    show_changes(&mut desk.texts, by, old, new, &mut page)?;
+    desk.line.finish(page, out)?;
+    out.push(b'\n')?;
+    Ok(())
 }
 
 /// Adds a line that tells what changed of the interface, if its encoding is another, and returns whether it is.
 ///
 /// The line has the words in front of a line that are told, `change`, which is `changed`, family, index and name of the
-/// new message, and `changes`: of each path whose value differs `path`, `old` and `new`, of which one is
-/// left out where the path came or went. Of state encodings, paths that have a counter's zero are left out. Where the
-/// encodings differ and no path does, the one path `state` has both of them in hexadecimal.
+/// new message, and `changes`: of each path whose value differs `path`, `old` and `new`, of which one is left out where
+/// the path came or went. Of states, what moves by itself is not told. Where the encodings differ and no path does, the
+/// one path `state` has both of them in hexadecimal.
 pub fn push_changed(
     alloc: Global,
     by: Compared,
@@ -83,6 +73,31 @@ pub fn push_changed(
     }
     push_difference(alloc, by, front, old, new, desk, out)?;
     Ok(true)
+}
+
+/// What stands in front of a list that is the one member of an object, and behind it.
+const OPENED: &[u8] = b"{\"changes\":";
+
+/// Adds the list of what changed, which is written as the one member of an object.
+fn push_inside(text: &[u8], out: &mut Vec<u8>) -> Result<(), AllocError> {
+    let end = text.len().max(1) - 1;
+    out.extend_from_slice(text.get(OPENED.len()..end).unwrap_or(b""))
+}
+
+/// Adds the list of what changed of an interface whose encoding is another.
+fn push_changes(
+    alloc: Global,
+    by: Compared,
+    old: &Snapshot,
+    new: &Snapshot,
+    out: &mut Vec<u8>,
+) -> Result<(), AllocError> {
+    let mut desk = Desk::new(alloc);
+    let mut text = Vec::new(alloc);
+    let mut page = Page::new(alloc)?;
+    show_changes(&mut desk.texts, by, old, new, &mut page)?;
+    page.finish(&mut text)?;
+    push_inside(text.as_slice(), out)
 }
 
 /// Adds a line that tells what differs between the messages that the bytes are, if their encodings do, and returns
@@ -103,6 +118,31 @@ pub fn push_compared(
     let mut desk = Desk::new(alloc);
     match push_changed(alloc, by, b"", &was, &is, &mut desk, out) {
         Ok(told) => Ok(told),
+        Err(AllocError) => Err(CanonError::OutOfMemory),
+    }
+}
+
+/// Adds the list of what differs between the messages that the bytes are, if their encodings do, and returns whether
+/// they do. Attributes IFLA_EVENT, which say why a message was announced, are not compared. It is what a line of
+/// `push_compared` has as `changes`: a JSON list, and no line's end.
+///
+/// Refuses as `Snapshot::of_link` does, each refusal of the old one before those of the new one; then nothing was
+/// added.
+pub fn push_list(
+    alloc: Global,
+    by: Compared,
+    order: Order,
+    old: &[u8],
+    new: &[u8],
+    out: &mut Vec<u8>,
+) -> Result<bool, CanonError> {
+    let was = Snapshot::of_link(alloc, by, order, old)?;
+    let is = Snapshot::of_link(alloc, by, order, new)?;
+    if was.text() == is.text() {
+        return Ok(false);
+    }
+    match push_changes(alloc, by, &was, &is, out) {
+        Ok(()) => Ok(true),
         Err(AllocError) => Err(CanonError::OutOfMemory),
     }
 }

@@ -114,7 +114,7 @@ pub(crate) fn push_message(
 ) -> Result<(), AllocError> {
     let mut page = room.begin()?;
     show_words(cx.alloc, &mut page, front)?;
-    show_message(&cx.for_frames(), &mut page, bytes)?;
+    show_message(&cx.around, &mut page, bytes)?;
     room.finish(page, waiting)?;
     waiting.push(b'\n')?;
     Ok(())

@@ -31,5 +31,5 @@ fn show_rest(cx: &Context<'_>, page: &mut Page, bytes: &[u8]) -> Result<(), Allo
     if bytes.len() < HEADER_SIZE {
         return Ok(());
     }
-    show_before(&cx.for_frames(), page, cx.alloc, bytes)
+    show_before(&cx.around, page, cx.alloc, bytes)
 }

@@ -5,10 +5,6 @@
 /// are refused. Those that are shown mean what is accepted of the message, and in front of a fault what is read there.
 pub fn law_lenient() {}
 
-/// The tables of names that the code goes by are those of the annex: those of what is compared, and those of the annex
-/// of `frame_shown`, by which frames are shown.
-pub fn law_names() {}
-
 /// A whole answer begins with a fault or with the family of a message, and tells what the bytes mean.
 pub fn law_answers() {}
 
@@ -16,7 +12,3 @@ pub fn law_answers() {}
 /// same order of counters. Messages whose type of link has no name are one message, and are answered alike where the
 /// numbers of their types are the same.
 pub fn law_meaning() {}
-
-/// The order of the counters of IPv6 decides what is shown of a message: contexts that begin with the same one show the
-/// same.
-pub fn law_shown() {}

@@ -3,13 +3,14 @@
 
 use crate::rattle::prelude::Vec;
 use crate::message_shown::answers::{push_fault, push_message};
-use crate::message_shown::attribute::row_of;
 use crate::message_shown::context::Context;
 use crate::message_shown::wire::{cause_name, show_cause};
 use crate::message_shown::worded::show_words;
 use crate::frame_shown::accepted::{are_frames, show_leniently};
+use crate::frame_shown::form::Form;
+use crate::frame_shown::tables::MESSAGE;
 use crate::link_msg::header::HEADER_SIZE;
-use crate::link_msg::{DecodeError, LinkMessage, Refusal};
+use crate::link_msg::{DecodeError, LinkMessage, NLA_TYPE_MASK, Refusal};
 use crate::shown::{Nest, Page, Room};
 use crate::rattle::alloc::AllocError;
 
@@ -22,10 +23,24 @@ fn fits(bytes: &[u8]) -> bool {
     are_frames(rest)
 }
 
+/// The name at a place of a table; behind the last one there is none.
+fn name_at(rows: &[(&'static str, Form)], number: usize) -> &'static str {
+    if number < rows.len() {
+        rows[number].0
+    } else {
+        ""
+    }
+}
+
+/// The name of an attribute of this kind.
+fn name_of(kind: u16) -> &'static str {
+    name_at(&MESSAGE, (kind & NLA_TYPE_MASK) as usize)
+}
+
 /// Adds the name of an attribute of this kind, where these numbers lead to one that is inside of it.
 fn show_holder(page: &mut Page, numbers: &[u16], kind: u16) -> Result<(), AllocError> {
     match numbers {
-        [_, _, ..] => page.string("in", row_of(kind).0),
+        [_, _, ..] => page.string("in", name_of(kind)),
         _ => Ok(()),
     }
 }
@@ -83,7 +98,7 @@ fn push_accepted(
 ) -> Result<(), AllocError> {
     let mut page = room.begin()?;
     show_words(cx.alloc, &mut page, front)?;
-    show_leniently(&cx.for_frames(), &mut page, cx.alloc, bytes)?;
+    show_leniently(&cx.around, &mut page, cx.alloc, bytes)?;
     show_refused(&mut page, bytes)?;
     room.finish(page, waiting)?;
     waiting.push(b'\n')?;

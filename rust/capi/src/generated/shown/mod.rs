@@ -5,12 +5,10 @@ mod address;
 mod block;
 mod escape;
 pub mod laws;
-pub mod marks;
 pub mod page;
 mod piece;
 pub mod room;
 mod sheet;
 
-pub use marks::{Mark, Marked};
 pub use page::{Nest, Page};
 pub use room::Room;

@@ -35,7 +35,7 @@ impl Room {
             bytes = Vec::with_capacity(self.alloc, ROOM)?;
         }
         outer.clear();
-        Page::over(self.alloc, bytes, outer, None)
+        Page::over(self.alloc, bytes, outer)
     }
 
     /// Adds the text of the object to `out` as `Page::finish` does, and keeps the page's room for the next one.

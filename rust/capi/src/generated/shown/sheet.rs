@@ -60,14 +60,9 @@ impl Sheet {
         (bytes, len)
     }
 
-    /// How many bytes the text has.
-    pub(crate) fn len(&self) -> usize {
-        self.len
-    }
-
-    /// Where one more name or value begins, behind a comma where one is due.
-    pub(crate) fn next_place(&self) -> usize {
-        self.len + usize::from(self.after_value)
+    /// Whether the last token ends a value.
+    pub(crate) fn ends_value(&self) -> bool {
+        self.after_value
     }
 
     /// Adds a name.
