@@ -77,7 +77,7 @@ named_apart : (ms : Members) → AllApart (named ms)
 named_apart [] = tt
 named_apart (m ∷ ms) = (tt, named_apart ms)
 
-fields_apart : (ms : Members) → AreApart (fields ms)
+pub fields_apart : (ms : Members) → AreApart (fields ms)
 fields_apart ms = forest_apart (named ms) (named_apart ms)
 
 pub left_apart : (is_any : Bool) (ms : List Member) → AllApart ms → AreApart (left_of is_any ms)

@@ -22,8 +22,8 @@ pub mod Told
 pub mod Names
 pub mod Cleared
 pub mod Records
+pub mod Alike
 pub mod Whole
 pub mod Orders
 pub mod Plain
 pub mod Numbers
-pub mod Known

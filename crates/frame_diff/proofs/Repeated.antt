@@ -1,7 +1,7 @@
 -- Attributes behind which another one of their name stands: what they tell at their places.
 use Rattle.std.proofs.Common.{◌≡◌, ℕ, zero, suc, ◌+◌, ◌≤◌, Bool, true, false, List, [], ◌∷◌, ◌++◌, refl}
 use Rattle.std.proofs.Common.{sym, ap, ◌∙◌, Ok, append-nil, arith}
-use Rattle.std.specs.Prelude.{Option, Some, None, cond, decimal, is_some, option_map}
+use Rattle.std.specs.Prelude.{IfSome, Option, Some, None, cond, decimal, is_some, option_map}
 use Rattle.std.proofs.lemmas.List.{map-append}
 use Rattle.nla_wire.specs.Frames.{Frame, number}
 use Rattle.nla_wire.proofs.Items.{items_nil}
@@ -14,18 +14,20 @@ use Rattle.frame_shown.specs.declared.form.List.{List as Shape}
 use Rattle.frame_shown.proofs.Items.{on_next}
 use Rattle.frame_diff.specs.Beside.{held_of}
 use Rattle.frame_diff.specs.Differences.{inside_in}
-use Rattle.frame_diff.specs.Forests.{Held, Member, Step, comes, find, forest}
+use Rattle.frame_diff.specs.Forests.{Held, Member, Step, comes, find, forest, is_text}
 use Rattle.frame_diff.specs.Items.{items_told, joined}
 use Rattle.frame_diff.specs.Members.{Reading, alone, earlier, named_in, placed, places}
-use Rattle.frame_diff.specs.Repeated.{GoesOnAt, IsBeside, again_held, again_in, again_items, alone_at, earlier_at}
+use Rattle.frame_diff.specs.Repeated.{GoesOnAt, IsBeside, IsSameAgain, again_held, again_in, again_items, alone_at, earlier_at}
 use Rattle.frame_diff.specs.Repeated.{earlier_in, place_by}
 use Rattle.frame_diff.specs.Values.{nth}
-use Rattle.frame_diff.specs.Walked.{Holding, Showing, held_at, held_items, reading_at}
+use Rattle.frame_diff.specs.Walked.{AreAlike, HasNames, HasRowByNumber, Holding, HoldsApart, IsOf, Showing, held_at}
+use Rattle.frame_diff.specs.Walked.{held_items, reading_at}
 use Rattle.frame_diff.specs.declared.again.Named.{Named}
 use Rattle.frame_diff.specs.declared.side.Side.{Side}
 use Rattle.frame_diff.specs.declared.walk.Attributes.{Attributes}
 use Rattle.frame_diff.proofs.Entries.{AreNests, found_place, later}
-use Rattle.frame_diff.proofs.Walked.{last_further}
+use Rattle.frame_diff.proofs.Steps.{text_is}
+use Rattle.frame_diff.proofs.Walked.{last_further, names_of, row_by_number, same_untold}
 
 -- ** one attribute further
 
@@ -171,3 +173,44 @@ again_fits f None it next here n m all is few =
     let first : frame_count it ≡ 1 + frame_count next = ap frame_count here in omega (arith, first, is, few)
 again_fits f (Some own) it next here n m all is few =
     let first : frame_count it ≡ 1 + frame_count next = ap frame_count here in omega (arith, first, is, few)
+
+-- ** one that stands in the other list as it is
+
+pub again_named : (behind : Attributes) (own : Option Named) → IfSome own (λ own. IsOf behind own.attribute)
+    → HasNames behind.around.now → IfSome own (λ own. HasNames own.attribute.around.now)
+again_named behind None of names = tt
+again_named behind (Some own) of names = names_of behind own.attribute of names
+
+pub again_rows : (behind others : Attributes) (own beside : Option Named)
+    → IfSome own (λ own. IsOf behind own.attribute) → IfSome beside (λ a. IsOf others a.attribute)
+    → AreAlike behind others
+    → IfSome own (λ own. IfSome beside (λ a. HasRowByNumber own.attribute a.attribute))
+again_rows behind others None beside of found alike = tt
+again_rows behind others (Some own) None of found alike = tt
+again_rows behind others (Some own) (Some a) of found alike =
+    row_by_number behind others own.attribute a.attribute of found alike
+
+module _ (nest : Showing) (inner : Holding) (apart : HoldsApart inner) (is_state : Bool) where
+  same_again : (side : Side) (text : List ℕ) (n : ℕ) (others : List (Option Held)) (own : Named)
+      (beside : Option Named) → IfSome beside (λ a. HasRowByNumber own.attribute a.attribute)
+      → nth n others ≡ option_map (alone_at nest inner is_state) beside → IsSameAgain own beside
+      → again_items nest inner is_state side text n others (Some own) ≡ []
+  same_again side text n others own None rows stands same = absurd same
+  same_again side text n others own (Some a) rows stands same =
+      let path = joined (joined text (decimal n)) own.name.now in
+      let held = held_at nest inner is_state own.attribute in
+      ap (λ h. held_items side path held (find (Step.name own.name.now) (inside_in h))) stands
+      ∙ ap (λ b. held_items side path held (cond b (Some (held_at nest inner is_state a.attribute)) None))
+      (ap (λ name. is_text name own.name.now) (sym same.1) ∙ text_is own.name.now)
+      ∙ same_untold nest inner apart is_state side path own.attribute (Some a.attribute) (rows same.0)
+      (ap (is_text own.attribute.payload.now) (sym same.2) ∙ text_is own.attribute.payload.now)
+
+  pub again_silent : (side : Side) (text : List ℕ) (n : ℕ) (others : Attributes) (own : Named) (beside : Option Named)
+      (page : Draft) → IfSome beside (λ a. HasRowByNumber own.attribute a.attribute)
+      → nth n (earlier_at nest inner is_state others) ≡ option_map (alone_at nest inner is_state) beside
+      → IsSameAgain own beside
+      → page ≡ with_members (objects (again_items nest inner is_state side text n
+      (earlier_at nest inner is_state others) (Some own))) page
+  again_silent side text n others own beside page rows stands same =
+      sym (ap (λ os. with_members (objects os) page)
+      (same_again side text n (earlier_at nest inner is_state others) own beside rows stands same))

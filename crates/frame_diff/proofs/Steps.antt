@@ -10,11 +10,11 @@ text_same a b h = (bytes_eq-Decides a b).0 h
 pub text_is : (a : List ℕ) → is_text a a ≡ true
 text_is a = (bytes_eq-Decides a a).1 refl
 
-and_left : (a b : Bool) → (a && b) ≡ true → a ≡ true
+pub and_left : (a b : Bool) → (a && b) ≡ true → a ≡ true
 and_left true b h = refl
 and_left false b h = h
 
-and_right : (a b : Bool) → (a && b) ≡ true → b ≡ true
+pub and_right : (a b : Bool) → (a && b) ≡ true → b ≡ true
 and_right true b h = h
 and_right false b h = absurd cc
 

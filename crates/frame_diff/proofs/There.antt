@@ -25,7 +25,7 @@ use Rattle.frame_diff.specs.Shown.{HasNamesApart}
 use Rattle.frame_diff.specs.Walked.{AreAlike, AreOfFrame, HasNames, HasRowOf, Holding, HoldsApart, IsOf, IsOfNumber}
 use Rattle.frame_diff.specs.Walked.{IsTail}
 use Rattle.frame_diff.specs.Walked.{NoneBehind, Showing, held_at, held_items, is_kept_there, is_there}
-use Rattle.frame_diff.specs.Walked.{frame_items, has_number, last_items, named_at, reading_at}
+use Rattle.frame_diff.specs.Walked.{NoneComes, frame_items, is_row_alike, last_items, named_at, reading_at}
 use Rattle.frame_diff.specs.declared.side.Side.{Side}
 use Rattle.frame_diff.specs.declared.walk.Attribute.{Attribute}
 use Rattle.frame_diff.specs.declared.walk.Attributes.{Attributes}
@@ -75,7 +75,7 @@ none_comes n (f ∷ fs) none =
     by false other = refl
 
 -- what is found at a step behind others is what is found there
-last_kept : (s : Step) (ms more : List Member) (held : Held) → last_at s more ≡ Some held
+pub last_kept : (s : Step) (ms more : List Member) (held : Held) → last_at s more ≡ Some held
     → last_at s (ms ++ more) ≡ Some held
 last_kept s [] more held is = is
 last_kept s (m ∷ ms) more held is =
@@ -329,10 +329,19 @@ rows_beside behind others own there f beside of too alike is frame found =
     rows_same behind others own there true of too (λ h. alike) (by there beside frame found)
   where
     by : (there : Option Attribute) (beside : Option Frame) → AreOfFrame there beside
-        → IsOfNumber (number f) others.bytes.now beside → has_number own.number there ≡ true
+        → IsOfNumber (number f) others.bytes.now beside → is_row_alike true own.number there ≡ true
     by None beside frame found = refl
     by (Some a) None frame found = absurd frame
     by (Some a) (Some g) frame found = eq-eqb a.number own.number (frame.0 ∙ found.3 ∙ sym is)
+
+-- behind an attribute of a list in which no number stands twice no other one of its name comes
+pub none_comes_behind : (behind : Attributes) (f : Frame) → HasNames behind.around.now → NoneBehind f behind
+    → is_kept (row_in behind.around.now behind.list (number f)).1 f.payload ≡ false
+    → NoneComes behind (row_in behind.around.now behind.list (number f)).0
+none_comes_behind behind f names none named nest inner is_state =
+    let r = reading_at nest inner is_state behind.around.now in
+    none_named r behind.list (names behind.list) f named (frames_in (items behind.bytes.now))
+    (none (small r behind.list (names behind.list) f named))
 
 pub none_again : (nest : Showing) (inner : Holding) (is_state : Bool) (own : Attributes) → HasNames own.around.now
     → are_twice (items own.bytes.now) ≡ false → earlier_at nest inner is_state own ≡ []

@@ -154,6 +154,16 @@ messages_written is_state cx other old new page middle last first second =
     ((λ k. items_are Old [] f g k ++ items_are New [] g f k)
     ∙ sym (map-append change_item (told Old [] f g) (told New [] g f)))
 
+-- ** the header
+
+-- both messages have all its fields, so none comes
+none_comes : (a b : List ℕ) → items_told New [] (fields (header_members a)) (fields (header_members b)) ≡ []
+none_comes a b = refl
+
+pub header_silent : (a b : List ℕ) (page : Draft)
+    → page ≡ with_members (objects (items_told New [] (fields (header_members a)) (fields (header_members b)))) page
+header_silent a b page = sym (ap (λ os. with_members (objects os) page) (none_comes a b))
+
 -- ** rows that are the same
 
 and_all : (a b c : Bool) → (a && b && c) ≡ true → (a ≡ true) × (b ≡ true) × (c ≡ true)
@@ -161,20 +171,23 @@ and_all true true c h = (refl, refl, h)
 and_all true false c h = absurd cc
 and_all false b c h = absurd cc
 
+pub all_names : (cx here : Around) (n : ℕ) → here ≡ with_address_len cx n → AreAllRows cx.tables.now → HasNames here
+all_names cx here n is rows list =
+    names_apart.apart here list (subst (λ (x : Around). AreAllRows x.tables.now) (sym is) rows)
+
 pub alike_lists : (cx theirs here there : Around) (m n : ℕ) → here ≡ with_address_len cx m
-    → there ≡ with_address_len theirs n → (a b : ℕ) (alike all : Bool)
-    → (alike ≡ true → (cx ≡ theirs) × AreAllRows cx.tables.now)
+    → there ≡ with_address_len theirs n → (a b : ℕ) (alike all : Bool) → AreAllRows cx.tables.now
+    → (alike ≡ true → cx ≡ theirs)
     → all ≡ (alike && (here.address_len == there.address_len) && (a == b)) → all ≡ true
     → (here ≡ there) × (Shapes.Message a ≡ Shapes.Message b) × HasNames here
-alike_lists cx theirs here there m n is also a b alike all same both h =
+alike_lists cx theirs here there m n is also a b alike all rows same both h =
     let parts = and_all alike (here.address_len == there.address_len) (a == b) (sym both ∙ h) in
-    let rows = same parts.0 in
     let len : m ≡ n =
     sym (ap (λ (x : Around). x.address_len) is) ∙ eqb-true here.address_len there.address_len parts.1
     ∙ ap (λ (x : Around). x.address_len) also in (
-      is ∙ (λ k. with_address_len (rows.0 k) (len k)) ∙ sym also,
+      is ∙ (λ k. with_address_len (same parts.0 k) (len k)) ∙ sym also,
       ap Shapes.Message (eqb-true a b parts.2),
-      λ list. names_apart.apart here list (subst (λ (x : Around). AreAllRows x.tables.now) (sym is) rows.1),
+      all_names cx here m is rows,
     )
 
 pub attributes_are : (is_state : Bool) (cx here : Around) (family n : ℕ) (p bytes : List ℕ)

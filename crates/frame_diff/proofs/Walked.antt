@@ -1,6 +1,6 @@
 -- One attribute further.
 use Rattle.std.proofs.Common.{◌≡◌, ℕ, ◌+◌, Bool, true, false, List, [], ◌∷◌, ◌++◌, length, drop, refl, sym, ap, ◌∙◌}
-use Rattle.std.proofs.Common.{Ok, Err, Option, Some, None, map, eqb-true, subst}
+use Rattle.std.proofs.Common.{Ok, Err, Option, Some, None, map, eq-eqb, eqb-true, subst}
 use Rattle.std.specs.Prelude.{◌==◌, ◌&&◌, ◌||◌, IfSome, cond, not, option_map}
 use Rattle.json.specs.Token.{Token}
 use Rattle.std.specs.List.{list_any}
@@ -17,6 +17,7 @@ use Rattle.link_info.specs.Tables.{frames_in}
 use Rattle.shown.specs.Drafts.{Draft, object_of, with_members}
 use Rattle.frame_shown.specs.Items.{objects}
 use Rattle.frame_shown.specs.Tables.{is_kept, row_in}
+use Rattle.frame_shown.specs.declared.form.Around.{Around}
 use Rattle.frame_shown.specs.declared.form.List.{List as Shape}
 use Rattle.frame_shown.proofs.Items.{on_next}
 use Rattle.frame_diff.specs.Beside.{held_of, is_named}
@@ -26,7 +27,7 @@ use Rattle.frame_diff.specs.Differences.{text_of}
 use Rattle.frame_diff.specs.Items.{change_item, items_told, joined, leaf_items, step_text, turned_item}
 use Rattle.frame_diff.specs.Members.{Reading, held_by, named_in}
 use Rattle.frame_diff.specs.Walked.{AreAlike, HasNames, HasRowOf, Holding, HoldsApart, IsOf, Showing, frame_items}
-use Rattle.frame_diff.specs.Walked.{has_number}
+use Rattle.frame_diff.specs.Walked.{HasRowByNumber, is_row_alike}
 use Rattle.frame_diff.specs.Walked.{has_payload, held_at, held_items, last_items, reading_at}
 use Rattle.frame_diff.specs.declared.side.Side.{Side}
 use Rattle.frame_diff.specs.declared.side.Side.TheVariants.{Old, New}
@@ -139,11 +140,11 @@ leaf_same : (side : Side) (text : List ℕ) (v : List Token) → leaf_items side
 leaf_same Old text v = ap (λ b. cond b [] (turned_item text v v ∷ [])) (text_is (text_of v))
 leaf_same New text v = refl
 
-tree_same : (side : Side) (text : List ℕ) (i : Forest) → AreApart i → items_told side text i i ≡ []
+pub tree_same : (side : Side) (text : List ℕ) (i : Forest) → AreApart i → items_told side text i i ≡ []
 tree_same side text i apart =
     items_are side (Step.name text ∷ []) i i ∙ ap (map change_item) (same_silent side (Step.name text ∷ []) i apart)
 
-held_same : (side : Side) (text : List ℕ) (v : List Token) (i : Forest) → AreApart i
+pub held_same : (side : Side) (text : List ℕ) (v : List Token) (i : Forest) → AreApart i
     → held_items side text (v, i) (Some (v, i)) ≡ []
 held_same side text v Forest.none apart = leaf_same side text v
 held_same side text v Forest.passed apart = refl
@@ -170,7 +171,7 @@ module _ (nest : Showing) (inner : Holding) (apart : HoldsApart inner) (is_state
   held_apart own = inside_apart (inner is_state own.around.now) own.around.now
       (action_in is_state own.list own.number) own.way own.payload.now (apart is_state own.around.now)
 
-  same_untold : (side : Side) (text : List ℕ) (own : Attribute) (beside : Option Attribute) → HasRowOf own beside
+  pub same_untold : (side : Side) (text : List ℕ) (own : Attribute) (beside : Option Attribute) → HasRowOf own beside
       → has_payload own.payload.now beside ≡ true
       → held_items side text (held_at nest inner is_state own) (option_map (held_at nest inner is_state) beside) ≡ []
   same_untold side text own None row h = absurd cc
@@ -194,7 +195,7 @@ and_both false b h = absurd cc
 
 pub rows_same : (list others : Attributes) (own : Attribute) (beside : Option Attribute) (alike : Bool)
     → IsOf list own → IfSome beside (IsOf others) → (alike ≡ true → AreAlike list others)
-    → (alike && has_number own.number beside) ≡ true → HasRowOf own beside
+    → is_row_alike alike own.number beside ≡ true → HasRowOf own beside
 rows_same list others own None alike of found both h = tt
 rows_same list others own (Some a) alike of found both h =
     let parts = and_both alike (a.number == own.number) h in
@@ -204,3 +205,18 @@ rows_same list others own (Some a) alike of found both h =
     let shape : a.list ≡ own.list = found.1 ∙ sym lists.1 ∙ sym of.1 in
     let way : a.way ≡ own.way = found.2 ∙ (λ k. (row_in (sym lists.0 k) (sym lists.1 k) (one k)).1) ∙ sym of.2 in
     (around, shape, one, way, subst HasNames (sym of.0) lists.2)
+
+-- an attribute of a list is shown by what the list is
+pub names_of : (list : Attributes) (a : Attribute) → IsOf list a → HasNames list.around.now → HasNames a.around.now
+names_of list a of names = subst HasNames (sym of.0) names
+
+pub named_one : (cx : Around) (a : Option Attribute) → IfSome a (λ a. a.around.now ≡ cx)
+    → HasNames cx → IfSome a (λ a. HasNames a.around.now)
+named_one cx None of names = tt
+named_one cx (Some a) of names = subst HasNames (sym of) names
+
+-- of two attributes of lists with the same rows
+pub row_by_number : (list others : Attributes) (own a : Attribute) → IsOf list own → IsOf others a
+    → AreAlike list others → HasRowByNumber own a
+row_by_number list others own a of found alike one =
+    rows_same list others own (Some a) true of found (λ h. alike) (eq-eqb a.number own.number one)

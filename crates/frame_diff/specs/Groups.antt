@@ -1,5 +1,5 @@
 -- Lists of values under the name of a group, and what two of them tell place by place.
-use Rattle.std.specs.Prelude.{ℕ, ◌+◌, ◌==◌, ◌&&◌, List, [], ◌∷◌, Bool, true, false, Option, Some, None}
+use Rattle.std.specs.Prelude.{◌≡◌, ℕ, ◌+◌, ◌==◌, ◌&&◌, List, [], ◌∷◌, Bool, true, false, Option, Some, None}
 use Rattle.std.specs.Prelude.{codes, cond, decimal, map, not}
 use Rattle.std.specs.List.{flat_map}
 use Rattle.nla_wire.specs.Frames.{Frame, number}
@@ -108,6 +108,11 @@ list_held nest inner is_state a = (
 
 abbrev pub entry_held : Showing → Holding → Bool → Around → Shape → List ℕ → Held
 entry_held nest inner is_state cx list p = (list_shown (nest cx) cx list p, above nest inner is_state cx list p)
+
+-- beside a list stands another one with its rows and its bytes
+abbrev pub IsSameEntry : Attributes → Option Attributes → Type 0
+IsSameEntry own None = ⊥
+IsSameEntry own (Some a) = (own.list ≡ a.list) × (own.bytes.now ≡ a.bytes.now)
 
 -- what an attribute is in a list of this kind
 abbrev pub value_by : Showing → Holding → Bool → Shape → Attribute → Held

@@ -64,6 +64,12 @@ IsBeside nest inner is_state others n None beside = Unit {0}
 IsBeside nest inner is_state others n (Some own) beside =
     nth n (earlier_at nest inner is_state others) ≡ option_map (alone_at nest inner is_state) beside
 
+-- beside one stands another one with its name, its number and its payload
+abbrev pub IsSameAgain : Named → Option Named → Type 0
+IsSameAgain own None = ⊥
+IsSameAgain own (Some a) = (a.attribute.number ≡ own.attribute.number) × (own.name.now ≡ a.name.now)
+    × (own.attribute.payload.now ≡ a.attribute.payload.now)
+
 abbrev pub place_by : Option Named → ℕ → ℕ
 place_by None n = n
 place_by (Some own) n = n + 1

@@ -46,6 +46,10 @@ value_shown nest cx (Values.Octets bytes) = hexadecimal bytes.now
 value_shown nest cx (Values.LinkFlags bits) = flags_of link_flag_names bits
 value_shown nest cx (Values.Listed list p) = listed_shown nest cx list p.now
 
+-- two values are shown as the same, whatever they are shown by
+abbrev pub AreShownAlike : Value → Value → Type 0
+AreShownAlike v w = (nest other : Nesting) (cx theirs : Around) → value_shown nest cx v ≡ value_shown other theirs w
+
 -- ** an attribute that is kept as it is
 
 abbrev pub kept_members : Kept → Members
@@ -54,6 +58,11 @@ kept_members k = frame_members k.name.now k.kind k.payload.now
 abbrev pub kept_forest : Option Kept → Forest
 kept_forest None = Forest.none
 kept_forest (Some k) = fields (kept_members k)
+
+-- beside one stands another one that says the same
+abbrev pub IsSameKept : Kept → Option Kept → Type 0
+IsSameKept own None = ⊥
+IsSameKept own (Some k) = (k.kind ≡ own.kind) × (own.name.now ≡ k.name.now) × (own.payload.now ≡ k.payload.now)
 
 -- ** the list of those that are kept
 

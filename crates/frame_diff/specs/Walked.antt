@@ -1,5 +1,5 @@
 -- What is told of attributes as they are gone through, one after another.
-use Rattle.std.specs.Prelude.{◌≡◌, ℕ, ◌==◌, List, [], ◌∷◌, ◌++◌, Bool, true, false, Option, Some, None, cond, map}
+use Rattle.std.specs.Prelude.{◌≡◌, ℕ, ◌==◌, ◌&&◌, List, [], ◌∷◌, ◌++◌, Bool, true, false, Option, Some, None, cond, map}
 use Rattle.std.specs.Prelude.{nat_lt}
 use Rattle.std.specs.List.{list_any}
 use Rattle.nla_wire.specs.Frames.{Frame, number}
@@ -88,9 +88,14 @@ HasRowOf own (Some a) =
     (a.around.now ≡ own.around.now) × (a.list ≡ own.list) × (a.number ≡ own.number) × (a.way ≡ own.way)
     × HasNames own.around.now
 
-abbrev pub has_number : ℕ → Option Attribute → Bool
-has_number n None = true
-has_number n (Some a) = a.number == n
+-- another one of its number has its row
+abbrev pub HasRowByNumber : Attribute → Attribute → Type 0
+HasRowByNumber own a = a.number ≡ own.number → HasRowOf own (Some a)
+
+-- in lists with the same rows, or where there is no other one, they have one row
+abbrev pub is_row_alike : Bool → ℕ → Option Attribute → Bool
+is_row_alike alike n None = true
+is_row_alike alike n (Some a) = alike && (a.number == n)
 
 abbrev pub has_payload : List ℕ → Option Attribute → Bool
 has_payload p None = false
@@ -112,6 +117,11 @@ IsOfNumber n all (Some g) =
 abbrev pub NoneBehind : Frame → Attributes → Type 0
 NoneBehind f behind = nat_lt (number f) 256 ≡ true
     → comes_in (number f) (map by_number (frames_in (items behind.bytes.now))) ≡ false
+
+-- no attribute of a name is among them
+abbrev pub NoneComes : Attributes → List ℕ → Type 0
+NoneComes behind name = (nest : Showing) (inner : Holding) (is_state : Bool)
+    → comes (Step.name name) (named_at nest inner is_state behind) ≡ false
 
 -- no number stands twice in two lists with the same rows, in one of which these are behind this attribute
 pub record StandsSingle (is_alike : Bool) (behind others : Attributes) (f : Frame) : Type 0 where

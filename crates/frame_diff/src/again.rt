@@ -1,6 +1,6 @@
 //! What attributes tell behind which another one of their name stands.
 
-ghost use Rattle.std.specs.Prelude.{◌≡◌, ◌<◌, ◌+◌, ◌++◌, ◌^◌, [], ℕ, Bool, OnOk, option_map};
+ghost use Rattle.std.specs.Prelude.{◌≡◌, ◌<◌, ◌+◌, ◌++◌, ◌^◌, [], ℕ, Bool, IfSome, OnOk, Some, option_map, true};
 ghost use Rattle.shown.specs.Drafts.{with_members};
 ghost use Rattle.frame_shown.specs.Items.{objects};
 ghost use Rattle.frame_diff.specs.Differences.{inside_in};
@@ -8,10 +8,11 @@ ghost use Rattle.frame_diff.specs.Forests.{Step, find};
 ghost use Rattle.frame_diff.specs.Items.{items_told, joined};
 ghost use Rattle.frame_diff.specs.Members.{places};
 ghost use Rattle.frame_diff.specs.Repeated.{GoesOnAt, IsBeside, again_held, again_in, again_items, alone_at};
-ghost use Rattle.frame_diff.specs.Repeated.{earlier_at, earlier_in, place_by};
-ghost use Rattle.frame_diff.specs.Walked.{Holding, Showing, held_at, held_items, named_at, reading_at};
+ghost use Rattle.frame_diff.specs.Repeated.{IsSameAgain, earlier_at, earlier_in, place_by};
+ghost use Rattle.frame_diff.specs.Walked.{AreAlike, HasNames, HasRowByNumber, Holding, IsOf, Showing, held_at};
+ghost use Rattle.frame_diff.specs.Walked.{held_items, named_at, reading_at};
 
-use crate::leaf::Texts;
+use crate::leaf::{Texts, is_same};
 use crate::list::{behind, comes};
 use crate::path::{join, join_place};
 use crate::value::tell_value;
@@ -32,7 +33,8 @@ pub struct Named<'a> {
 
 /// An attribute of a list, unless it has no name, or none of its name comes behind it.
 fn again<'a>(behind: Attributes<'a>, frame: &NlaBuffer<'a>) -> Option<Named<'a>>
-    ensures { (nest : Showing) (inner : Holding) (is_state : Bool) → again_held nest inner is_state result
+    ensures row { IfSome result (λ own. IsOf behind.entry own.attribute) }
+    ensures held { (nest : Showing) (inner : Holding) (is_state : Bool) → again_held nest inner is_state result
         ≡ again_in (reading_at nest inner is_state behind.entry.around.now) behind.entry.list
         (named_at nest inner is_state behind.entry) frame.now }
 {
@@ -67,6 +69,7 @@ fn place_by(own: Option<Named<'_>>, place: usize) -> usize
 
 /// The first of them, and the bytes behind it.
 fn next_again<'a>(list: Attributes<'a>) -> (Option<Named<'a>>, &'a [u8])
+    ensures row { IfSome result.0 (λ own. IsOf list.entry own.attribute) }
     ensures cut { (nest : Showing) (inner : Holding) (is_state : Bool) → earlier_at nest inner is_state list.entry
         ≡ again_held nest inner is_state result.0
         ++ earlier_in nest inner is_state list.entry result.1.now }
@@ -97,7 +100,8 @@ fn beside_again<'a>(
     others: Attributes<'a>,
     there: &'a [u8],
 ) -> (Option<Named<'a>>, &'a [u8])
-    ensures { (nest : Showing) (inner : Holding) (is_state : Bool) (place : ℕ)
+    ensures row { IfSome result.0 (λ other. IsOf others.entry other.attribute) }
+    ensures place { (nest : Showing) (inner : Holding) (is_state : Bool) (place : ℕ)
         → GoesOnAt nest inner is_state others.entry place there.entry.now
         → IsBeside nest inner is_state others.entry place own.entry result.0
         × GoesOnAt nest inner is_state others.entry (place_by own.entry place) result.1.now }
@@ -138,6 +142,7 @@ fn tell_alone<W: Walk>(
     own: Named<'_>,
     beside: Option<Named<'_>>,
 ) -> Result<(), AllocError>
+    requires names { HasNames own.attribute.around.now }
     ensures { OnOk result (page.new
         ≡ with_members (objects (held_items pass.side (joined path.now own.entry.name.now)
         (held_at W.nest W.inner pass.is_state own.entry.attribute)
@@ -154,7 +159,48 @@ fn tell_alone<W: Walk>(
     tell_value::<W>(texts, pass, page, text.as_str(), own.attribute, there)
 }
 
-/// Tells of one of them, beside the one at its place.
+/// Whether the attribute beside one has its name, its number and its payload.
+fn is_same_again(own: Named<'_>, beside: Option<Named<'_>>) -> bool
+    ensures { result ≡ true → IsSameAgain own.entry beside.entry }
+{
+    let Some(other) = beside else {
+        return false;
+    };
+    other.attribute.number == own.attribute.number
+        && own.name == other.name
+        && is_same(own.attribute.payload, other.attribute.payload)
+}
+
+/// Tells of one of them, beside the one at its place. One that stands there as it is costs a look.
+fn tell_placed<W: Walk>(
+    texts: &mut Texts,
+    pass: Pass,
+    page: &mut Page,
+    path: &str,
+    place: usize,
+    others: Attributes<'_>,
+    own: Named<'_>,
+    beside: Option<Named<'_>>,
+) -> Result<(), AllocError>
+    requires names { HasNames own.attribute.around.now }
+    requires rows { pass.is_alike ≡ true → IfSome beside (λ other.
+        HasRowByNumber own.attribute other.attribute) }
+    requires beside { IsBeside W.nest W.inner pass.is_state others place (Some own) beside }
+    ensures { OnOk result (page.new
+        ≡ with_members (objects (again_items W.nest W.inner pass.is_state pass.side path.now place
+        (earlier_at W.nest W.inner pass.is_state others.entry) (Some own.entry))) page.old) }
+{
+    if pass.is_alike {
+        W::laws();
+        if is_same_again(own, beside) {
+            return Ok(());
+        }
+    }
+    let text = join_place(texts.alloc, path, place)?;
+    tell_alone::<W>(texts, pass, page, text.as_str(), own, beside)
+}
+
+/// Tells of one of them, if there is one, beside the one at its place.
 fn tell_again<W: Walk>(
     texts: &mut Texts,
     pass: Pass,
@@ -165,16 +211,18 @@ fn tell_again<W: Walk>(
     own: Option<Named<'_>>,
     beside: Option<Named<'_>>,
 ) -> Result<(), AllocError>
-    requires { IsBeside W.nest W.inner pass.is_state others place own beside }
+    requires names { IfSome own (λ own. HasNames own.attribute.around.now) }
+    requires rows { pass.is_alike ≡ true → IfSome own (λ own. IfSome beside (λ other.
+        HasRowByNumber own.attribute other.attribute)) }
+    requires beside { IsBeside W.nest W.inner pass.is_state others place own beside }
     ensures { OnOk result (page.new
         ≡ with_members (objects (again_items W.nest W.inner pass.is_state pass.side path.now place
         (earlier_at W.nest W.inner pass.is_state others.entry) own.entry)) page.old) }
 {
-    let Some(own) = own else {
-        return Ok(());
-    };
-    let text = join_place(texts.alloc, path, place)?;
-    tell_alone::<W>(texts, pass, page, text.as_str(), own, beside)
+    match own {
+        Some(own) => tell_placed::<W>(texts, pass, page, path, place, others, own, beside),
+        None => Ok(()),
+    }
 }
 
 /// Tells of the attributes of a list behind which another one of their name stands, each beside the one at its place
@@ -187,6 +235,8 @@ pub fn tell_repeated<W: Walk>(
     own: Attributes<'_>,
     others: Attributes<'_>,
 ) -> Result<(), AllocError>
+    requires names { HasNames own.around.now }
+    requires rows { pass.is_alike ≡ true → AreAlike own others }
     ensures { OnOk result (page.new ≡ with_members (objects (items_told pass.side path.now
         (places (earlier_at W.nest W.inner pass.is_state own.entry))
         (places (earlier_at W.nest W.inner pass.is_state others.entry)))) page.old) }

@@ -61,7 +61,7 @@ fn number_rows<'a>(
     ensures { IfOk result (λ rows. (cx : Beside) → map (row_shown cx) rows.items
         ≡ counters_shown (map (λ name. name.now) names.now) (width size) bytes.now 0) }
 {
-    let mut rows = Vec::new(alloc);
+    let mut rows = Vec::with_capacity(alloc, names.len())?;
     let mut place = 0;
     for name in names {
         let value = Value::Unsigned(number_at(size, bytes, place));
@@ -97,7 +97,7 @@ fn placed_rows<'a>(
     ensures { IfOk result (λ rows. (cx : Beside) → map (row_shown cx) rows.items
         ≡ placed_shown is_since (map (λ row. (row.0.now, (row.1, row.2))) names.now) bytes.now) }
 {
-    let mut rows = Vec::new(alloc);
+    let mut rows = Vec::with_capacity(alloc, names.len())?;
     for row in names {
         let place = 8 * counter_place(is_since, row.1, row.2);
         let value = Value::Unsigned(u64_at(bytes, place));
@@ -151,7 +151,7 @@ fn setting_rows<'a>(
         ≡ fields_left (clearing part) 0 (map (λ name. 4) (map (λ name. name.now) names.now))
         (settings_shown (map (λ name. name.now) names.now) bytes.now 0)) }
 {
-    let mut rows = Vec::new(alloc);
+    let mut rows = Vec::with_capacity(alloc, names.len())?;
     let mut place = 0;
     for name in names {
         let value = Value::Signed(i32_at(bytes, place).into());
@@ -231,7 +231,7 @@ fn part_rows<'a>(alloc: Global, parts: &[Part], bytes: &'a [u8]) -> Result<Vec<R
     ensures { IfOk result (λ rows. (cx : Beside) → map (row_shown cx) rows.items
         ≡ fields_shown cx (map (λ part. (part.0.now, (part.1, part.2))) parts.now) bytes.now) }
 {
-    let mut rows = Vec::new(alloc);
+    let mut rows = Vec::with_capacity(alloc, parts.len())?;
     for part in parts {
         let value = Value::Field(part.2, bytes, part.1);
         rows.push(Row {
@@ -280,7 +280,7 @@ pub fn member_rows<'a>(
         ≡ fields_left (clearing part) 0 (map (λ m. plain_size m.1) members.now)
         (record_shown members.now bytes.now)) }
 {
-    let mut rows = Vec::new(alloc);
+    let mut rows = Vec::with_capacity(alloc, members.len())?;
     let mut rest = bytes;
     let mut place = 0;
     for Member(name, plain) in members {

@@ -7,20 +7,22 @@ ghost use Rattle.frame_shown.specs.Items.{objects};
 ghost use Rattle.frame_diff.specs.Differences.{inside_in, leaf_in};
 ghost use Rattle.frame_diff.specs.Forests.{find};
 ghost use Rattle.frame_diff.specs.Groups.{are_plain, first_by, first_of, group_at, group_held, group_step, is_entries};
-ghost use Rattle.frame_diff.specs.Groups.{is_group, is_same_group, list_held, nest_in, nest_items, next_place};
+ghost use Rattle.frame_diff.specs.Groups.{IsSameEntry, is_group, is_same_group, list_held, nest_in, nest_items, next_place};
 ghost use Rattle.frame_diff.specs.Groups.{picked, place_items, rest_by, rest_of, value_at, values_by};
 ghost use Rattle.frame_diff.specs.Inside.{above, inside_list};
 ghost use Rattle.frame_diff.specs.Items.{items_told, joined, leaf_items, step_text};
 ghost use Rattle.frame_diff.specs.Members.{places};
-ghost use Rattle.frame_diff.specs.Walked.{AreBeside, Holding, Showing, StandBeside, held_items, reading_at};
+ghost use Rattle.frame_diff.specs.Walked.{AreBeside, HasNames, Holding, Showing, StandBeside, held_items};
+ghost use Rattle.frame_diff.specs.Walked.{reading_at};
 ghost use Rattle.frame_diff.specs.declared.walk.Attribute.{Attribute as One};
 ghost use Rattle.frame_diff.specs.declared.walk.Attributes.{Attributes as Lists};
 
-use crate::leaf::{Texts, Value, tell_leaf};
+use crate::leaf::{Texts, Value, is_same, tell_leaf};
 use crate::list::behind;
 use crate::lists::{is_without, none_of, tell_object};
 use crate::nests::is_nest;
 use crate::path::{join, join_place};
+use crate::same::is_same_list;
 use crate::value::tell_value;
 use crate::walk::{Attribute, Attributes, Pass, Walk};
 use frame_shown::depth::Above;
@@ -232,7 +234,17 @@ fn tell_bare<W: Walk>(
     }
 }
 
-/// Tells of an object beside another one, if there is one.
+/// Whether another list has the rows and the bytes of this one, where it is shown by the same.
+fn is_same_entry(own: Attributes<'_>, beside: Option<Attributes<'_>>) -> bool
+    ensures { result ≡ true → IsSameEntry own.entry beside.entry }
+{
+    let Some(other) = beside else {
+        return false;
+    };
+    is_same_list(own.list, other.list) && is_same(own.bytes, other.bytes)
+}
+
+/// Tells of an object beside another one, if there is one. One that stands there as it is costs a look.
 fn tell_entry<W: Walk>(
     texts: &mut Texts,
     pass: Pass,
@@ -242,11 +254,18 @@ fn tell_entry<W: Walk>(
     beside: Option<Attributes<'_>>,
 ) -> Result<(), AllocError>
     requires object { is_group own.list ≡ false }
+    requires names { HasNames own.around.now }
     requires alike { pass.is_alike ≡ true → AreBeside own beside }
     ensures { OnOk result (page.new ≡ with_members (objects (held_items pass.side path.now
         (list_held W.nest W.inner pass.is_state own.entry)
         (option_map (list_held W.nest W.inner pass.is_state) beside.entry))) page.old) }
 {
+    if pass.is_alike {
+        W::laws();
+        if is_same_entry(own, beside) {
+            return Ok(());
+        }
+    }
     if is_without(own) {
         return tell_bare::<W>(texts, pass, page, path, own, beside);
     }
@@ -262,6 +281,7 @@ fn tell_picked<W: Walk>(
     own: Attribute<'_>,
     beside: Option<Attribute<'_>>,
 ) -> Result<(), AllocError>
+    requires names { HasNames own.around.now }
     requires entries { IfSome beside (λ a. is_entries a.list ≡ is_entries own.list) }
     requires alike { pass.is_alike ≡ true → StandBeside own beside }
     ensures { OnOk result (page.new ≡ with_members (objects (held_items pass.side path.now
@@ -310,6 +330,7 @@ fn tell_nest<W: Walk>(
     own: Attribute<'_>,
     beside: Option<Attribute<'_>>,
 ) -> Result<(), AllocError>
+    requires names { HasNames own.around.now }
     requires entries { IfSome beside (λ a. is_entries a.list ≡ is_entries own.list) }
     requires alike { pass.is_alike ≡ true → StandBeside own beside }
     ensures { OnOk result (page.new ≡ with_members (objects (nest_items pass.side
@@ -334,6 +355,7 @@ fn tell_place<W: Walk>(
     own: Option<Attribute<'_>>,
     beside: Option<Attribute<'_>>,
 ) -> Result<(), AllocError>
+    requires names { IfSome own (λ a. HasNames a.around.now) }
     requires entries { IfSome own (λ a. IfSome beside (λ b.
         is_entries b.list ≡ is_entries a.list)) }
     requires alike { pass.is_alike ≡ true → IfSome own (λ a. StandBeside a beside) }
@@ -367,6 +389,7 @@ fn tell_places<W: Walk>(
     own: Attributes<'_>,
     others: Attributes<'_>,
 ) -> Result<(), AllocError>
+    requires names { HasNames own.around.now }
     requires entries { is_entries others.list ≡ is_entries own.list }
     requires alike { pass.is_alike ≡ true → AreBeside own (Some others) }
     ensures { OnOk result (page.new ≡ with_members (objects (items_told pass.side path.now
@@ -468,18 +491,24 @@ fn tell_flat<W: Walk>(
     }
 }
 
-/// Another list of values, and whether there is one; one without values where there is none.
-fn values_beside<'a>(own: Attributes<'a>, beside: Option<Attributes<'a>>) -> (Attributes<'a>, bool)
-    requires { IfSome beside (λ a. is_entries a.list ≡ is_entries own.list) }
+/// Another list of values, and whether it is known to be shown by the same; one without values where there is none.
+fn values_beside<'a>(
+    is_alike: bool,
+    own: Attributes<'a>,
+    beside: Option<Attributes<'a>>,
+) -> (Attributes<'a>, bool)
+    requires names { HasNames own.around.now }
+    requires same { IfSome beside (λ a. is_entries a.list ≡ is_entries own.list) }
+    requires alike { is_alike ≡ true → AreBeside own beside }
     ensures places { (nest : Showing) (inner : Holding) (is_state : Bool)
         → places (group_at nest inner is_state result.0)
         ≡ inside_in (option_map (group_held nest inner is_state) beside.entry) }
     ensures same { is_entries result.0.list ≡ is_entries own.entry.list }
-    ensures some { result.1 ≡ true → beside.entry ≡ Some result.0 }
+    ensures alike { result.1 ≡ true → AreBeside own.entry (Some result.0) }
 {
     match beside {
-        Some(other) => (other, true),
-        None => (none_of(own), false),
+        Some(other) => (other, is_alike),
+        None => (none_of(own), true),
     }
 }
 
@@ -493,6 +522,7 @@ fn tell_values<W: Walk>(
     beside: Option<Attributes<'_>>,
 ) -> Result<(), AllocError>
     requires own { is_group own.list ≡ true }
+    requires names { HasNames own.around.now }
     requires group { IfSome beside (λ a. is_group a.list ≡ true) }
     requires same { IfSome beside (λ a. is_entries a.list ≡ is_entries own.list) }
     requires alike { pass.is_alike ≡ true → AreBeside own beside }
@@ -503,8 +533,7 @@ fn tell_values<W: Walk>(
     if are_plain::<W>(pass.is_state, own) {
         return tell_flat::<W>(texts, pass, page, path, own, beside);
     }
-    let (others, is_some) = values_beside(own, beside);
-    let is_alike = pass.is_alike_too(is_some);
+    let (others, is_alike) = values_beside(pass.is_alike, own, beside);
     tell_places::<W>(texts, Pass { is_alike, ..pass }, page, path, own, others)
 }
 
@@ -552,6 +581,7 @@ pub(crate) fn tell_group<W: Walk>(
     beside: Option<Attributes<'_>>,
 ) -> Result<(), AllocError>
     requires group { is_group own.list ≡ true }
+    requires names { HasNames own.around.now }
     requires name { name.now ≡ step_text (group_step own.list) }
     requires alike { pass.is_alike ≡ true → AreBeside own beside }
     ensures { OnOk result (page.new ≡ with_members (objects (held_items pass.side

@@ -1,6 +1,7 @@
 //! What attributes tell that are kept as they are.
 
-ghost use Rattle.std.specs.Prelude.{◌≡◌, ◌<◌, ◌+◌, ◌++◌, ◌^◌, ℕ, [], ◌∷◌, IfOk, OnOk, codes, map, option_map};
+ghost use Rattle.std.specs.Prelude.{◌≡◌, ◌<◌, ◌+◌, ◌++◌, ◌^◌, ℕ, [], ◌∷◌, IfOk, OnOk, codes, decimal, map};
+ghost use Rattle.std.specs.Prelude.{option_map, true};
 ghost use Rattle.nla_wire.specs.Frames.{number};
 ghost use Rattle.shown.specs.Drafts.{with_members};
 ghost use Rattle.frame_shown.specs.Items.{objects};
@@ -9,17 +10,18 @@ ghost use Rattle.frame_shown.specs.Tables.{kind_shown, row_in};
 ghost use Rattle.frame_shown.specs.Values.{hexadecimal};
 ghost use Rattle.frame_shown.specs.declared.form.Around.{Around as Beside};
 ghost use Rattle.frame_diff.specs.Counters.{is_passed};
-ghost use Rattle.frame_diff.specs.Items.{items_told};
+ghost use Rattle.frame_diff.specs.Items.{items_told, joined};
 ghost use Rattle.frame_diff.specs.Members.{as_object, fields, kept_by, places};
 ghost use Rattle.frame_diff.specs.Rows.{row_shown};
-ghost use Rattle.frame_diff.specs.Values.{IsKeptBeside, KeepsOnAt, entry_held, entry_items, has_place, kept_at};
-ghost use Rattle.frame_diff.specs.Values.{kept_forest, kept_from, kept_members, kept_of, more_by, value_shown};
+ghost use Rattle.frame_diff.specs.Values.{IsKeptBeside, IsSameKept, KeepsOnAt, entry_held, entry_items, has_place};
+ghost use Rattle.frame_diff.specs.Values.{kept_at, kept_forest, kept_from, kept_members, kept_of, more_by};
+ghost use Rattle.frame_diff.specs.Values.{value_shown};
 ghost use Rattle.frame_diff.specs.declared.kept.Entry.TheVariants as Entries;
 
 use crate::counters::is_passed;
-use crate::leaf::{Texts, Value};
+use crate::leaf::{Texts, Value, is_same};
 use crate::list::behind;
-use crate::path::join_place;
+use crate::path::{join, join_place};
 use crate::rows::{Row, tell_rows};
 use crate::side::Side;
 use crate::walk::{Attributes, Pass};
@@ -80,7 +82,7 @@ fn rows_of<'a>(alloc: Global, kept: Kept<'a>) -> Result<Vec<Row<'a>>, AllocError
     ensures { IfOk result (λ rows. (cx : Beside) → map (row_shown cx) rows.items
         ≡ kept_members kept.entry) }
 {
-    let mut rows = Vec::new(alloc);
+    let mut rows = Vec::with_capacity(alloc, 4)?;
     push(&mut rows, "number", Value::Number(kept.kind))?;
     push_name(&mut rows, kept.name)?;
     push(&mut rows, "flags", Value::Flags(kept.kind))?;
@@ -213,6 +215,40 @@ fn beside_entry<'a>(
     )
 }
 
+/// Whether what stands beside one that is kept says the same.
+fn is_same_kept(own: Kept<'_>, beside: Option<Kept<'_>>) -> bool
+    ensures { result ≡ true → IsSameKept own.entry beside.entry }
+{
+    let Some(other) = beside else {
+        return false;
+    };
+    other.kind == own.kind && own.name == other.name && is_same(own.payload, other.payload)
+}
+
+/// Tells of one that is kept, beside the one at its place, if there is one. One that says the same costs a look.
+fn tell_placed(
+    texts: &mut Texts,
+    cx: &Around<'_>,
+    theirs: &Around<'_>,
+    page: &mut Page,
+    path: &str,
+    side: Side,
+    place: usize,
+    own: Kept<'_>,
+    beside: Option<Kept<'_>>,
+) -> Result<(), AllocError>
+    ensures { OnOk result (page.new ≡ with_members (objects (items_told side
+        (joined (joined path.now (codes "other")) (decimal place))
+        (fields (kept_members own.entry)) (kept_forest beside.entry))) page.old) }
+{
+    if is_same_kept(own, beside) {
+        return Ok(());
+    }
+    let list = join(texts.alloc, path, "other")?;
+    let text = join_place(texts.alloc, list.as_str(), place)?;
+    tell_kept(texts, cx, theirs, page, text.as_str(), side, own, beside)
+}
+
 /// Tells of one in the list of those that are kept, beside the one at its place.
 fn tell_entry(
     texts: &mut Texts,
@@ -226,24 +262,16 @@ fn tell_entry(
     beside: Entry<'_>,
 ) -> Result<(), AllocError>
     requires { IsKeptBeside pass.is_state others place entry beside }
-    ensures { OnOk result (page.new ≡ with_members (objects (entry_items pass.side path.now place
+    ensures { OnOk result (page.new ≡ with_members (objects (entry_items pass.side
+        (joined path.now (codes "other")) place
         (kept_at pass.is_state others.entry) entry.entry)) page.old) }
 {
     let Entry::Kept(own) = entry else {
         return Ok(());
     };
-    let text = join_place(texts.alloc, path, place)?;
     let beside = kept_of(beside);
-    tell_kept(
-        texts,
-        cx,
-        others.around,
-        page,
-        text.as_str(),
-        pass.side,
-        own,
-        beside,
-    )
+    let theirs = others.around;
+    tell_placed(texts, cx, theirs, page, path, pass.side, place, own, beside)
 }
 
 /// The place of the next one.
@@ -257,7 +285,8 @@ fn more_by(entry: Entry<'_>, place: usize) -> usize
     }
 }
 
-/// Tells of the attributes of a list that are kept, each beside the one at its place in another list.
+/// Tells of the attributes of a list that are kept, each beside the one at its place in another list, as members of a
+/// list of their own.
 pub fn tell_others(
     texts: &mut Texts,
     pass: Pass,
@@ -266,7 +295,8 @@ pub fn tell_others(
     own: Attributes<'_>,
     others: Attributes<'_>,
 ) -> Result<(), AllocError>
-    ensures { OnOk result (page.new ≡ with_members (objects (items_told pass.side path.now
+    ensures { OnOk result (page.new
+        ≡ with_members (objects (items_told pass.side (joined path.now (codes "other"))
         (places (kept_at pass.is_state own.entry)) (places (kept_at pass.is_state others.entry))))
         page.old) }
 {

@@ -9,12 +9,13 @@ ghost use Rattle.link_info.specs.Tables.{frames_in};
 ghost use Rattle.shown.specs.Drafts.{with_members};
 ghost use Rattle.frame_shown.specs.Frames.{are_twice};
 ghost use Rattle.frame_shown.specs.Items.{objects};
+ghost use Rattle.frame_shown.specs.Tables.{is_kept};
 ghost use Rattle.frame_diff.specs.Beside.{held_of, is_named};
 ghost use Rattle.frame_diff.specs.Forests.{Step, comes, find, forest};
 ghost use Rattle.frame_diff.specs.Items.{items_told, joined};
-ghost use Rattle.frame_diff.specs.Walked.{AreAlike, AreOfFrame, HasRowOf, Holding, IsOf, IsOfNumber, IsTail};
-ghost use Rattle.frame_diff.specs.Walked.{NoneBehind, Showing, StandsSingle, frame_items, has_number, has_payload};
-ghost use Rattle.frame_diff.specs.Walked.{held_at, held_items};
+ghost use Rattle.frame_diff.specs.Walked.{AreAlike, AreOfFrame, HasNames, HasRowOf, Holding, IsOf, IsOfNumber, IsTail};
+ghost use Rattle.frame_diff.specs.Walked.{NoneBehind, NoneComes, Showing, StandsSingle, frame_items, has_payload};
+ghost use Rattle.frame_diff.specs.Walked.{held_at, held_items, is_row_alike};
 ghost use Rattle.frame_diff.specs.Walked.{is_kept_there, is_there, named_at, reading_at, row_items};
 
 use crate::leaf::{Texts, is_same};
@@ -99,16 +100,6 @@ fn find_attribute<'a>(list: Attributes<'a>, name: &str) -> Option<Attribute<'a>>
     }
 }
 
-/// Whether an attribute has this number, if there is one.
-fn has_number(number: u16, beside: Option<Attribute<'_>>) -> bool
-    ensures { result ≡ has_number number beside.entry }
-{
-    match beside {
-        Some(other) => other.number == number,
-        None => true,
-    }
-}
-
 /// Whether there is an attribute with this payload.
 fn has_payload(payload: &[u8], beside: Option<Attribute<'_>>) -> bool
     ensures { result ≡ has_payload payload.now beside.entry }
@@ -119,11 +110,14 @@ fn has_payload(payload: &[u8], beside: Option<Attribute<'_>>) -> bool
     }
 }
 
-/// Whether the row of an attribute is known to be that of the one beside it, in lists of which the rows are the same.
+/// Whether the row of an attribute is known to be that of the one beside it, if there is one.
 fn is_alike(pass: Pass, number: u16, beside: Option<Attribute<'_>>) -> bool
-    ensures { result ≡ (pass.is_alike && has_number number beside.entry) }
+    ensures { result ≡ is_row_alike pass.is_alike number beside.entry }
 {
-    pass.is_alike && has_number(number, beside)
+    match beside {
+        Some(other) => pass.is_alike && other.number == number,
+        None => true,
+    }
 }
 
 /// Tells of an attribute beside another one. Those that are the same are passed over at once.
@@ -136,7 +130,8 @@ fn tell_unless_same<W: Walk>(
     own: Attribute<'_>,
     beside: Option<Attribute<'_>>,
 ) -> Result<(), AllocError>
-    requires { pass.is_alike ≡ true → HasRowOf own beside }
+    requires names { HasNames own.around.now }
+    requires alike { pass.is_alike ≡ true → HasRowOf own beside }
     ensures { OnOk result (page.new
         ≡ with_members (objects (held_items pass.side (joined path.now name.now)
         (held_at W.nest W.inner pass.is_state own.entry)
@@ -163,6 +158,7 @@ fn tell_last<W: Walk>(
     name: &str,
     own: Attribute<'_>,
 ) -> Result<(), AllocError>
+    requires names { HasNames own.around.now }
     requires rows { pass.is_alike ≡ true → AreAlike behind others }
     requires row { IsOf behind own }
     ensures { OnOk result (page.new
@@ -177,6 +173,18 @@ fn tell_last<W: Walk>(
     tell_unless_same::<W>(texts, pass, page, path, name, own, beside)
 }
 
+/// Whether a member with this name is among those behind an attribute, if one can be.
+fn comes_too(is_single: bool, behind: Attributes<'_>, name: &str) -> bool
+    requires { is_single ≡ true → NoneComes behind name.now }
+    ensures { (nest : Showing) (inner : Holding) (is_state : Bool) → result
+        ≡ comes (Step.name name.now) (named_at nest inner is_state behind.entry) }
+{
+    if is_single {
+        return false;
+    }
+    comes(behind, name)
+}
+
 /// Tells of an attribute, unless it is kept as it is, or another one of its name comes behind it.
 fn tell_row<W: Walk>(
     texts: &mut Texts,
@@ -185,9 +193,13 @@ fn tell_row<W: Walk>(
     path: &str,
     behind: Attributes<'_>,
     others: Attributes<'_>,
+    is_single: bool,
     name: &str,
     own: Attribute<'_>,
 ) -> Result<(), AllocError>
+    requires names { HasNames own.around.now }
+    requires single { is_single ≡ true → is_kept own.way own.payload.now ≡ false
+        → NoneComes behind name.now }
     requires rows { pass.is_alike ≡ true → AreAlike behind others }
     requires row { IsOf behind own }
     ensures { OnOk result (page.new ≡ with_members (objects (row_items pass.side path.now
@@ -196,7 +208,10 @@ fn tell_row<W: Walk>(
         name.now own.entry.way own.entry.payload.now
         (held_at W.nest W.inner pass.is_state own.entry))) page.old) }
 {
-    if is_kept(own.way, own.payload) || comes(behind, name) {
+    if is_kept(own.way, own.payload) {
+        return Ok(());
+    }
+    if comes_too(is_single, behind, name) {
         return Ok(());
     }
     tell_last::<W>(texts, pass, page, path, behind, others, name, own)
@@ -210,9 +225,12 @@ fn tell_frame<W: Walk>(
     path: &str,
     behind: Attributes<'_>,
     others: Attributes<'_>,
+    is_single: bool,
     frame: &NlaBuffer<'_>,
 ) -> Result<(), AllocError>
-    requires { pass.is_alike ≡ true → AreAlike behind others }
+    requires names { HasNames behind.around.now }
+    requires single { is_single ≡ true → NoneBehind frame.now behind }
+    requires rows { pass.is_alike ≡ true → AreAlike behind others }
     ensures { OnOk result (page.new ≡ with_members (objects (frame_items pass.side path.now
         (reading_at W.nest W.inner pass.is_state behind.entry.around.now) behind.entry.list
         (forest (named_at W.nest W.inner pass.is_state others.entry))
@@ -227,7 +245,9 @@ fn tell_frame<W: Walk>(
         way,
         payload: frame.value(),
     };
-    tell_row::<W>(texts, pass, page, path, behind, others, name, own)
+    tell_row::<W>(
+        texts, pass, page, path, behind, others, is_single, name, own,
+    )
 }
 
 /// The first attribute, if it has this number.
@@ -326,6 +346,7 @@ fn tell_single<W: Walk>(
     frame: &NlaBuffer<'_>,
     beside: &Option<NlaBuffer<'_>>,
 ) -> Result<(), AllocError>
+    requires names { HasNames behind.around.now }
     requires alike { pass.is_alike ≡ true }
     requires rows { AreAlike behind others }
     requires none { NoneBehind frame.now behind }
@@ -339,10 +360,10 @@ fn tell_single<W: Walk>(
     let own = attribute(behind, frame);
     let there = attribute_there(others, beside);
     if is_kept(own.way, own.payload) {
-        return tell_frame::<W>(texts, pass, page, path, behind, others, frame);
+        return tell_frame::<W>(texts, pass, page, path, behind, others, true, frame);
     }
     if is_kept_there(there) {
-        return tell_frame::<W>(texts, pass, page, path, behind, others, frame);
+        return tell_frame::<W>(texts, pass, page, path, behind, others, true, frame);
     }
     let (name, _) = row_in(behind.around, behind.list, own.number);
     tell_unless_same::<W>(texts, pass, page, path, name, own, there)
@@ -359,6 +380,7 @@ fn tell_found<W: Walk>(
     frame: &NlaBuffer<'_>,
     beside: &Option<NlaBuffer<'_>>,
 ) -> Result<(), AllocError>
+    requires names { HasNames behind.around.now }
     requires alike { pass.is_alike ≡ true }
     requires rows { AreAlike behind others }
     requires none { NoneBehind frame.now behind }
@@ -385,9 +407,12 @@ fn tell_next<'a, W: Walk>(
     behind: Attributes<'_>,
     others: Attributes<'a>,
     frame: &NlaBuffer<'_>,
+    is_single: bool,
     is_once: bool,
     there: &'a [u8],
 ) -> Result<&'a [u8], AllocError>
+    requires names { HasNames behind.around.now }
+    requires single { is_single ≡ true → NoneBehind frame.now behind }
     requires rows { pass.is_alike ≡ true → AreAlike behind others }
     requires once { is_once ≡ true → StandsSingle pass.is_alike behind others frame.now }
     requires tail { IsTail others.bytes.now there.now }
@@ -398,7 +423,7 @@ fn tell_next<'a, W: Walk>(
     ensures tail { IfOk result (λ next. IsTail others.entry.bytes.now next.now) }
 {
     if !is_once {
-        tell_frame::<W>(texts, pass, page, path, behind, others, frame)?;
+        tell_frame::<W>(texts, pass, page, path, behind, others, is_single, frame)?;
         return Ok(there);
     }
     let (beside, next) = look_up(frame.kind(), there, others.bytes);
@@ -406,20 +431,19 @@ fn tell_next<'a, W: Walk>(
     Ok(next)
 }
 
-/// Whether the rows of two lists are known to be the same, and no number stands twice in this one.
-pub(crate) fn is_single(pass: Pass, own: Attributes<'_>) -> bool
-    ensures { result ≡ true
-        → (pass.is_alike ≡ true) × (are_twice (items own.entry.bytes.now) ≡ false) }
+/// Whether no number stands twice in a list.
+pub(crate) fn is_single(own: Attributes<'_>) -> bool
+    ensures { result ≡ true → are_twice (items own.entry.bytes.now) ≡ false }
 {
-    pass.is_alike && !has_twice(own.bytes)
+    !has_twice(own.bytes)
 }
 
-/// Whether no number stands twice in another list either.
-fn is_once(is_single: bool, others: Attributes<'_>) -> bool
-    ensures { result ≡ true
-        → (is_single ≡ true) × (are_twice (items others.entry.bytes.now) ≡ false) }
+/// Whether no number stands twice in another list either, of which the rows are known to be the same.
+fn is_once(pass: Pass, is_single: bool, others: Attributes<'_>) -> bool
+    ensures { result ≡ true → (pass.is_alike ≡ true) × (is_single ≡ true)
+        × (are_twice (items others.entry.bytes.now) ≡ false) }
 {
-    is_single && !has_twice(others.bytes)
+    pass.is_alike && is_single && !has_twice(others.bytes)
 }
 
 /// Tells of the attributes of a list that have a name, each beside that of its name in another list. Where the rows of
@@ -433,14 +457,14 @@ pub fn tell_named<W: Walk>(
     others: Attributes<'_>,
     is_single: bool,
 ) -> Result<(), AllocError>
+    requires names { HasNames own.around.now }
     requires rows { pass.is_alike ≡ true → AreAlike own others }
-    requires single { is_single ≡ true
-        → (pass.is_alike ≡ true) × (are_twice (items own.bytes.now) ≡ false) }
+    requires single { is_single ≡ true → are_twice (items own.bytes.now) ≡ false }
     ensures { OnOk result (page.new ≡ with_members (objects (items_told pass.side path.now
         (forest (named_at W.nest W.inner pass.is_state own.entry))
         (forest (named_at W.nest W.inner pass.is_state others.entry)))) page.old) }
 {
-    let is_once = is_once(is_single, others);
+    let is_once = is_once(pass, is_single, others);
     let mut rest = own.bytes;
     let mut there = others.bytes;
     for item in NlasIterator::new(own.bytes) {
@@ -450,7 +474,7 @@ pub fn tell_named<W: Walk>(
         rest = behind(rest, &frame);
         let left = Attributes { bytes: rest, ..own };
         there = tell_next::<W>(
-            texts, pass, page, path, left, others, &frame, is_once, there,
+            texts, pass, page, path, left, others, &frame, is_single, is_once, there,
         )?;
     }
     Ok(())

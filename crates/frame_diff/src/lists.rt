@@ -11,11 +11,12 @@ ghost use Rattle.frame_diff.specs.Inside.{above, has_none, inside_list, is_of_ob
 ghost use Rattle.frame_diff.specs.Items.{items_told, step_text};
 ghost use Rattle.frame_diff.specs.Members.{is_some};
 ghost use Rattle.frame_diff.specs.Repeated.{members_at};
-ghost use Rattle.frame_diff.specs.Walked.{AreBeside, Holding, Showing};
+ghost use Rattle.frame_diff.specs.Walked.{AreAlike, AreBeside, HasNames, Holding, Showing};
 
 use crate::groups::tell_group;
+use crate::kept::tell_others;
 use crate::leaf::Texts;
-use crate::members::{tell_kept, tell_members};
+use crate::members::tell_members;
 use crate::same::is_same_list;
 use crate::walk::{Attributes, Pass, Walk};
 use frame_shown::form::List;
@@ -61,25 +62,30 @@ pub(crate) fn none_of<'a>(own: Attributes<'a>) -> Attributes<'a>
     Attributes { bytes: &[], ..own }
 }
 
-/// Another list that is shown as an object, and whether it has the rows of this one; a list without attributes where it
-/// is none.
-fn object_beside<'a>(own: Attributes<'a>, beside: Option<Attributes<'a>>) -> (Attributes<'a>, bool)
+/// Another list that is shown as an object, and whether its rows are known to be those of this one; a list without
+/// attributes where it is none.
+fn object_beside<'a>(
+    is_alike: bool,
+    own: Attributes<'a>,
+    beside: Option<Attributes<'a>>,
+) -> (Attributes<'a>, bool)
+    requires names { HasNames own.around.now }
+    requires alike { is_alike ≡ true → AreBeside own beside }
     ensures found { (nest : Showing) (inner : Holding) (is_state : Bool) (s : Step)
         → is_of_object s ≡ true
         → find s (forest (members_at nest inner is_state result.0))
         ≡ find s (inside_list (above nest inner) is_state beside.entry) }
-    ensures rows { result.1 ≡ true
-        → (beside.entry ≡ Some result.0) × (own.entry.list ≡ result.0.list) }
+    ensures rows { result.1 ≡ true → AreAlike own.entry result.0 }
 {
     match beside {
         Some(other) => {
             if is_object(other.list) {
-                (other, is_same_list(own.list, other.list))
+                (other, is_alike && is_same_list(own.list, other.list))
             } else {
-                (none_of(own), false)
+                (none_of(own), true)
             }
         }
-        None => (none_of(own), false),
+        None => (none_of(own), true),
     }
 }
 
@@ -93,13 +99,13 @@ pub(crate) fn tell_object<W: Walk>(
     beside: Option<Attributes<'_>>,
 ) -> Result<(), AllocError>
     requires object { is_group own.list ≡ false }
+    requires names { HasNames own.around.now }
     requires alike { pass.is_alike ≡ true → AreBeside own beside }
     ensures { OnOk result (page.new ≡ with_members (objects (items_told pass.side path.now
         (inside_list (above W.nest W.inner) pass.is_state (Some own.entry))
         (inside_list (above W.nest W.inner) pass.is_state beside.entry))) page.old) }
 {
-    let (others, has_rows) = object_beside(own, beside);
-    let is_alike = pass.is_alike_too(has_rows);
+    let (others, is_alike) = object_beside(pass.is_alike, own, beside);
     tell_members::<W>(texts, Pass { is_alike, ..pass }, page, path, own, others)
 }
 
@@ -145,7 +151,7 @@ fn tell_rest<W: Walk>(
         (inside_list (above W.nest W.inner) pass.is_state beside.entry))) page.old) }
 {
     let others = listed_beside(own, beside);
-    tell_kept(texts, pass, page, path, own, others)
+    tell_others(texts, pass, page, path, own, others)
 }
 
 /// Tells of a list of values, and of those that are kept beside it.
@@ -159,6 +165,7 @@ fn tell_listed<W: Walk>(
     beside: Option<Attributes<'_>>,
 ) -> Result<(), AllocError>
     requires listed { (is_group own.list && not (is_entries own.list)) ≡ true }
+    requires names { HasNames own.around.now }
     requires alike { pass.is_alike ≡ true → AreBeside own beside }
     requires name { name.now ≡ step_text (group_step own.list) }
     ensures { OnOk result (page.new ≡ with_members (objects (items_told pass.side path.now
@@ -180,6 +187,7 @@ fn tell_entries<W: Walk>(
     beside: Option<Attributes<'_>>,
 ) -> Result<(), AllocError>
     requires entries { is_entries own.list ≡ true }
+    requires names { HasNames own.around.now }
     requires alike { pass.is_alike ≡ true → AreBeside own beside }
     requires name { name.now ≡ step_text (group_step own.list) }
     ensures { OnOk result (page.new ≡ with_members (objects (items_told pass.side path.now
@@ -198,7 +206,8 @@ pub(crate) fn tell_list_by<W: Walk>(
     own: Attributes<'_>,
     beside: Option<Attributes<'_>>,
 ) -> Result<(), AllocError>
-    requires { pass.is_alike ≡ true → AreBeside own beside }
+    requires names { HasNames own.around.now }
+    requires alike { pass.is_alike ≡ true → AreBeside own beside }
     ensures { OnOk result (page.new ≡ with_members (objects (items_told pass.side path.now
         (inside_list (above W.nest W.inner) pass.is_state (Some own.entry))
         (inside_list (above W.nest W.inner) pass.is_state beside.entry))) page.old) }

@@ -9,7 +9,6 @@ ghost use Rattle.frame_diff.specs.Forests.{forest};
 ghost use Rattle.frame_diff.specs.Items.{items_told, joined};
 ghost use Rattle.frame_diff.specs.Members.{places};
 ghost use Rattle.frame_diff.specs.Repeated.{earlier_at, members_at};
-ghost use Rattle.frame_diff.specs.Values.{kept_at};
 ghost use Rattle.frame_diff.specs.Walked.{AreAlike, HasNames};
 
 use crate::again::tell_repeated;
@@ -31,8 +30,9 @@ fn tell_again<W: Walk>(
     others: Attributes<'_>,
     is_single: bool,
 ) -> Result<(), AllocError>
-    requires { is_single ≡ true
-        → HasNames own.around.now × (are_twice (items own.bytes.now) ≡ false) }
+    requires names { HasNames own.around.now }
+    requires single { is_single ≡ true → are_twice (items own.bytes.now) ≡ false }
+    requires rows { pass.is_alike ≡ true → AreAlike own others }
     ensures { OnOk result (page.new
         ≡ with_members (objects (items_told pass.side (joined path.now (codes "repeated"))
         (places (earlier_at W.nest W.inner pass.is_state own.entry))
@@ -45,24 +45,6 @@ fn tell_again<W: Walk>(
     tell_repeated::<W>(texts, pass, page, text.as_str(), own, others)
 }
 
-/// Tells of the attributes that are kept as they are.
-pub(crate) fn tell_kept(
-    texts: &mut Texts,
-    pass: Pass,
-    page: &mut Page,
-    path: &str,
-    own: Attributes<'_>,
-    others: Attributes<'_>,
-) -> Result<(), AllocError>
-    ensures { OnOk result (page.new
-        ≡ with_members (objects (items_told pass.side (joined path.now (codes "other"))
-        (places (kept_at pass.is_state own.entry)) (places (kept_at pass.is_state others.entry))))
-        page.old) }
-{
-    let text = join(texts.alloc, path, "other")?;
-    tell_others(texts, pass, page, text.as_str(), own, others)
-}
-
 /// Tells of the attributes of a list that is shown as an object, beside those of another one: of each name the last
 /// one, then those behind which another one of their name stands, and those that are kept as they are, by their places.
 pub fn tell_members<W: Walk>(
@@ -73,13 +55,14 @@ pub fn tell_members<W: Walk>(
     own: Attributes<'_>,
     others: Attributes<'_>,
 ) -> Result<(), AllocError>
-    requires { pass.is_alike ≡ true → AreAlike own others }
+    requires names { HasNames own.around.now }
+    requires rows { pass.is_alike ≡ true → AreAlike own others }
     ensures { OnOk result (page.new ≡ with_members (objects (items_told pass.side path.now
         (forest (members_at W.nest W.inner pass.is_state own.entry))
         (forest (members_at W.nest W.inner pass.is_state others.entry)))) page.old) }
 {
-    let is_single = is_single(pass, own);
+    let is_single = is_single(own);
     tell_named::<W>(texts, pass, page, path, own, others, is_single)?;
     tell_again::<W>(texts, pass, page, path, own, others, is_single)?;
-    tell_kept(texts, pass, page, path, own, others)
+    tell_others(texts, pass, page, path, own, others)
 }

@@ -63,7 +63,7 @@ impl<'a> Message<'a> {
 fn header_rows<'a>(alloc: Global, bytes: &[u8]) -> Result<Vec<Row<'a>>, AllocError>
     ensures { IfOk result (λ rows. (cx : Beside) → map (row_shown cx) rows.items ≡ header_members bytes.now) }
 {
-    let mut rows = Vec::new(alloc);
+    let mut rows = Vec::with_capacity(alloc, 5)?;
     rows.push(Row {
         name: "ifi-family",
         value: Value::Unsigned(u8_at(bytes, 0).into()),
@@ -87,7 +87,7 @@ fn header_rows<'a>(alloc: Global, bytes: &[u8]) -> Result<Vec<Row<'a>>, AllocErr
     Ok(rows)
 }
 
-/// Tells of the header of a message beside that of another one.
+/// Tells of the header of a message beside that of another one. Both have all fields, so none comes.
 fn tell_header(
     texts: &mut Texts,
     cx: &Around<'_>,
@@ -100,9 +100,14 @@ fn tell_header(
     ensures { OnOk result (page.new ≡ with_members (objects (items_told side []
         (fields (header_members own.now)) (fields (header_members others.now)))) page.old) }
 {
-    let rows = header_rows(texts.alloc, own)?;
-    let there = header_rows(texts.alloc, others)?;
-    tell_rows(texts, cx, theirs, page, "", side, &rows, &there)
+    match side {
+        Side::Old => {
+            let rows = header_rows(texts.alloc, own)?;
+            let there = header_rows(texts.alloc, others)?;
+            tell_rows(texts, cx, theirs, page, "", side, &rows, &there)
+        }
+        Side::New => Ok(()),
+    }
 }
 
 /// What the attributes of a message are shown by.
@@ -132,7 +137,8 @@ fn tell_attributes(
     own: Message<'_>,
     others: Message<'_>,
 ) -> Result<(), AllocError>
-    requires { pass.is_alike ≡ true → (cx.now ≡ theirs.now) × AreAllRows cx.now.tables.now }
+    requires rows { AreAllRows cx.now.tables.now }
+    requires alike { pass.is_alike ≡ true → cx.now ≡ theirs.now }
     ensures { OnOk result (page.new ≡ with_members (objects (items_told pass.side []
         (forest (attributes_in pass.is_state cx.now (slice_index own.entry.header.now 0)
         own.entry.attributes.now))
@@ -174,6 +180,8 @@ fn tell_refused(
     own: &[u8],
     others: &[u8],
 ) -> Result<(), AllocError>
+    requires rows { AreAllRows cx.now.tables.now }
+    requires alike { pass.is_alike ≡ true → cx.now ≡ theirs.now }
     ensures { OnOk result (page.new ≡ with_members (objects (items_told pass.side []
         (forest (refused_in pass.is_state cx.now own.now))
         (forest (refused_in pass.is_state theirs.now others.now)))) page.old) }
@@ -191,10 +199,6 @@ fn tell_refused(
         list: List::Refused,
         bytes: others,
     };
-    let pass = Pass {
-        is_alike: false,
-        ..pass
-    };
     Flat::tell_list(texts, pass, page, "refused", list, Some(beside))
 }
 
@@ -209,7 +213,8 @@ pub fn tell_side(
     own: Message<'_>,
     others: Message<'_>,
 ) -> Result<(), AllocError>
-    requires { pass.is_alike ≡ true → (cx.now ≡ theirs.now) × AreAllRows cx.now.tables.now }
+    requires rows { AreAllRows cx.now.tables.now }
+    requires alike { pass.is_alike ≡ true → cx.now ≡ theirs.now }
     ensures { OnOk result (page.new ≡ with_members (objects (items_told pass.side []
         (message_forest pass.is_state cx.now (parts_of own.entry))
         (message_forest pass.is_state theirs.now (parts_of others.entry)))) page.old) }

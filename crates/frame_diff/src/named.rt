@@ -8,15 +8,17 @@ ghost use Rattle.frame_diff.specs.Beside.{held_of, is_named, last_named};
 ghost use Rattle.frame_diff.specs.Forests.{Step, find, forest};
 ghost use Rattle.frame_diff.specs.Members.{Inner, Reading, named_in};
 
-use frame_shown::form::{Around, List, is_kept, row_in};
+use frame_shown::form::{Around, List, name_in};
 use nla_wire::{NlaBuffer, NlasIterator};
 
 /// Whether an attribute is told under this name.
 pub fn is_named(cx: &Around<'_>, list: List, name: &str, frame: &NlaBuffer<'_>) -> bool
     ensures { result ≡ is_named cx.now list name.now frame.now }
 {
-    let (own, way) = row_in(cx, list, frame.kind());
-    !is_kept(way, frame.value()) && own == name
+    match name_in(cx, list, frame.kind(), frame.value()) {
+        Some(own) => own == name,
+        None => false,
+    }
 }
 
 /// The last attribute that is told under this name.

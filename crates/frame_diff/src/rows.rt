@@ -1,6 +1,7 @@
 //! What a payload holds, and what the fields of a record tell beside those of another one.
 
-ghost use Rattle.std.specs.Prelude.{◌≡◌, ◌++◌, [], ◌∷◌, IfOk, OnOk, drop, length, map, option_map};
+ghost use Rattle.std.specs.Prelude.{◌≡◌, ◌++◌, [], ◌∷◌, IfOk, OnOk, Some, drop, length, map, option_map};
+ghost use Rattle.std.specs.Prelude.{true};
 ghost use Rattle.std.specs.List.{list_any};
 ghost use Rattle.link_info.specs.Meanings.{read_as};
 ghost use Rattle.link_info.specs.Styles.{plain_size, record_size};
@@ -16,13 +17,15 @@ ghost use Rattle.frame_diff.specs.Forests.{Forest, comes, field_step, find};
 ghost use Rattle.frame_diff.specs.Items.{items_told};
 ghost use Rattle.frame_diff.specs.Members.{Inner, fields, fields_kept, form_inside, ipv6_inside, is_some};
 ghost use Rattle.frame_diff.specs.Members.{held_inside, meaning_inside, named, way_inside};
-ghost use Rattle.frame_diff.specs.Rows.{clearing, inside_by, is_under, last_value, row_shown};
+ghost use Rattle.frame_diff.specs.Rows.{clearing, first_row, have_same_names, inside_by, is_first, is_under};
+ghost use Rattle.frame_diff.specs.Rows.{last_value};
+ghost use Rattle.frame_diff.specs.Rows.{row_beside, row_shown, rows_beside};
 ghost use Rattle.frame_diff.specs.Values.{value_shown};
 ghost use Rattle.frame_diff.specs.Walked.{last_items};
 
 use crate::counters::{Cleared, cleared_part, is_passed};
 use crate::fields::{counter_rows, event_rows, ipv6_rows, member_rows, record_rows, settings_rows};
-use crate::leaf::{Texts, Value, tell_step};
+use crate::leaf::{Texts, Value, is_shown_same, put_step, tell_step};
 use crate::side::Side;
 use crate::walk::Attribute;
 use frame_shown::depth::Bottom;
@@ -302,8 +305,147 @@ fn tell_row(
     )
 }
 
-/// Tells of the fields of a record beside those of another one.
-pub fn tell_rows(
+/// The first field, if there is one.
+fn first<'a>(rows: &[Row<'a>]) -> Option<Row<'a>>
+    ensures { result ≡ first_row rows.now }
+{
+    match rows.first() {
+        Some(row) => Some(*row),
+        None => None,
+    }
+}
+
+/// Whether the first field has this name.
+fn is_first(rows: &[Row<'_>], name: &str) -> bool
+    ensures { result ≡ is_first name.now (first_row rows.now) }
+{
+    match first(rows) {
+        Some(row) => row.name == name,
+        None => false,
+    }
+}
+
+/// Whether two records have the same names, in the same order.
+fn have_same_names(own: &[Row<'_>], others: &[Row<'_>]) -> bool
+    ensures { result ≡ have_same_names own.now others.now }
+{
+    let mut there = others;
+    for row in own {
+        if !is_first(there, row.name) {
+            return false;
+        }
+        there = rest_of(there);
+    }
+    there.is_empty()
+}
+
+/// Tells of a field beside another one, which is the first one of these and has its name: where it turned, unless one of
+/// its name comes behind it.
+fn tell_pair(
+    texts: &mut Texts,
+    cx: &Around<'_>,
+    theirs: &Around<'_>,
+    page: &mut Page,
+    path: &str,
+    own: Row<'_>,
+    other: Row<'_>,
+    behind: &[Row<'_>],
+    there: &[Row<'_>],
+) -> Result<(), AllocError>
+    requires first { first_row there.now ≡ Some other }
+    requires same { have_same_names (own ∷ behind.now) there.now ≡ true }
+    ensures { OnOk result (page.new ≡ with_members
+        (objects (row_beside cx.now theirs.now path.now own.entry behind.now there.now)) page.old) }
+{
+    let is_same = is_shown_same::<Bottom>(texts, cx, theirs, own.value, other.value)?;
+    if is_same {
+        return Ok(());
+    }
+    if comes(behind, own.name) {
+        return Ok(());
+    }
+    put_step::<Bottom>(
+        texts,
+        cx,
+        theirs,
+        page,
+        path,
+        own.name,
+        own.value,
+        other.value,
+    )
+}
+
+/// Tells of a field beside the first one of these, which has its name.
+fn tell_first(
+    texts: &mut Texts,
+    cx: &Around<'_>,
+    theirs: &Around<'_>,
+    page: &mut Page,
+    path: &str,
+    own: Row<'_>,
+    behind: &[Row<'_>],
+    there: &[Row<'_>],
+) -> Result<(), AllocError>
+    requires { have_same_names (own ∷ behind.now) there.now ≡ true }
+    ensures { OnOk result (page.new ≡ with_members
+        (objects (row_beside cx.now theirs.now path.now own.entry behind.now there.now)) page.old) }
+{
+    match first(there) {
+        Some(other) => tell_pair(texts, cx, theirs, page, path, own, other, behind, there),
+        None => Ok(()),
+    }
+}
+
+/// Tells of the fields of an old record beside those of a new one that has the same names, in the same order.
+fn tell_firsts(
+    texts: &mut Texts,
+    cx: &Around<'_>,
+    theirs: &Around<'_>,
+    page: &mut Page,
+    path: &str,
+    own: &[Row<'_>],
+    others: &[Row<'_>],
+) -> Result<(), AllocError>
+    requires { have_same_names own.now others.now ≡ true }
+    ensures { OnOk result (page.new ≡ with_members
+        (objects (rows_beside cx.now theirs.now path.now own.now others.now)) page.old) }
+{
+    let mut behind = own;
+    let mut there = others;
+    for row in own {
+        behind = rest_of(behind);
+        tell_first(texts, cx, theirs, page, path, *row, behind, there)?;
+        there = rest_of(there);
+    }
+    Ok(())
+}
+
+/// Tells of the fields of a record beside those of one that has the same names, in the same order: of what turned. None
+/// came, and none went.
+fn tell_same_names(
+    texts: &mut Texts,
+    cx: &Around<'_>,
+    theirs: &Around<'_>,
+    page: &mut Page,
+    path: &str,
+    side: Side,
+    own: &[Row<'_>],
+    others: &[Row<'_>],
+) -> Result<(), AllocError>
+    requires { have_same_names own.now others.now ≡ true }
+    ensures { OnOk result (page.new ≡ with_members (objects (items_told side path.now
+        (fields (map (row_shown cx.now) own.now)) (fields (map (row_shown theirs.now) others.now))))
+        page.old) }
+{
+    match side {
+        Side::Old => tell_firsts(texts, cx, theirs, page, path, own, others),
+        Side::New => Ok(()),
+    }
+}
+
+/// Tells of the fields of a record beside those of another one, each beside the one of its name.
+fn tell_each(
     texts: &mut Texts,
     cx: &Around<'_>,
     theirs: &Around<'_>,
@@ -323,4 +465,25 @@ pub fn tell_rows(
         tell_row(texts, cx, theirs, page, path, side, *row, behind, others)?;
     }
     Ok(())
+}
+
+/// Tells of the fields of a record beside those of another one.
+pub fn tell_rows(
+    texts: &mut Texts,
+    cx: &Around<'_>,
+    theirs: &Around<'_>,
+    page: &mut Page,
+    path: &str,
+    side: Side,
+    own: &[Row<'_>],
+    others: &[Row<'_>],
+) -> Result<(), AllocError>
+    ensures { OnOk result (page.new ≡ with_members (objects (items_told side path.now
+        (fields (map (row_shown cx.now) own.now)) (fields (map (row_shown theirs.now) others.now))))
+        page.old) }
+{
+    if have_same_names(own, others) {
+        return tell_same_names(texts, cx, theirs, page, path, side, own, others);
+    }
+    tell_each(texts, cx, theirs, page, path, side, own, others)
 }

@@ -2,7 +2,7 @@
 
 ghost use Rattle.std.specs.Prelude.{◌≡◌};
 ghost use Rattle.shown.specs.Keys.{IsKey};
-ghost use Rattle.frame_diff.specs.Sides.{side_name};
+ghost use Rattle.frame_diff.specs.Sides.{is_new, side_name};
 
 /// Which of two messages is gone through.
 #[derive(Clone, Copy, Drop)]
@@ -14,6 +14,16 @@ pub enum Side {
 }
 
 impl Side {
+    /// Whether it is the new one.
+    pub(crate) fn is_new(self) -> bool
+        ensures { result ≡ is_new self }
+    {
+        match self {
+            Side::Old => false,
+            Side::New => true,
+        }
+    }
+
     /// The name of its value in a change.
     pub fn name(self) -> &'static str
         ensures name { result.now ≡ side_name self }

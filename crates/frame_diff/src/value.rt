@@ -10,7 +10,8 @@ ghost use Rattle.frame_diff.specs.Inside.{HoldsNoField, has_none, inside_list, i
 ghost use Rattle.frame_diff.specs.Items.{items_told, leaf_items};
 ghost use Rattle.frame_diff.specs.Members.{fields, named};
 ghost use Rattle.frame_diff.specs.Rows.{inside_by, row_shown};
-ghost use Rattle.frame_diff.specs.Walked.{AreBeside, HasRowOf, Holding, Showing, StandsInside, held_at, held_items};
+ghost use Rattle.frame_diff.specs.Walked.{AreBeside, HasNames, HasRowOf, Holding, Showing, StandsInside, held_at};
+ghost use Rattle.frame_diff.specs.Walked.{held_items};
 ghost use Rattle.frame_diff.specs.declared.walk.Attributes.{Attributes as Lists};
 
 use crate::leaf::{Texts, Value, tell_leaf};
@@ -213,7 +214,8 @@ fn tell_inside<W: Walk>(
     own: Attributes<'_>,
     beside: Option<Attribute<'_>>,
 ) -> Result<(), AllocError>
-    requires { pass.is_alike ≡ true → StandsInside own beside }
+    requires names { HasNames own.around.now }
+    requires alike { pass.is_alike ≡ true → StandsInside own beside }
     ensures { OnOk result (page.new ≡ with_members (objects (items_told pass.side path.now
         (inside_list W.inner pass.is_state (Some own.entry))
         (inside_in (option_map (held_at W.nest W.inner pass.is_state) beside.entry)))) page.old) }
@@ -233,7 +235,8 @@ fn tell_held<W: Walk>(
     held: &Holds<'_>,
     beside: Option<Attribute<'_>>,
 ) -> Result<(), AllocError>
-    requires { pass.is_alike ≡ true → HasRowOf own beside }
+    requires names { HasNames own.around.now }
+    requires alike { pass.is_alike ≡ true → HasRowOf own beside }
     ensures { OnOk result (page.new ≡ with_members (objects (items_told pass.side path.now
         (inside_by (W.inner pass.is_state own.entry.around.now) own.entry.around.now held.now)
         (inside_in (option_map (held_at W.nest W.inner pass.is_state) beside.entry)))) page.old) }
@@ -261,7 +264,8 @@ pub fn tell_value<W: Walk>(
     own: Attribute<'_>,
     beside: Option<Attribute<'_>>,
 ) -> Result<(), AllocError>
-    requires { pass.is_alike ≡ true → HasRowOf own beside }
+    requires names { HasNames own.around.now }
+    requires alike { pass.is_alike ≡ true → HasRowOf own beside }
     ensures { OnOk result (page.new ≡ with_members (objects (held_items pass.side path.now
         (held_at W.nest W.inner pass.is_state own.entry)
         (option_map (held_at W.nest W.inner pass.is_state) beside.entry))) page.old) }

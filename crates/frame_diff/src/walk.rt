@@ -1,6 +1,6 @@
 //! What is gone through, and how deep.
 
-ghost use Rattle.std.specs.Prelude.{◌≡◌, ◌&&◌, ℕ, Bool, List as Seq, OnOk, Some, true};
+ghost use Rattle.std.specs.Prelude.{◌≡◌, ℕ, Bool, List as Seq, OnOk, Some, true};
 ghost use Rattle.shown.specs.Drafts.{with_members};
 ghost use Rattle.frame_shown.specs.Items.{objects};
 ghost use Rattle.frame_shown.specs.declared.form.Around.{Around as Beside};
@@ -8,7 +8,7 @@ ghost use Rattle.frame_shown.specs.declared.form.List.{List as Shape};
 ghost use Rattle.frame_diff.specs.Inside.{HoldsNoField, has_none, inside_list};
 ghost use Rattle.frame_diff.specs.Items.{items_told};
 ghost use Rattle.frame_diff.specs.Members.{is_nest};
-ghost use Rattle.frame_diff.specs.Walked.{AreBeside, Holding, HoldsApart};
+ghost use Rattle.frame_diff.specs.Walked.{AreBeside, HasNames, Holding, HoldsApart};
 
 use crate::leaf::Texts;
 use crate::side::Side;
@@ -26,15 +26,6 @@ pub struct Pass {
     pub side: Side,
     /// Whether both are known to be shown by the same, beside their rows.
     pub is_alike: bool,
-}
-
-impl Pass {
-    /// Whether both are known to be shown by the same, and this holds too.
-    pub(crate) fn is_alike_too(self, holds: bool) -> bool
-        ensures { result ≡ (self.is_alike && holds) }
-    {
-        self.is_alike && holds
-    }
 }
 
 /// A list of attributes.
@@ -85,7 +76,8 @@ pub trait Walk: Depth {
         own: Attributes<'_>,
         beside: Option<Attributes<'_>>,
     ) -> Result<(), AllocError>
-        requires { pass.is_alike ≡ true → AreBeside own beside }
+        requires names { HasNames own.around.now }
+        requires alike { pass.is_alike ≡ true → AreBeside own beside }
         ensures { OnOk result (page.new ≡ with_members (objects (items_told pass.side path.now
             (inside_list inner pass.is_state (Some own.entry)) (inside_list inner pass.is_state beside.entry)))
             page.old) };

@@ -1,6 +1,6 @@
 //! Tables: how the payload of each number of a list is shown.
 
-ghost use Rattle.std.specs.Prelude.{◌≡◌, ◌<◌, ℕ, List as Seq, false, get_or, map, true};
+ghost use Rattle.std.specs.Prelude.{◌≡◌, ◌<◌, ℕ, List as Seq, MatchOption, false, get_or, map, true};
 ghost use Rattle.link_info.specs.Rows.{AreAllRows};
 ghost use Rattle.link_info.specs.declared.style.Style.TheVariants as Styles;
 ghost use Rattle.shown.specs.Keys.{IsKey};
@@ -594,6 +594,19 @@ pub(crate) fn found_in(cx: &Around<'_>, list: &List, number: u16) -> Found
         List::Info(link, port) => info_row(cx, link, port, number),
         List::Refused => refused_row(number),
     }
+}
+
+/// The name that an attribute is shown under, unless it is kept as it is.
+pub fn name_in(cx: &Around<'_>, list: List, number: u16, payload: &[u8]) -> Option<&'static str>
+    ensures { MatchOption result (is_kept (row_in cx.now list number).1 payload.now ≡ true)
+        (λ name. (is_kept (row_in cx.now list number).1 payload.now ≡ false)
+        × (name.now ≡ (row_in cx.now list number).0)) }
+{
+    let (name, manner) = found_in(cx, &list, number);
+    if is_kept_by(manner, payload) {
+        return None;
+    }
+    Some(name)
 }
 
 /// The row of a number in a list.

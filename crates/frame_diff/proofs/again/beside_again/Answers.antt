@@ -4,8 +4,8 @@ use Rattle.frame_diff.specs.declared.again.Named.{Named}
 use Rattle.frame_diff.proofs.Repeated.{stands_beside}
 use Rattle.frame_diff.proofs.again.beside_again.Goals as goal
 
-pub returns-in-Some : goal.returns-in-Some
-returns-in-Some c nest inner is_state place goes =
+pub returns-in-Some-clause-place : goal.returns-in-Some-clause-place
+returns-in-Some-clause-place c nest inner is_state place goes =
     subst (λ (e : Option Named). IsBeside nest inner is_state c.args.others place e c.next_again.result.0
     × GoesOnAt nest inner is_state c.args.others (place_by e place) c.next_again.result.1.now)
     (sym c.in-Some.is)

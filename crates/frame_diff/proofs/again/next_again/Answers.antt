@@ -19,7 +19,7 @@ returns-then-is_some-clause-cut c nest inner is_state =
     sym (c.loop-item.invariant.left nest inner is_state)
     ∙ split nest inner is_state list.list c.in-Ok.frame r c.again-own.result c.loop-item.item-iterator
     c.next.new.self here
-    (c.again-own.ensures nest inner is_state
+    (c.again-own.ensures.held nest inner is_state
     ∙ ap (λ xs. again_in r list.list (named_in r list.list (frames_in xs)) c.in-Ok.frame) left)
     ∙ ap (λ xs. again_held nest inner is_state c.again-own.result
     ++ earlier (named_in r list.list (frames_in xs))) (sym left)
@@ -37,7 +37,7 @@ loop-item-preserved c =
           let r = reading_at nest inner is_state list.around.now in
           not_again nest inner is_state list.list c.in-Ok.frame r c.again-own.result c.loop-item.item-iterator
           c.next.new.self here
-          (c.again-own.ensures nest inner is_state
+          (c.again-own.ensures.held nest inner is_state
           ∙ ap (λ xs. again_in r list.list (named_in r list.list (frames_in xs)) c.in-Ok.frame) left)
           (earlier_at nest inner is_state list) (sym c.is_some.ensures ∙ c.if-is_some.false)
           (c.loop-item.invariant.left nest inner is_state);

@@ -7,6 +7,7 @@ use Rattle.frame_diff.specs.Groups.{group_at, is_entries, value_at}
 use Rattle.frame_diff.specs.Items.{items_told}
 use Rattle.frame_diff.specs.Members.{places}
 use Rattle.frame_diff.proofs.Grouped.{next_fits, places_next}
+use Rattle.frame_diff.proofs.Walked.{named_one}
 use Rattle.frame_diff.proofs.groups.tell_places.Goals as goal
 
 pub loop-item-preserved : goal.loop-item-preserved
@@ -36,3 +37,7 @@ loop-item-preserved g c =
           c.loop-item.place c.next_place-place.result c.loop-item.page c.tell_place.new.page all
           c.next_place-place.ensures c.in_ok-tell_place.ensures c.loop-item.invariant.told;
     }
+
+pub tell_place-requires-clause-names : goal.tell_place-requires-clause-names
+tell_place-requires-clause-names g c =
+    named_one c.args.own.around.now c.pick-value.result c.pick-value.ensures.around c.requires.names

@@ -6,7 +6,6 @@ use Rattle.frame_diff.specs.Groups.{group_at, group_held}
 use Rattle.frame_diff.specs.Items.{items_told, leaf_items}
 use Rattle.frame_diff.specs.Members.{places}
 use Rattle.frame_diff.specs.Walked.{held_items}
-use Rattle.frame_diff.proofs.Known.{some_known}
 use Rattle.frame_diff.proofs.Grouped.{places_plain}
 use Rattle.frame_diff.proofs.Inside.{held_leaf, held_rest, same_written}
 use Rattle.frame_diff.proofs.groups.tell_values.Goals as goal
@@ -34,16 +33,13 @@ returns g c =
     let side = c.args.pass.side in
     let text = c.args.path.now in
     let own = places (group_at nest inner is_state c.args.own) in
-    let others = places (group_at nest inner is_state c.values_beside-is_some.result.0) in
+    let others = places (group_at nest inner is_state c.values_beside-is_alike.result.0) in
     let beside = option_map held c.args.beside in
     on_ok_weaker c.tell_places.result (same_written (items_told side text own others)
     (held_items side text (held c.args.own) beside) c.args.page.now c.tell_places.new.page
-    (ap (items_told side text own) (c.values_beside-is_some.ensures.places nest inner is_state)
+    (ap (items_told side text own) (c.values_beside-is_alike.ensures.places nest inner is_state)
     ∙ sym (held_rest side text (held c.args.own) beside (places_plain (group_at nest inner is_state c.args.own)
     ∙ c.are_plain.ensures ∙ c.if-are_plain.false)))) c.tell_places.ensures
 
 pub tell_places-requires-clause-alike : goal.tell_places-requires-clause-alike
-tell_places-requires-clause-alike g c h =
-    some_known c.args.pass.is_alike c.values_beside-is_some.result.1 c.is_alike_too-is_alike.result c.args.own
-    c.args.beside c.values_beside-is_some.result.0 c.is_alike_too-is_alike.ensures c.requires.alike
-    c.values_beside-is_some.ensures.some h
+tell_places-requires-clause-alike g c h = c.values_beside-is_alike.ensures.alike h

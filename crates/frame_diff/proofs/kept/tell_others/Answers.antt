@@ -1,9 +1,9 @@
-use Rattle.std.proofs.Common.{◌≡◌, ◌≤◌, ◌*◌, ◌+◌, ◌∷◌, Ok, arith, length, subst, sym}
+use Rattle.std.proofs.Common.{◌≡◌, ◌≤◌, ◌*◌, ◌+◌, ◌∷◌, Ok, arith, codes, length, subst, sym}
 use Rattle.nla_wire.specs.Items.{frame_count, items}
 use Rattle.link_info.specs.Tables.{frames_in}
 use Rattle.shown.specs.Drafts.{Draft, with_members}
 use Rattle.frame_shown.specs.Items.{objects}
-use Rattle.frame_diff.specs.Items.{items_told}
+use Rattle.frame_diff.specs.Items.{items_told, joined}
 use Rattle.frame_diff.specs.Members.{places}
 use Rattle.frame_diff.specs.Values.{KeepsOnAt, kept_at}
 use Rattle.frame_diff.proofs.Entries.{entry_next, place_fits, place_small}
@@ -26,7 +26,7 @@ loop-item-preserved c =
     c.in-Some.ensures.steps in
     let own = c.args.own in
     let others = c.args.others in
-    let all : Draft = with_members (objects (items_told c.args.pass.side c.args.path.now
+    let all : Draft = with_members (objects (items_told c.args.pass.side (joined c.args.path.now (codes "other"))
     (places (kept_at c.args.pass.is_state own)) (places (kept_at c.args.pass.is_state others)))) c.args.page.now in
     record {
       goes = subst (λ n. KeepsOnAt c.args.pass.is_state others n c.beside_entry.result.1.now)
@@ -37,7 +37,8 @@ loop-item-preserved c =
           c.loop-item.invariant.few;
       told = entry_next c.args.pass.is_state own.around.now own.list c.in-Ok.frame c.look_at-entry.result
           c.loop-item.item-iterator c.next.new.self here c.look_at-entry.ensures others.around.now others.list
-          (frames_in (items others.bytes.now)) c.args.pass.side c.args.path.now c.loop-item.place
+          (frames_in (items others.bytes.now)) c.args.pass.side (joined c.args.path.now (codes "other"))
+          c.loop-item.place
           c.more_by-place.result c.loop-item.page c.tell_entry.new.page all c.more_by-place.ensures
           c.in_ok-tell_entry.ensures c.loop-item.invariant.told;
     }

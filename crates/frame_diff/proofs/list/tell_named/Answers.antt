@@ -32,6 +32,17 @@ loop-item-preserved g c =
           c.tell_next.new.page all left c.in_ok-there.ensures.told c.loop-item.invariant.told;
     }
 
+pub tell_next-requires-clause-single : goal.tell_next-requires-clause-single
+tell_next-requires-clause-single g c h =
+    let own = c.args.own in
+    let here : c.loop-item.item-iterator ≡ Ok c.in-Ok.frame ∷ c.next.new.self = rw c.in-Ok.is at
+    c.in-Some.ensures.steps in
+    let left : items c.behind-rest.result.now ≡ c.next.new.self =
+    c.behind-rest.ensures c.next.new.self (c.loop-item.invariant.left ∙ here) in
+    none_left own.bytes.now c.loop-item.rest.now
+    (record { around = own.around; list = own.list; bytes = c.behind-rest.result }) c.in-Ok.frame
+    c.next.new.self c.loop-item.invariant.front (c.loop-item.invariant.left ∙ here) left (c.requires.single h)
+
 pub tell_next-requires-clause-once : goal.tell_next-requires-clause-once
 tell_next-requires-clause-once g c h =
     let own = c.args.own in
@@ -40,12 +51,12 @@ tell_next-requires-clause-once g c h =
     let left : items c.behind-rest.result.now ≡ c.next.new.self =
     c.behind-rest.ensures c.next.new.self (c.loop-item.invariant.left ∙ here) in
     let once = c.is_once-is_once.ensures h in
-    let single = c.requires.single once.0 in
     record {
-      alike = single.0;
-      rows = c.requires.rows single.0;
+      alike = once.0;
+      rows = c.requires.rows once.0;
       none = none_left own.bytes.now c.loop-item.rest.now
           (record { around = own.around; list = own.list; bytes = c.behind-rest.result }) c.in-Ok.frame
-          c.next.new.self c.loop-item.invariant.front (c.loop-item.invariant.left ∙ here) left single.1;
-      once = once.1;
+          c.next.new.self c.loop-item.invariant.front (c.loop-item.invariant.left ∙ here) left
+          (c.requires.single once.1);
+      once = once.2;
     }

@@ -2,13 +2,18 @@ use Rattle.std.proofs.Common.{ap, sym, ◌∙◌}
 use Rattle.std.proofs.lemmas.Result.{on_ok_weaker}
 use Rattle.frame_shown.specs.Tables.{Known}
 use Rattle.frame_diff.proofs.There.{rows_beside, single_page}
+use Rattle.frame_diff.proofs.Walked.{names_of}
 use Rattle.frame_diff.proofs.list.tell_single.Goals as goal
 
-pub tell_unless_same-requires : goal.tell_unless_same-requires
-tell_unless_same-requires g c h =
+pub tell_unless_same-requires-clause-alike : goal.tell_unless_same-requires-clause-alike
+tell_unless_same-requires-clause-alike g c h =
     rows_beside c.args.behind c.args.others c.attribute-own.result c.attribute_there-there.result c.args.frame.now
     c.args.beside.now c.attribute-own.ensures.row c.attribute_there-there.ensures.row c.requires.rows
     c.attribute-own.ensures.number c.attribute_there-there.ensures.frame c.requires.found
+
+pub tell_unless_same-requires-clause-names : goal.tell_unless_same-requires-clause-names
+tell_unless_same-requires-clause-names g c =
+    names_of c.args.behind c.attribute-own.result c.attribute-own.ensures.row c.requires.names
 
 pub returns : goal.returns
 returns g c =

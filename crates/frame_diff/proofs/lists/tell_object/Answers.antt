@@ -6,7 +6,6 @@ use Rattle.frame_diff.specs.Items.{items_told}
 use Rattle.frame_diff.specs.Repeated.{members_at}
 use Rattle.frame_diff.proofs.Classes.{object_told}
 use Rattle.frame_diff.proofs.Inside.{same_written}
-use Rattle.frame_diff.proofs.Known.{rows_known}
 use Rattle.frame_diff.proofs.lists.tell_object.Goals as goal
 
 pub returns : goal.returns
@@ -16,7 +15,7 @@ returns g c =
     let is_state = c.args.pass.is_state in
     let side = c.args.pass.side in
     let text = c.args.path.now in
-    let others = c.object_beside-has_rows.result.0 in
+    let others = c.object_beside-is_alike.result.0 in
     let beside = inside_list (above nest inner) is_state c.args.beside in
     on_ok_weaker c.tell_members.result (same_written
     (items_told side text (forest (members_at nest inner is_state c.args.own))
@@ -24,10 +23,7 @@ returns g c =
     (items_told side text (inside_list (above nest inner) is_state (Some c.args.own)) beside)
     c.args.page.now c.tell_members.new.page
     (object_told nest inner is_state side text c.args.own others c.args.beside c.requires.object
-    (c.object_beside-has_rows.ensures.found nest inner is_state))) c.tell_members.ensures
+    (c.object_beside-is_alike.ensures.found nest inner is_state))) c.tell_members.ensures
 
-pub tell_members-requires : goal.tell_members-requires
-tell_members-requires g c h =
-    rows_known c.args.pass.is_alike c.object_beside-has_rows.result.1 c.is_alike_too-is_alike.result c.args.own
-    c.args.beside c.object_beside-has_rows.result.0 c.is_alike_too-is_alike.ensures c.requires.alike
-    c.object_beside-has_rows.ensures.rows h
+pub tell_members-requires-clause-rows : goal.tell_members-requires-clause-rows
+tell_members-requires-clause-rows g c h = c.object_beside-is_alike.ensures.rows h

@@ -19,7 +19,7 @@ returns g c =
     let hs = kept_at is_state c.args.own in
     let gs = kept_at is_state c.listed_beside-others.result in
     let beside = inside_list (above nest inner) is_state c.args.beside in
-    on_ok_weaker c.tell_kept.result (same_written
+    on_ok_weaker c.tell_others.result (same_written
     (items_told side (joined text (codes "other")) (places hs) (places gs))
-    (items_told side text (rest_forest is_state c.args.own) beside) c.args.page.now c.tell_kept.new.page
-    (kept_told side text hs gs beside (c.listed_beside-others.ensures nest inner is_state))) c.tell_kept.ensures
+    (items_told side text (rest_forest is_state c.args.own) beside) c.args.page.now c.tell_others.new.page
+    (kept_told side text hs gs beside (c.listed_beside-others.ensures nest inner is_state))) c.tell_others.ensures

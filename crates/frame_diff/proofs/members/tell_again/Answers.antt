@@ -12,7 +12,6 @@ returns-then-is_single g c =
     let nest = g.W.Depth.nest in
     let inner = g.W.Walk.inner in
     let is_state = c.args.pass.is_state in
-    let single = c.requires c.if-is_single.true in
     sym (ap (λ hs. with_members (objects (items_told c.args.pass.side (joined c.args.path.now (codes "repeated"))
     (places hs) (places (earlier_at nest inner is_state c.args.others)))) c.args.page.now)
-    (none_again nest inner is_state c.args.own single.0 single.1))
+    (none_again nest inner is_state c.args.own c.requires.names (c.requires.single c.if-is_single.true)))

@@ -30,12 +30,12 @@ returns g c =
     (places (earlier_at nest inner is_state others)) in
     let kept = items_told side (joined path (codes "other")) (places (kept_at is_state own))
     (places (kept_at is_state others)) in
-    on_ok_weaker c.tell_kept.result (λ last.
-    both_told named (again ++ kept) c.args.page.now c.tell_named.new.page c.tell_kept.new.page
+    on_ok_weaker c.tell_others.result (λ last.
+    both_told named (again ++ kept) c.args.page.now c.tell_named.new.page c.tell_others.new.page
     c.in_ok-tell_named.ensures
-    (both_told again kept c.tell_named.new.page c.tell_again.new.page c.tell_kept.new.page
+    (both_told again kept c.tell_named.new.page c.tell_again.new.page c.tell_others.new.page
     c.in_ok-tell_again.ensures last)
     ∙ ap (λ os. with_members (objects os) c.args.page.now)
     (sym (members_told (reading_at nest inner is_state own.around.now)
     (reading_at nest inner is_state others.around.now) own.list others.list (frames_in (items own.bytes.now))
-    (frames_in (items others.bytes.now)) side path))) c.tell_kept.ensures
+    (frames_in (items others.bytes.now)) side path))) c.tell_others.ensures

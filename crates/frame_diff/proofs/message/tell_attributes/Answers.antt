@@ -9,16 +9,21 @@ use Rattle.frame_diff.specs.Forests.{forest}
 use Rattle.frame_diff.specs.Items.{items_told}
 use Rattle.frame_diff.specs.Members.{attributes_in, members_in, reading}
 use Rattle.frame_diff.proofs.Inside.{same_written}
-use Rattle.frame_diff.proofs.Told.{alike_lists, attributes_are}
+use Rattle.frame_diff.proofs.Told.{alike_lists, all_names, attributes_are}
 use Rattle.frame_diff.proofs.message.tell_attributes.Goals as goal
 
-pub tell_members-requires : goal.tell_members-requires
-tell_members-requires c h =
+pub tell_members-requires-clause-rows : goal.tell_members-requires-clause-rows
+tell_members-requires-clause-rows c h =
     alike_lists c.args.cx.now c.args.theirs.now c.around-here.result c.around-there.result
     (address_len (frames_in (items c.args.own.attributes.now)))
     (address_len (frames_in (items c.args.others.attributes.now))) c.around-here.ensures c.around-there.ensures
-    c.u8_at-family.result c.u8_at-their_family.result c.args.pass.is_alike c.are_alike-is_alike.result c.requires
-    c.are_alike-is_alike.ensures h
+    c.u8_at-family.result c.u8_at-their_family.result c.args.pass.is_alike c.are_alike-is_alike.result
+    c.requires.rows c.requires.alike c.are_alike-is_alike.ensures h
+
+pub tell_members-requires-clause-names : goal.tell_members-requires-clause-names
+tell_members-requires-clause-names c =
+    all_names c.args.cx.now c.around-here.result (address_len (frames_in (items c.args.own.attributes.now)))
+    c.around-here.ensures c.requires.rows
 
 pub returns : goal.returns
 returns c =

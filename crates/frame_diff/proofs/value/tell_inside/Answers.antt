@@ -7,8 +7,8 @@ use Rattle.frame_diff.specs.Walked.{held_at}
 use Rattle.frame_diff.proofs.Inside.{list_beside, same_written}
 use Rattle.frame_diff.proofs.value.tell_inside.Goals as goal
 
-pub tell_list-requires : goal.tell_list-requires
-tell_list-requires g c h = c.in_ok-there.ensures.alike c.args.own (c.requires h)
+pub tell_list-requires-clause-alike : goal.tell_list-requires-clause-alike
+tell_list-requires-clause-alike g c h = c.in_ok-there.ensures.alike c.args.own (c.requires.alike h)
 
 pub returns : goal.returns
 returns g c =

@@ -4,7 +4,7 @@ use Rattle.frame_shown.specs.Items.{objects}
 use Rattle.frame_diff.specs.Items.{items_told}
 use Rattle.frame_diff.specs.Members.{fields}
 use Rattle.frame_diff.specs.Rows.{row_shown}
-use Rattle.frame_diff.proofs.rows.tell_rows.Given as goal
+use Rattle.frame_diff.proofs.rows.tell_each.Given as goal
 
 abbrev pub invariant-loop-row : goal.invariant-loop-row
 invariant-loop-row l =
