@@ -27,3 +27,8 @@ pub mod Whole
 pub mod Orders
 pub mod Plain
 pub mod Numbers
+pub mod PathTexts
+pub mod PathTextsNames
+pub mod PathTextsFits
+pub mod PathTextsForests
+pub mod PathTextsTold

@@ -16,4 +16,5 @@ pub mod Groups
 pub mod Nests
 pub mod Messages
 pub mod Laws
+pub mod PathTexts
 pub mod Same

@@ -3,6 +3,7 @@
 ghost use Rattle.frame_diff.specs.Laws.{CountersArePassed, EachIsToldOnce, ItemsAreChanges, MessagesAreTold};
 ghost use Rattle.frame_diff.specs.Laws.{SameIsSilent, WhatDiffersIsTold};
 ghost use Rattle.frame_diff.specs.Names.{NamesAreApart};
+ghost use Rattle.frame_diff.specs.PathTexts.{PathTextsAreApart};
 ghost use Rattle.frame_diff.specs.Shown.{MembersAreShown, WholeIsShown};
 
 /// What is told of members beside others is what differs between the leaves of both.
@@ -52,4 +53,10 @@ pub fn law_names()
 /// of it.
 pub fn law_whole()
     ensures { WholeIsShown }
+{}
+
+/// With the rows of `link_info` the text of a path stands for the path: no two leaves of a message have one text, and
+/// no two changes that are told of two messages.
+pub fn law_texts()
+    ensures { PathTextsAreApart }
 {}

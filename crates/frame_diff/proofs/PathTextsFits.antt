@@ -1,0 +1,248 @@
+-- What is inside a payload is of the sort that its row says, where the lists inside it are of theirs.
+use Rattle.std.proofs.Common.{◌≡◌, ℕ, ◌+◌, ◌<◌, ◌≤◌, ◌^◌, Bool, true, false, List, [], ◌∷◌, ◌++◌, map, arith, length}
+use Rattle.std.proofs.Common.{length-append, refl, sym, subst}
+use Rattle.std.proofs.lemmas.Bool.{and_parts}
+use Rattle.std.specs.Prelude.{Option, Some, None, Result, Ok, Err, cond, ◌==◌}
+use Rattle.std.specs.List.{AllByRecursion, flat_map}
+use Rattle.json.specs.Token.{Token}
+use Rattle.nla_wire.specs.Frames.{Frame}
+use Rattle.nla_wire.specs.Items.{items}
+use Rattle.nla_wire.specs.Payloads.{text}
+use Rattle.nla_wire.specs.declared.error.Cause.{Cause}
+use Rattle.nla_wire.proofs.Items.{items_case}
+use Rattle.nla_wire.proofs.Steps.{step_shorter, step_size}
+use Rattle.link_info.specs.Meanings.{Meaning, Raw, read_as, Members as Fields, Elements, Listed, Nested, form_meaning}
+use Rattle.link_info.specs.Meanings.{text_or_bytes}
+use Rattle.link_info.specs.Styles.{are_frames, are_frames_of, is_multiple, plain_size, record_size, Form as Spelling}
+use Rattle.link_info.specs.Styles.{Host, form}
+use Rattle.link_info.specs.Tables.{frames_in}
+use Rattle.link_info.specs.declared.style.Style.{Style}
+use Rattle.link_info.specs.declared.style.Style.TheVariants as S
+use Rattle.link_state.specs.Table.{Action}
+use Rattle.shown.specs.Drafts.{Members}
+use Rattle.frame_shown.specs.Values.{behind_settings, counter_names, counter_width, counters_shown, event_in, fields_in}
+use Rattle.frame_shown.specs.Values.{fields_shown, hexadecimal, info_of, ipv6_named, record_shown, setting_names}
+use Rattle.frame_shown.specs.Values.{settings_shown}
+use Rattle.frame_shown.specs.declared.form.Around.{Around}
+use Rattle.frame_shown.specs.declared.form.Form.{Form}
+use Rattle.frame_shown.specs.declared.form.Form.TheVariants as Forms
+use Rattle.frame_shown.specs.declared.form.List.{List as Shape}
+use Rattle.frame_shown.specs.declared.form.List.TheVariants as Shapes
+use Rattle.frame_shown.specs.declared.form.Order.{Order}
+use Rattle.frame_shown.specs.declared.form.Order.TheVariants as Orders
+use Rattle.frame_shown.specs.declared.form.Way.{Way}
+use Rattle.frame_shown.specs.declared.form.Way.TheVariants as Ways
+use Rattle.frame_diff.specs.Counters.{fields_left, is_clear}
+use Rattle.frame_diff.specs.Forests.{Forest, Held, Member, Step, comes, forest, left_of}
+use Rattle.frame_diff.specs.Items.{step_text}
+use Rattle.frame_diff.specs.Members.{Inner, fields, fields_kept, form_inside, held_inside, ipv6_inside, is_nest}
+use Rattle.frame_diff.specs.Members.{is_some, meaning_inside, named, placed, placed_one, places, unless_none}
+use Rattle.frame_diff.specs.Members.{way_inside}
+use Rattle.frame_diff.proofs.PathTexts.{Sort, Stands, within}
+use Rattle.frame_diff.proofs.PathTextsNames.{form_fits, is_known, is_same, same_sort, sort_of, style_fits, way_fits}
+
+-- ** members of a sort
+
+abbrev pub Fits : Sort → Forest → Type 0
+Fits sort Forest.none = Unit {0}
+Fits sort Forest.passed = Unit {0}
+Fits sort (Forest.tree s v i rest) = Stands sort s × Fits (within sort (step_text s)) i × Fits sort rest
+
+abbrev pub AllFit : Sort → List Member → Type 0
+AllFit sort [] = Unit {0}
+AllFit sort (m ∷ ms) = Stands sort m.0 × Fits (within sort (step_text m.0)) m.1.1 × AllFit sort ms
+
+pub forest_fits : (sort : Sort) (ms : List Member) → AllFit sort ms → Fits sort (forest ms)
+forest_fits sort [] h = tt
+forest_fits sort (m ∷ ms) h = by (comes m.0 ms) (forest_fits sort ms h.2)
+  where
+    by : (b : Bool) → Fits sort (forest ms)
+        → Fits sort (cond b (forest ms) (Forest.tree m.0 m.1.0 m.1.1 (forest ms)))
+    by true later = later
+    by false later = (h.0, h.1, later)
+
+pub left_fits : (sort : Sort) (is_any : Bool) (ms : List Member) → AllFit sort ms → Fits sort (left_of is_any ms)
+left_fits sort true [] h = tt
+left_fits sort false [] h = tt
+left_fits sort is_any (m ∷ ms) h = forest_fits sort (m ∷ ms) h
+
+pub append_fits : (sort : Sort) (xs ys : List Member) → AllFit sort xs → AllFit sort ys → AllFit sort (xs ++ ys)
+append_fits sort [] ys h k = k
+append_fits sort (x ∷ xs) ys h k = (h.0, h.1, append_fits sort xs ys h.2 k)
+
+-- ** fields
+
+pub named_fits : (ms : Members) → AllFit Sort.fields (named ms)
+named_fits [] = tt
+named_fits (m ∷ ms) = (refl, tt, named_fits ms)
+
+pub fields_fit : (ms : Members) → Fits Sort.fields (fields ms)
+fields_fit ms = forest_fits Sort.fields (named ms) (named_fits ms)
+
+kept_fields_fit : (action : Action) (sizes : List ℕ) (ms : Members) → Fits Sort.fields (fields_kept action sizes ms)
+kept_fields_fit action sizes ms =
+    let left = fields_left action 0 sizes ms in left_fits Sort.fields (is_some ms) (named left) (named_fits left)
+
+-- ** values in a list
+
+abbrev pub HeldFit : Sort → List (Option Held) → Type 0
+HeldFit sort [] = Unit {0}
+HeldFit sort (None ∷ hs) = HeldFit sort hs
+HeldFit sort (Some held ∷ hs) = Fits sort held.1 × HeldFit sort hs
+
+pub held_append : (sort : Sort) (xs ys : List (Option Held)) → HeldFit sort xs → HeldFit sort ys
+    → HeldFit sort (xs ++ ys)
+held_append sort [] ys h k = k
+held_append sort (None ∷ xs) ys h k = held_append sort xs ys h k
+held_append sort (Some held ∷ xs) ys h k = (h.0, held_append sort xs ys h.1 k)
+
+placed_fit : (sort : Sort) (n : ℕ) (hs : List (Option Held)) → n + length hs < 2 ^ 64 → HeldFit sort hs
+    → AllFit (Sort.values sort) (placed n hs)
+placed_fit sort n [] few h = tt
+placed_fit sort n (None ∷ hs) few h = placed_fit sort (n + 1) hs (omega (arith, few)) h
+placed_fit sort n (Some held ∷ hs) few h =
+    append_fits (Sort.values sort) (placed_one n (Some held)) (placed (n + 1) hs) (by (is_nest held.0))
+    (placed_fit sort (n + 1) hs (omega (arith, few)) h.1)
+  where
+    by : (b : Bool) → AllFit (Sort.values sort) (cond b ((Step.place n, held) ∷ []) [])
+    by true = ((n, omega (arith, few), refl), h.0, tt)
+    by false = tt
+
+pub places_fit : (sort : Sort) (hs : List (Option Held)) → length hs < 2 ^ 64 → HeldFit sort hs
+    → Fits (Sort.values sort) (places hs)
+places_fit sort hs few h =
+    forest_fits (Sort.values sort) (placed 0 hs) (placed_fit sort 0 hs (omega (arith, few)) h)
+
+pub unless_fits : (sort : Sort) (s : Step) (v : List Token) (f : Forest) → Stands sort s
+    → Fits (within sort (step_text s)) f → AllFit sort (unless_none s v f)
+unless_fits sort s v Forest.none is h = tt
+unless_fits sort s v Forest.passed is h = tt
+unless_fits sort s v (Forest.tree a b c d) is h = (is, h, tt)
+
+-- at most one value of each
+pub few_each : {X : Type 0} (F : X → List (Option Held)) (xs : List X) → ((x : X) → length (F x) ≤ 1)
+    → length (flat_map F xs) ≤ length xs
+few_each F [] one = omega arith
+few_each F (x ∷ xs) one = omega (arith, one x, few_each F xs one, length-append (F x) (flat_map F xs))
+
+pub each_held : {X : Type 0} (sort : Sort) (F : X → List (Option Held)) (xs : List X)
+    → ((x : X) → HeldFit sort (F x)) → HeldFit sort (flat_map F xs)
+each_held sort F [] h = tt
+each_held sort F (x ∷ xs) h = held_append sort (F x) (flat_map F xs) (h x) (each_held sort F xs h)
+
+-- ** bytes of a size, and the frames in them
+
+abbrev pub IsShort : List ℕ → Type 0
+IsShort p = length p < 2 ^ 64
+
+abbrev pub AreShort : List Frame → Type 0
+AreShort fs = AllByRecursion (λ f. IsShort f.payload) fs
+
+abbrev pub AreFew : List Frame → Type 0
+AreFew fs = (length fs < 2 ^ 64) × AreShort fs
+
+no_more : (b : List ℕ) → length (frames_in (items b)) ≤ length b
+no_more = items_case (λ b xs. length (frames_in xs) ≤ length b) (omega arith) (λ b c e. omega arith)
+    (λ b f rest e h. omega (arith, h, step_shorter b f rest e))
+
+all_short : (b : List ℕ) → IsShort b → AreShort (frames_in (items b))
+all_short = items_case (λ b xs. IsShort b → AreShort (frames_in xs)) (λ short. tt) (λ b c e short. tt)
+    (λ b f rest e h short.
+    (omega (arith, short, step_size b f rest e), h (omega (arith, short, step_shorter b f rest e))))
+
+pub few_in : (b : List ℕ) → IsShort b → AreFew (frames_in (items b))
+few_in b short = (omega (arith, short, no_more b), all_short b short)
+
+-- ** a payload
+
+abbrev pub InnerFits : Inner → Type 0
+InnerFits inner = (list : Shape) (p : List ℕ) → is_known list ≡ true → IsShort p → Fits (sort_of list) (inner list p)
+
+abbrev MeaningFits : Sort → Meaning → Type 0
+MeaningFits sort (Fields members p) = sort ≡ Sort.fields
+MeaningFits sort (Nested place p) = (sort ≡ Sort.attributes false) × IsShort p
+MeaningFits sort _ = Unit {0}
+
+form_none : (sort : Sort) (spelling : Spelling) (p : List ℕ) → MeaningFits sort (form_meaning spelling p)
+form_none sort (Host size) p = tt
+form_none sort spelling p = tt
+
+raw_or : (sort : Sort) (b : Bool) (meaning : Meaning) (p : List ℕ) → MeaningFits sort meaning
+    → MeaningFits sort (cond b meaning (Raw p))
+raw_or sort true meaning p h = h
+raw_or sort false meaning p h = tt
+
+read_fits : (sort : Sort) (style : Style) (p : List ℕ) → IsShort p → style_fits sort style ≡ true
+    → MeaningFits sort (read_as style p)
+read_fits sort S.Bytes p short h = tt
+read_fits sort S.Flag [] short h = tt
+read_fits sort S.Flag (x ∷ p) short h = tt
+read_fits sort S.Text p short h = by (text.reads p)
+  where
+    by : (read : Result (List ℕ) Cause) → MeaningFits sort (text_or_bytes p read)
+    by (Ok s) = tt
+    by (Err c) = tt
+read_fits sort (S.Plain plain) p short h =
+    raw_or sort (length p == plain_size plain) (form_meaning (form plain) p) p (form_none sort (form plain) p)
+read_fits sort (S.Record members) p short h =
+    raw_or sort (record_size members.now == length p) (Fields members.now p) p (same_sort sort Sort.fields h)
+read_fits sort (S.Array plain) p short h =
+    raw_or sort (is_multiple (plain_size plain) (length p)) (Elements plain p) p tt
+read_fits sort (S.List plain) p short h =
+    raw_or sort (are_frames_of (plain_size plain) (items p)) (Listed plain p) p tt
+read_fits sort (S.Nest place) p short h =
+    raw_or sort (are_frames (items p)) (Nested place p) p (same_sort sort (Sort.attributes false) h, short)
+
+module _ (inner : Inner) (fit : InnerFits inner) (sort : Sort) where
+  as_same : (own : Sort) (f : Forest) → sort ≡ own → Fits own f → Fits sort f
+  as_same own f is h = subst (λ s. Fits s f) (sym is) h
+
+  as_fields : (ms : Members) → is_same sort Sort.fields ≡ true → Fits sort (fields ms)
+  as_fields ms is = as_same Sort.fields (fields ms) (same_sort sort Sort.fields is) (fields_fit ms)
+
+  meaning_fits : (action : Action) (meaning : Meaning) → MeaningFits sort meaning
+      → Fits sort (meaning_inside inner action meaning)
+  meaning_fits action (Fields members p) h =
+      as_same Sort.fields (meaning_inside inner action (Fields members p)) h
+      (kept_fields_fit action (map (λ m. plain_size m.1) members) (record_shown members p))
+  meaning_fits action (Nested place p) h =
+      as_same (Sort.attributes false) (inner (Shapes.Of place) p) h.0 (fit (Shapes.Of place) p refl h.1)
+  meaning_fits action meaning h = tt
+
+  ipv6_fits : (order : Order) (p : List ℕ) → is_same sort Sort.fields ≡ true → Fits sort (ipv6_inside order p)
+  ipv6_fits Orders.Unknown p h = tt
+  ipv6_fits Orders.Before p h = as_fields (ipv6_named false p) h
+  ipv6_fits Orders.Since p h = as_fields (ipv6_named true p) h
+
+  inside_fits : (cx : Around) (action : Action) (form : Form) (p : List ℕ) → IsShort p → form_fits sort form ≡ true
+      → Fits sort (form_inside inner cx action form p)
+  inside_fits cx action (Forms.Counters words) p short h =
+      as_fields (counters_shown (counter_names words) (counter_width words) p 0) h
+  inside_fits cx action Forms.Ipv6Counters p short h = ipv6_fits cx.order p h
+  inside_fits cx action (Forms.Settings set) p short h =
+      as_same Sort.fields (form_inside inner cx action (Forms.Settings set) p) (same_sort sort Sort.fields h)
+      (kept_fields_fit action (map (λ name. 4) (setting_names set))
+      (settings_shown (setting_names set) p 0 ++ behind_settings set p))
+  inside_fits cx action (Forms.Record parts) p short h = as_fields (fields_shown cx (fields_in parts) p) h
+  inside_fits cx action Forms.Wireless p short h = as_fields (((event_in p).0, hexadecimal (event_in p).1) ∷ []) h
+  inside_fits cx action (Forms.List list) p short h =
+      let both = and_parts (is_known list) (is_same sort (sort_of list)) h in
+      as_same (sort_of list) (inner list p) (same_sort sort (sort_of list) both.1) (fit list p both.0 short)
+  inside_fits cx action Forms.Info p short h =
+      as_same (Sort.attributes false) (inner (info_of p) p) (same_sort sort (Sort.attributes false) h)
+      (fit (info_of p) p refl short)
+  inside_fits cx action form p short h = tt
+
+  way_inside_fits : (cx : Around) (action : Action) (way : Way) (p : List ℕ) → IsShort p → way_fits sort way ≡ true
+      → Fits sort (way_inside inner cx action way p)
+  way_inside_fits cx action (Ways.Own form) p short h = inside_fits cx action form p short h
+  way_inside_fits cx action (Ways.By style) p short h =
+      meaning_fits action (read_as style p) (read_fits sort style p short h)
+
+  pub held_fits : (cx : Around) (action : Action) (way : Way) (p : List ℕ) → IsShort p → way_fits sort way ≡ true
+      → Fits sort (held_inside inner cx action way p)
+  held_fits cx action way p short h = by (is_clear action)
+    where
+      by : (b : Bool) → Fits sort (cond b Forest.passed (way_inside inner cx action way p))
+      by true = tt
+      by false = way_inside_fits cx action way p short h
