@@ -33,9 +33,6 @@ use Rattle.frame_diff.proofs.Parts.{AreNames, NoneComes, named_names}
 abbrev pub IsOfObject : Step → Type 0
 IsOfObject s = is_of_object s ≡ true
 
-abbrev pub IsPart : Step → Type 0
-IsPart s = is_of_object s ≡ false
-
 object_not_part : (s t : Step) → is_of_object s ≡ true → is_of_object t ≡ false → is_step s t ≡ false
 object_not_part (Step.name a) (Step.part n b) h k = refl
 object_not_part (Step.place m) (Step.part n b) h k = refl
@@ -46,17 +43,6 @@ object_not_part s (Step.name b) h k = absurd cc
 object_not_part s (Step.place n) h k = absurd cc
 object_not_part s Step.repeated h k = absurd cc
 object_not_part s Step.other h k = absurd cc
-
-part_not_object : (s t : Step) → is_of_object s ≡ false → is_of_object t ≡ true → is_step s t ≡ false
-part_not_object (Step.part n b) (Step.name a) h k = refl
-part_not_object (Step.part n b) (Step.place m) h k = refl
-part_not_object (Step.part n b) Step.repeated h k = refl
-part_not_object (Step.part n b) Step.other h k = refl
-part_not_object (Step.part n b) (Step.part m a) h k = absurd cc
-part_not_object (Step.name b) t h k = absurd cc
-part_not_object (Step.place n) t h k = absurd cc
-part_not_object Step.repeated t h k = absurd cc
-part_not_object Step.other t h k = absurd cc
 
 -- ** members of a list
 
@@ -102,30 +88,10 @@ object_steps r Shapes.ProtoInet6 fs h = members_of_object r Shapes.ProtoInet6 fs
 object_steps r Shapes.Refused fs h = members_of_object r Shapes.Refused fs
 object_steps r (Shapes.Info link port) fs h = members_of_object r (Shapes.Info link port) fs
 
-group_steps : (r : Reading) (list : Shape) (fs : List Frame) → is_group list ≡ true
-    → AreAt IsPart (list_members r list fs)
-group_steps r (Shapes.Listed group table) fs h =
-    (refl, list_steps IsPart (rest_step (codes "other")) (kept_in r (Shapes.Listed group table) fs) refl)
-group_steps r (Shapes.Entries group) fs h = (refl, tt)
-group_steps r (Shapes.Message family) fs h = absurd cc
-group_steps r (Shapes.Own table) fs h = absurd cc
-group_steps r (Shapes.Of place) fs h = absurd cc
-group_steps r Shapes.ProtoInet6 fs h = absurd cc
-group_steps r Shapes.Refused fs h = absurd cc
-group_steps r (Shapes.Info link port) fs h = absurd cc
-
 -- ** what stands at a step of another class
 
 abbrev inner_of : Reading → Shape → List Frame → Forest
 inner_of r list fs = left_of (is_some fs) (list_members r list fs)
-
-pub none_in_group : (r : Reading) (list : Shape) (fs : List Frame) (s : Step) → is_group list ≡ true
-    → is_of_object s ≡ true → find s (inner_of r list fs) ≡ None
-none_in_group r list fs s group object =
-    find_left s (is_some fs) (list_members r list fs)
-    ∙ find_none s (list_members r list fs) (none_at s (list_members r list fs)
-    (at_weaker IsPart (λ t. is_step t s ≡ false) (list_members r list fs)
-    (λ t part. part_not_object t s part object) (group_steps r list fs group)))
 
 pub none_in_object : (r : Reading) (list : Shape) (fs : List Frame) (s : Step) → is_group list ≡ false
     → is_of_object s ≡ false → find s (inner_of r list fs) ≡ None
@@ -194,25 +160,6 @@ above_without nest inner is_state cx list p = without (reading_at nest inner is_
 -- ** objects beside each other
 
 module _ (nest : Showing) (inner : Holding) (is_state : Bool) where
-  pub object_found : (a : Attributes) (s : Step) → is_group a.list ≡ false
-      → find s (forest (members_at nest inner is_state a)) ≡ find s (inside_list (above nest inner) is_state (Some a))
-  object_found a s object =
-      let r = reading_at nest inner is_state a.around.now in
-      let fs = frames_in (items a.bytes.now) in
-      ap (λ ms. find s (forest ms)) (sym (object_members r a.list fs object))
-      ∙ sym (find_left s (is_some fs) (list_members r a.list fs))
-
-  pub none_found : (a : Attributes) (s : Step) → items a.bytes.now ≡ []
-      → find s (forest (members_at nest inner is_state a)) ≡ None
-  none_found a s none =
-      let r = reading_at nest inner is_state a.around.now in
-      ap (λ xs. find s (forest (members_in r a.list (frames_in xs)))) none
-
-  pub group_found : (a : Attributes) (s : Step) → is_group a.list ≡ true → is_of_object s ≡ true
-      → find s (inside_list (above nest inner) is_state (Some a)) ≡ None
-  group_found a s group object =
-      none_in_group (reading_at nest inner is_state a.around.now) a.list (frames_in (items a.bytes.now)) s group object
-
   pub object_told : (side : Side) (text : List ℕ) (own others : Attributes) (beside : Option Attributes)
       → is_group own.list ≡ false
       → ((s : Step) → is_of_object s ≡ true → find s (forest (members_at nest inner is_state others))
@@ -230,33 +177,3 @@ module _ (nest : Showing) (inner : Holding) (is_state : Bool) where
       (forest_all IsOfObject (members_in r own.list fs) (members_of_object r own.list fs)) found
       ∙ ap (λ ms. items_told side text (forest ms) g) (sym (object_members r own.list fs object))
       ∙ sym (left_told side text (is_some fs) (list_members r own.list fs) g)
-
--- ** fields and the members of an object
-
-not_field : (s : Step) → is_of_object s ≡ true → is_field s ≡ false
-not_field (Step.name text) h = refl
-not_field (Step.part n text) h = absurd cc
-not_field (Step.place n) h = refl
-not_field Step.repeated h = refl
-not_field Step.other h = refl
-
-none_of_these : (xs ys : List Member) → AreAt (λ s. comes s ys ≡ false) xs → NoneComes xs ys
-none_of_these [] ys all = tt
-none_of_these (x ∷ xs) ys all = (all.0, none_of_these xs ys all.1)
-
-pub no_field_comes : (r : Reading) (list : Shape) (fs : List Frame) (ms : Members)
-    → NoneComes (named ms) (members_in r list fs)
-no_field_comes r list fs [] = tt
-no_field_comes r list fs (m ∷ ms) = (
-  none_at (field_step m.0) (members_in r list fs)
-      (at_weaker IsOfObject (λ t. is_step t (field_step m.0) ≡ false) (members_in r list fs)
-      (λ t is. object_not_part t (field_step m.0) is refl) (members_of_object r list fs)),
-  no_field_comes r list fs ms,
-)
-
-pub no_member_comes : (r : Reading) (list : Shape) (fs : List Frame) (ms : Members)
-    → NoneComes (members_in r list fs) (named ms)
-no_member_comes r list fs ms =
-    none_of_these (members_in r list fs) (named ms)
-    (at_weaker IsOfObject (λ s. comes s (named ms) ≡ false) (members_in r list fs)
-    (λ s is. fields_lack s ms (not_field s is)) (members_of_object r list fs))

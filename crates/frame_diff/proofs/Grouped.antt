@@ -45,16 +45,6 @@ use Rattle.frame_diff.proofs.Walked.{last_further}
 
 -- ** the values of a list, one attribute further
 
-pub group_nil : (r : Reading) (list : Shape) → group_values r list [] ≡ []
-group_nil r (Shapes.Listed group table) = refl
-group_nil r (Shapes.Entries group) = refl
-group_nil r (Shapes.Message family) = refl
-group_nil r (Shapes.Own table) = refl
-group_nil r (Shapes.Of place) = refl
-group_nil r Shapes.ProtoInet6 = refl
-group_nil r Shapes.Refused = refl
-group_nil r (Shapes.Info link port) = refl
-
 named_further : (r : Reading) (list : Shape) (f : Frame) (fs : List Frame)
     → values_of (named_in r list (f ∷ fs)) ≡ values_of (frame_member r list f) ++ values_of (named_in r list fs)
 named_further r list f fs = map-append (λ (m : Member). Some m.1) (frame_member r list f) (named_in r list fs)
@@ -305,16 +295,6 @@ inner_of r list fs = left_of (is_some fs) (list_members r list fs)
 abbrev rest_step_now : Step
 rest_step_now = rest_step (codes "other")
 
-group_part : (list : Shape) → is_group list ≡ true → is_of_object (group_step list) ≡ false
-group_part (Shapes.Listed group table) h = refl
-group_part (Shapes.Entries group) h = refl
-group_part (Shapes.Message family) h = absurd cc
-group_part (Shapes.Own table) h = absurd cc
-group_part (Shapes.Of place) h = absurd cc
-group_part Shapes.ProtoInet6 h = absurd cc
-group_part Shapes.Refused h = absurd cc
-group_part (Shapes.Info link port) h = absurd cc
-
 one_told : (side : Side) (text : List ℕ) (s : Step) (h : Held) (ms : List Member) (g : Forest) → comes s ms ≡ false
     → items_told side text (forest ((s, h) ∷ ms)) g
     ≡ held_items side (joined text (step_text s)) h (find s g) ++ items_told side text (forest ms) g
@@ -491,11 +471,6 @@ module _ (nest : Showing) (inner : Holding) (is_state : Bool) where
       ∙ ap (λ o. picked nest inner is_state o ++ group_values (reading_at nest inner is_state cx) list
       (frames_in next)) none)
       ∙ was
-
-  pub empty_group : (a : Attributes) → items a.bytes.now ≡ [] → group_at nest inner is_state a ≡ []
-  empty_group a none =
-      ap (λ xs. group_values (reading_at nest inner is_state a.around.now) a.list (frames_in xs)) none
-      ∙ group_nil (reading_at nest inner is_state a.around.now) a.list
 
   -- ** none of them is an object or a list
 

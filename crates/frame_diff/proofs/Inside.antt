@@ -73,11 +73,6 @@ left_told side text true [] g = refl
 left_told side text false [] g = refl
 left_told side text is_any (m ∷ ms) g = refl
 
-pub left_all : (P : Step → Type 0) (is_any : Bool) (ms : List Member) → AreAt P ms → AreAll P (left_of is_any ms)
-left_all P true [] all = tt
-left_all P false [] all = tt
-left_all P is_any (m ∷ ms) all = forest_all P (m ∷ ms) all
-
 pub forest_some : (m : Member) (ms : List Member) → has_none (forest (m ∷ ms)) ≡ false
 forest_some m [] = refl
 forest_some m (x ∷ ms) = by (comes m.0 (x ∷ ms)) (forest_some x ms)

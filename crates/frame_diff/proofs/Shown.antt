@@ -69,14 +69,6 @@ AreObjects (h ∷ hs) [] = ⊥
 AreObjects (None ∷ hs) (o ∷ os) = ⊥
 AreObjects (Some held ∷ hs) (o ∷ os) = (held.0 ≡ object_of o) × AreObjects hs os
 
-objects_append : (xs ys : List (Option Held)) (os ps : List Members) → AreObjects xs os → AreObjects ys ps
-    → AreObjects (xs ++ ys) (os ++ ps)
-objects_append [] ys [] ps h k = k
-objects_append [] ys (o ∷ os) ps h k = absurd h
-objects_append (x ∷ xs) ys [] ps h k = absurd h
-objects_append (None ∷ xs) ys (o ∷ os) ps h k = absurd h
-objects_append (Some held ∷ xs) ys (o ∷ os) ps h k = (h.0, objects_append xs ys os ps h.1 k)
-
 values_are : (hs : List (Option Held)) (os : List Members) → AreObjects hs os
     → flat_map value_in hs ≡ flat_map (λ tokens. tokens) (map object_of os)
 values_are [] [] h = refl

@@ -395,6 +395,3 @@ pub found_first : (n : ℕ) (whole found : List ℕ) (f : Frame) (rest : List Re
     → items found ≡ Ok f ∷ rest → number f ≡ n → IsOfNumber n whole (Some f)
 found_first n whole found f rest tail here is =
     (tail.0, frames_in rest, tail.1 ∙ ap (λ xs. tail.0 ++ frames_in xs) here, is)
-
-pub all_tail : (whole : List ℕ) → IsTail whole whole
-all_tail whole = ([], refl)

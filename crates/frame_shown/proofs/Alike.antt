@@ -227,12 +227,6 @@ through {A} {B} {X} g said of back again h p q v small_p small_q a b =
     sym (again q b.0 small_q b.1) ∙ ap back (sym b.2 ∙ a.2) ∙ again p a.0 small_p a.1 in
     h p q a.0 small_p small_q a.1 (subst (λ (x : A). g.means q x) is b.1)
 
-pub of_inner : {A B X : Type 0} (g : Grammar (List ℕ) A) (said : List ℕ → X) (of : A → B) → OneToOne of
-    → OfMeaning g said → OfNumber 1 (by_payload (as_a of g)) (λ f. said f.payload)
-of_inner {A} {B} {X} g said of one h f k v f_is k_is number_f number_k a b =
-    h f.payload k.payload a.0 f_is.bytes k_is.bytes a.1
-    (subst (λ (x : A). g.means k.payload x) (one b.0 a.0 (sym b.2 ∙ a.2)) b.1)
-
 pub unless_empty : {A X : Type 0} (g : Grammar (List ℕ) A) (said : List ℕ → X) → OfMeaning g said
     → OfMeaning (not_empty g) said
 unless_empty g said h p q v small_p small_q a b = h p q v small_p small_q a.1 b.1

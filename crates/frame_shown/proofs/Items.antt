@@ -86,11 +86,6 @@ on_next first ms more page new all e was is =
     ∙ ap (λ members. with_members members page) (sym e)
     ∙ was
 
-pub kept_first : (x : Item) (rest : List Item) → objects (kept_ones (x ∷ rest))
-    ≡ objects (kept_ones (x ∷ [])) ++ objects (kept_ones rest)
-kept_first (Item.named n ms) rest = refl
-kept_first (Item.as_is name kind payload) rest = refl
-
 pub last_shown : (x : Item) (n : ℕ) (rest : List Item) → number_in x ≡ Some n → comes_in n rest ≡ false
     → last_ones (x ∷ rest) ≡ shown_as x ++ last_ones rest
 last_shown (Item.named m ms) n rest is none =

@@ -83,26 +83,9 @@ none_first items = sym (or-false (repeats (replicate 256 0) items)) ∙ none_rep
 pub first_looked : (xs : List Read) → repeats (replicate 256 0) (map by_number (frames_in xs)) ≡ are_twice xs
 first_looked xs = none_first (map by_number (frames_in xs))
 
-told_by : (x : Item) (m : ℕ) (seen : List ℕ) → number_in x ≡ Some m → (slice_index seen m == 0) ≡ false
-    → is_told seen x ≡ true
-told_by (Item.named n ms) m seen is come =
-    let same : n ≡ m = cc in
-    ap (λ k. not (slice_index seen k == 0)) same ∙ ap not come
-told_by (Item.as_is name kind payload) m seen is come = absurd cc
-
 module _ (f : Frame) (it next : List Read) (here : it ≡ Ok f ∷ next) (seen : List ℕ) where
   abbrev pub numbered : List Read → List Item
   numbered xs = map by_number (frames_in xs)
-
-  -- a number that has come
-  pub found_twice : (all : Bool) (m : ℕ) → number_in (by_number f) ≡ Some m → (slice_index seen m == 0) ≡ false
-      → repeats seen (numbered it) ≡ all → true ≡ all
-  found_twice all m is come was =
-      let told : is_told seen (by_number f) ≡ true = told_by (by_number f) m seen is come in
-      sym (ap (λ xs. repeats seen (numbered xs)) here
-      ∙ ap (λ b. (b || list_any (is_told seen) (numbered next))
-      || are_any (earlier_ones (by_number f ∷ numbered next))) told)
-      ∙ was
 
   -- one that comes first
   pub first_of_its : (all : Bool) (m : ℕ) → length seen ≡ 256 → m < 256 → number_in (by_number f) ≡ Some m
@@ -114,11 +97,4 @@ module _ (f : Frame) (it next : List Read) (here : it ≡ Ok f ∷ next) (seen :
       ∙ ap (λ b. repeats (set seen m 1) (numbered next) || (false || not b)) (sym new)
       ∙ named_repeats (by_number f) m seen (numbered next) false within is
       ∙ or-false (repeats seen (by_number f ∷ numbered next))
-      ∙ sym (ap (λ xs. repeats seen (numbered xs)) here) ∙ was
-
-  -- one that can have no row
-  pub passed_by : (all : Bool) → number_in (by_number f) ≡ None → repeats seen (numbered it) ≡ all
-      → repeats seen (numbered next) ≡ all
-  passed_by all is was =
-      kept_repeats (by_number f) seen (numbered next) is
       ∙ sym (ap (λ xs. repeats seen (numbered xs)) here) ∙ was
