@@ -13,24 +13,26 @@ use Rattle.shown.specs.Drafts.{Draft, list_of, object_of, with_members}
 use Rattle.frame_shown.specs.Frames.{by_row, frame_item}
 use Rattle.frame_shown.specs.Items.{Item as Shown, named_ones, objects}
 use Rattle.frame_shown.specs.Items.{values_of as texts_of}
-use Rattle.frame_shown.specs.Tables.{Known, entry_list, group_name, is_kept, kind_shown, no_row, row_in}
+use Rattle.frame_shown.specs.Tables.{Known, entry_list, group_name, is_kept, kind_shown, no_row, row_found, row_in}
 use Rattle.frame_shown.specs.declared.form.Around.{Around}
+use Rattle.frame_shown.specs.declared.form.Form.TheVariants as Forms
 use Rattle.frame_shown.specs.declared.form.Group.{Group}
 use Rattle.frame_shown.specs.declared.form.List.{List as Shape}
 use Rattle.frame_shown.specs.declared.form.List.TheVariants as Shapes
 use Rattle.frame_shown.specs.declared.form.Table.{Table}
+use Rattle.frame_shown.specs.declared.form.Table.TheVariants as Tables
 use Rattle.frame_shown.proofs.Items.{on_next}
 use Rattle.frame_diff.specs.Counters.{action_in}
 use Rattle.frame_diff.specs.Forests.{Forest, Held, Member, Step, comes, entries_step, find, forest, is_step, is_text}
 use Rattle.frame_diff.specs.Forests.{left_of, rest_step, values_step}
-use Rattle.frame_diff.specs.Groups.{are_plain, first_by, first_of, group_at, group_by, group_held, group_step}
+use Rattle.frame_diff.specs.Groups.{IsFlat, are_plain, first_by, first_of, group_at, group_by, group_held, group_step}
 use Rattle.frame_diff.specs.Groups.{group_values, is_entries, is_group, is_nested, is_same_group, nest_in}
 use Rattle.frame_diff.specs.Groups.{next_place, picked, place_items, rest_by, rest_forest, rest_of, value_at}
 use Rattle.frame_diff.specs.Groups.{values_by, values_of}
 use Rattle.frame_diff.specs.Inside.{has_none, is_of_object}
 use Rattle.frame_diff.specs.Items.{items_told, joined, leaf_items, step_text}
 use Rattle.frame_diff.specs.Members.{Reading, entries_in, entry_of, frame_member, group_of, held_by, is_nest, is_some}
-use Rattle.frame_diff.specs.Members.{kept_in, list_at, list_members, named_in, placed, placed_one, places, value_in}
+use Rattle.frame_diff.specs.Members.{kept_in, list_at, list_members, named_by, named_in, placed, placed_one, places, value_in}
 use Rattle.frame_diff.specs.Values.{kept_among, listed_shown}
 use Rattle.frame_diff.specs.Walked.{Holding, Showing, held_items, reading_at}
 use Rattle.frame_diff.specs.declared.side.Side.{Side}
@@ -40,6 +42,7 @@ use Rattle.frame_diff.proofs.Apart.{find_none}
 use Rattle.frame_diff.proofs.Classes.{list_steps, none_in_object}
 use Rattle.frame_diff.proofs.Entries.{below, later}
 use Rattle.frame_diff.proofs.Inside.{AreAt, append_at, forest_all, forest_some, same_told, same_written}
+use Rattle.frame_diff.proofs.Nested.{text_flat}
 use Rattle.frame_diff.proofs.Parts.{find_back, list_lacks, list_told}
 use Rattle.frame_diff.proofs.Walked.{last_further}
 
@@ -208,6 +211,24 @@ plain_append (x ∷ xs) ys = by (is_nested x) (plain_append xs ys)
         → (not b && are_plain (xs ++ ys)) ≡ ((not b && are_plain xs) && are_plain ys)
     by true h = refl
     by false h = h
+
+-- alternative names are texts
+pub names_flat : (group : Group) → IsFlat (Shapes.Listed group Tables.Props)
+names_flat group r [] = refl
+names_flat group r (f ∷ fs) = by (nat_lt (number f) 256) (53 == number f) (names_flat group r fs)
+  where
+    list : Shape
+    list = Shapes.Listed group Tables.Props
+
+    row : Bool → Known
+    row b = row_found (cond b (Some (53, (codes "alt-ifname", Forms.Text))) None)
+
+    by : (b c : Bool) → are_plain (values_of (named_in r list fs)) ≡ true
+        → are_plain (values_of (named_by r (action_in r.is_state list (number f)) (cond b (row c) no_row) f
+        ++ named_in r list fs)) ≡ true
+    by true true rest = (λ k. not (text_flat r.nest r.around f.payload k) && rest k)
+    by true false rest = rest
+    by false c rest = rest
 
 placed_plain : (n : ℕ) (hs : List (Option Held)) → has_none (forest (placed n hs)) ≡ are_plain hs
 placed_plain n [] = refl

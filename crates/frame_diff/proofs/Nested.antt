@@ -86,6 +86,10 @@ plain_flat plain h (Elements elements p) = refl
 plain_flat plain h (Listed elements p) = refl
 plain_flat plain h (Nested place p) = refl
 
+-- a text is none
+pub text_flat : (nest : Nesting) (cx : Around) (p : List ℕ) → is_nest (form_shown nest cx Forms.Text p) ≡ false
+text_flat nest cx p = plain_flat (P.Octets 0) refl (read_as S.Text p)
+
 module _ (nest : Nesting) (deep : Bool) (lists : (list : Shape) (p : List ℕ) → is_nest (nest list p) ≡ deep) where
   pub meaning_nest : (style : Style) (m : Meaning)
       → is_nest (meaning_shown nest style m) ≡ nest_meaning deep style m
@@ -151,7 +155,7 @@ module _ (nest : Nesting) (deep : Bool) (lists : (list : Shape) (p : List ℕ) �
   form_nest cx Forms.Unflagged p = refl
   form_nest cx (Forms.Number size) p = refl
   form_nest cx Forms.Signed p = refl
-  form_nest cx Forms.Text p = plain_flat (P.Octets 0) refl (read_as S.Text p)
+  form_nest cx Forms.Text p = text_flat nest cx p
   form_nest cx (Forms.Exact size) p = refl
   form_nest cx Forms.Truth p = refl
   form_nest cx Forms.Id p = refl

@@ -7,7 +7,7 @@ use Rattle.std.proofs.lemmas.Bool.{or_parts}
 use Rattle.nla_wire.specs.Frames.{Frame, number}
 use Rattle.nla_wire.specs.Items.{Item as Read, items}
 use Rattle.link_info.specs.Tables.{frames_in}
-use Rattle.shown.specs.Drafts.{Draft, with_members}
+use Rattle.shown.specs.Drafts.{Draft, Members, with_members}
 use Rattle.frame_shown.specs.Frames.{are_twice, by_number}
 use Rattle.frame_shown.specs.Items.{Item, are_any, comes_in, earlier_ones, objects}
 use Rattle.frame_shown.specs.Items.{has_number as has_shown_number}
@@ -25,7 +25,7 @@ use Rattle.frame_diff.specs.Shown.{HasNamesApart}
 use Rattle.frame_diff.specs.Walked.{AreAlike, AreOfFrame, HasNames, HasRowOf, Holding, HoldsApart, IsOf, IsOfNumber}
 use Rattle.frame_diff.specs.Walked.{IsTail}
 use Rattle.frame_diff.specs.Walked.{NoneBehind, Showing, held_at, held_items, is_kept_there, is_there}
-use Rattle.frame_diff.specs.Walked.{NoneComes, frame_items, is_row_alike, last_items, named_at, reading_at}
+use Rattle.frame_diff.specs.Walked.{IsNamedBy, NoneComes, frame_items, is_row_alike, last_items, named_at, reading_at}
 use Rattle.frame_diff.specs.declared.side.Side.{Side}
 use Rattle.frame_diff.specs.declared.walk.Attribute.{Attribute}
 use Rattle.frame_diff.specs.declared.walk.Attributes.{Attributes}
@@ -342,6 +342,62 @@ none_comes_behind behind f names none named nest inner is_state =
     let r = reading_at nest inner is_state behind.around.now in
     none_named r behind.list (names behind.list) f named (frames_in (items behind.bytes.now))
     (none (small r behind.list (names behind.list) f named))
+
+-- what an attribute tells that is not kept as it is, by whether another one of its name comes behind it
+module _ (nest : Showing) (inner : Holding) (is_state : Bool) (side : Side) (text : List ℕ)
+    (behind others : Attributes) (f : Frame) where
+  abbrev reads : Reading
+  reads = reading_at nest inner is_state behind.around.now
+
+  abbrev there : Forest
+  there = forest (named_at nest inner is_state others)
+
+  abbrev theirs : List Member
+  theirs = named_at nest inner is_state behind
+
+  abbrev items_of : List Members
+  items_of = frame_items side text reads behind.list there theirs f
+
+  abbrev label : List ℕ
+  label = (row_in behind.around.now behind.list (number f)).0
+
+  told_last : is_kept (row_in behind.around.now behind.list (number f)).1 f.payload ≡ false
+      → items_of ≡ last_items side text theirs (Step.name label, held_of reads behind.list f)
+      (find (Step.name label) there)
+  told_last named =
+      ap (λ b. cond b [] (last_items side text theirs (Step.name label, held_of reads behind.list f)
+      (find (Step.name label) there))) named
+
+  pub kept_page : (page : Draft) → is_kept (row_in behind.around.now behind.list (number f)).1 f.payload ≡ true
+      → page ≡ with_members (objects items_of) page
+  kept_page page kept =
+      sym (ap (λ b. with_members (objects (cond b [] (last_items side text theirs
+      (Step.name label, held_of reads behind.list f) (find (Step.name label) there)))) page) kept)
+
+  pub row_again : (name : List ℕ) (page : Draft) → IsNamedBy behind f name
+      → comes (Step.name name) theirs ≡ true → page ≡ with_members (objects items_of) page
+  row_again name page named again =
+      sym (ap (λ os. with_members (objects os) page)
+      (told_last named.0
+      ∙ ap (λ b. cond b [] (held_items side (joined text label) (held_of reads behind.list f)
+      (find (Step.name label) there)))
+      (ap (λ n. comes (Step.name n) theirs) (sym named.1) ∙ again)))
+
+  pub row_told : (name : List ℕ) (own : Attribute) (page new : Draft) → IsNamedBy behind f name
+      → comes (Step.name name) theirs ≡ false
+      → held_at nest inner is_state own ≡ held_of reads behind.list f
+      → new ≡ with_members (objects (held_items side (joined text name) (held_at nest inner is_state own)
+      (find (Step.name name) there))) page
+      → new ≡ with_members (objects items_of) page
+  row_told name own page new named once held is =
+      is
+      ∙ (λ k. with_members (objects (held_items side (joined text (named.1 k)) (held k)
+      (find (Step.name (named.1 k)) there))) page)
+      ∙ sym (ap (λ os. with_members (objects os) page)
+      (told_last named.0
+      ∙ ap (λ b. cond b [] (held_items side (joined text label) (held_of reads behind.list f)
+      (find (Step.name label) there)))
+      (ap (λ n. comes (Step.name n) theirs) (sym named.1) ∙ once)))
 
 pub none_again : (nest : Showing) (inner : Holding) (is_state : Bool) (own : Attributes) → HasNames own.around.now
     → are_twice (items own.bytes.now) ≡ false → earlier_at nest inner is_state own ≡ []

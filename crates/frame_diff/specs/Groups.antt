@@ -97,6 +97,10 @@ abbrev pub are_plain : List (Option Held) → Bool
 are_plain [] = true
 are_plain (h ∷ hs) = not (is_nested h) && are_plain hs
 
+-- whatever attributes there are
+abbrev pub IsFlat : Shape → Type 0
+IsFlat list = (r : Reading) (fs : List Frame) → are_plain (group_values r list fs) ≡ true
+
 -- ** one of them
 
 -- a list of attributes as a value

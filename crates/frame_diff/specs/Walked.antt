@@ -123,6 +123,11 @@ abbrev pub NoneComes : Attributes → List ℕ → Type 0
 NoneComes behind name = (nest : Showing) (inner : Holding) (is_state : Bool)
     → comes (Step.name name) (named_at nest inner is_state behind) ≡ false
 
+-- an attribute is not kept as it is, and told under this name
+abbrev pub IsNamedBy : Attributes → Frame → List ℕ → Type 0
+IsNamedBy list f name = (is_kept (row_in list.around.now list.list (number f)).1 f.payload ≡ false)
+    × (name ≡ (row_in list.around.now list.list (number f)).0)
+
 -- no number stands twice in two lists with the same rows, in one of which these are behind this attribute
 pub record StandsSingle (is_alike : Bool) (behind others : Attributes) (f : Frame) : Type 0 where
   pub alike : is_alike ≡ true

@@ -7,7 +7,7 @@ ghost use Rattle.frame_shown.specs.Items.{objects};
 ghost use Rattle.frame_diff.specs.Differences.{inside_in, leaf_in};
 ghost use Rattle.frame_diff.specs.Forests.{find};
 ghost use Rattle.frame_diff.specs.Groups.{are_plain, first_by, first_of, group_at, group_held, group_step, is_entries};
-ghost use Rattle.frame_diff.specs.Groups.{IsSameEntry, is_group, is_same_group, list_held, nest_in, nest_items, next_place};
+ghost use Rattle.frame_diff.specs.Groups.{IsFlat, IsSameEntry, is_group, is_same_group, list_held, nest_in, nest_items, next_place};
 ghost use Rattle.frame_diff.specs.Groups.{picked, place_items, rest_by, rest_of, value_at, values_by};
 ghost use Rattle.frame_diff.specs.Inside.{above, inside_list};
 ghost use Rattle.frame_diff.specs.Items.{items_told, joined, leaf_items, step_text};
@@ -26,7 +26,7 @@ use crate::same::is_same_list;
 use crate::value::tell_value;
 use crate::walk::{Attribute, Attributes, Pass, Walk};
 use frame_shown::depth::Above;
-use frame_shown::form::{Form, List, Way, is_kept, row_in};
+use frame_shown::form::{Form, List, Table, Way, is_kept, row_in};
 use nla_wire::{NlaBuffer, NlasIterator};
 use shown::Page;
 use std::alloc::AllocError;
@@ -421,8 +421,29 @@ fn is_deep<W: Walk>(own: Option<Attribute<'_>>) -> bool
     }
 }
 
+/// Whether all values of a list are known to be texts.
+#[tactic(auto, using(crate::proofs::Grouped::names_flat))]
+fn is_flat(list: List) -> bool
+    ensures { result ≡ true → IsFlat list }
+{
+    match list {
+        List::Listed(_, Table::Props) => true,
+        _ => false,
+    }
+}
+
 /// Whether none of the values of a list is an object or a list.
 fn are_plain<W: Walk>(is_state: bool, list: Attributes<'_>) -> bool
+    ensures { are_plain (group_at W.nest W.inner is_state list.entry) ≡ result }
+{
+    if is_flat(list.list) {
+        return true;
+    }
+    are_all_plain::<W>(is_state, list)
+}
+
+/// The same, value by value.
+fn are_all_plain<W: Walk>(is_state: bool, list: Attributes<'_>) -> bool
     ensures { are_plain (group_at W.nest W.inner is_state list.entry) ≡ result }
 {
     for item in NlasIterator::new(list.bytes) {

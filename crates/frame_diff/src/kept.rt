@@ -1,12 +1,12 @@
 //! What attributes tell that are kept as they are.
 
 ghost use Rattle.std.specs.Prelude.{◌≡◌, ◌<◌, ◌+◌, ◌++◌, ◌^◌, ℕ, [], ◌∷◌, IfOk, OnOk, codes, decimal, map};
-ghost use Rattle.std.specs.Prelude.{option_map, true};
+ghost use Rattle.std.specs.Prelude.{not, option_map, true};
 ghost use Rattle.nla_wire.specs.Frames.{number};
 ghost use Rattle.shown.specs.Drafts.{with_members};
 ghost use Rattle.frame_shown.specs.Items.{objects};
 ghost use Rattle.frame_shown.specs.Kept.{text_unless_empty};
-ghost use Rattle.frame_shown.specs.Tables.{kind_shown, row_in};
+ghost use Rattle.frame_shown.specs.Tables.{is_kept, kind_shown, row_in};
 ghost use Rattle.frame_shown.specs.Values.{hexadecimal};
 ghost use Rattle.frame_shown.specs.declared.form.Around.{Around as Beside};
 ghost use Rattle.frame_diff.specs.Counters.{is_passed};
@@ -25,7 +25,7 @@ use crate::path::{join, join_place};
 use crate::rows::{Row, tell_rows};
 use crate::side::Side;
 use crate::walk::{Attributes, Pass};
-use frame_shown::form::{Around, Form, Way, is_kept, row_in};
+use frame_shown::form::{Around, Form, Way, name_in, row_in};
 use nla_wire::{NLA_TYPE_MASK, NlaBuffer, NlasIterator};
 use shown::Page;
 use std::alloc::{AllocError, Global};
@@ -130,6 +130,17 @@ fn kind_shown(way: Way, kind: u16) -> u16
     }
 }
 
+/// Whether an attribute has a name, and is not kept as it is.
+fn is_some_name(list: Attributes<'_>, frame: &NlaBuffer<'_>) -> bool
+    ensures { not result ≡ is_kept
+        (row_in list.entry.around.now list.entry.list (number frame.now)).1 frame.now.payload }
+{
+    match name_in(list.around, list.list, frame.kind(), frame.value()) {
+        Some(_name) => true,
+        None => false,
+    }
+}
+
 /// What an attribute is in the list of those that are kept.
 fn look_at<'a>(is_state: bool, list: Attributes<'a>, frame: &NlaBuffer<'a>) -> Entry<'a>
     ensures { entry_held result ≡ kept_by (is_passed is_state list.entry.list (number frame.now))
@@ -137,13 +148,13 @@ fn look_at<'a>(is_state: bool, list: Attributes<'a>, frame: &NlaBuffer<'a>) -> E
         frame.now }
 {
     let number = frame.kind();
-    let (name, way) = row_in(list.around, list.list, number);
-    if !is_kept(way, frame.value()) {
+    if is_some_name(list, frame) {
         return Entry::Named;
     }
     if is_passed(is_state, list.list, number) {
         return Entry::Passed;
     }
+    let (name, way) = row_in(list.around, list.list, number);
     Entry::Kept(Kept {
         name,
         kind: kind_shown(way, frame.kind_with_flags()),

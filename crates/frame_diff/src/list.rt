@@ -9,21 +9,20 @@ ghost use Rattle.link_info.specs.Tables.{frames_in};
 ghost use Rattle.shown.specs.Drafts.{with_members};
 ghost use Rattle.frame_shown.specs.Frames.{are_twice};
 ghost use Rattle.frame_shown.specs.Items.{objects};
-ghost use Rattle.frame_shown.specs.Tables.{is_kept};
 ghost use Rattle.frame_diff.specs.Beside.{held_of, is_named};
 ghost use Rattle.frame_diff.specs.Forests.{Step, comes, find, forest};
 ghost use Rattle.frame_diff.specs.Items.{items_told, joined};
 ghost use Rattle.frame_diff.specs.Walked.{AreAlike, AreOfFrame, HasNames, HasRowOf, Holding, IsOf, IsOfNumber, IsTail};
-ghost use Rattle.frame_diff.specs.Walked.{NoneBehind, NoneComes, Showing, StandsSingle, frame_items, has_payload};
+ghost use Rattle.frame_diff.specs.Walked.{IsNamedBy, NoneBehind, NoneComes, Showing, StandsSingle, frame_items, has_payload};
 ghost use Rattle.frame_diff.specs.Walked.{held_at, held_items, is_row_alike};
-ghost use Rattle.frame_diff.specs.Walked.{is_kept_there, is_there, named_at, reading_at, row_items};
+ghost use Rattle.frame_diff.specs.Walked.{is_kept_there, is_there, named_at, reading_at};
 
 use crate::leaf::{Texts, is_same};
 use crate::named::{find_named, is_named};
 use crate::path::join;
 use crate::value::tell_value;
 use crate::walk::{Attribute, Attributes, Pass, Walk};
-use frame_shown::form::{Around, List, is_kept, row_in};
+use frame_shown::form::{Around, List, is_kept, name_in, row_in};
 use frame_shown::list::has_twice;
 use nla_wire::{NlaBuffer, NlasIterator, padded_len};
 use shown::Page;
@@ -185,7 +184,7 @@ fn comes_too(is_single: bool, behind: Attributes<'_>, name: &str) -> bool
     comes(behind, name)
 }
 
-/// Tells of an attribute, unless it is kept as it is, or another one of its name comes behind it.
+/// Tells of an attribute under its name, unless another one of its name comes behind it.
 fn tell_row<W: Walk>(
     texts: &mut Texts,
     pass: Pass,
@@ -195,29 +194,25 @@ fn tell_row<W: Walk>(
     others: Attributes<'_>,
     is_single: bool,
     name: &str,
-    own: Attribute<'_>,
+    frame: &NlaBuffer<'_>,
 ) -> Result<(), AllocError>
-    requires names { HasNames own.around.now }
-    requires single { is_single ≡ true → is_kept own.way own.payload.now ≡ false
-        → NoneComes behind name.now }
+    requires names { HasNames behind.around.now }
+    requires single { is_single ≡ true → NoneBehind frame.now behind }
     requires rows { pass.is_alike ≡ true → AreAlike behind others }
-    requires row { IsOf behind own }
-    ensures { OnOk result (page.new ≡ with_members (objects (row_items pass.side path.now
+    requires name { IsNamedBy behind frame.now name.now }
+    ensures { OnOk result (page.new ≡ with_members (objects (frame_items pass.side path.now
+        (reading_at W.nest W.inner pass.is_state behind.entry.around.now) behind.entry.list
         (forest (named_at W.nest W.inner pass.is_state others.entry))
-        (named_at W.nest W.inner pass.is_state behind.entry)
-        name.now own.entry.way own.entry.payload.now
-        (held_at W.nest W.inner pass.is_state own.entry))) page.old) }
+        (named_at W.nest W.inner pass.is_state behind.entry) frame.now)) page.old) }
 {
-    if is_kept(own.way, own.payload) {
-        return Ok(());
-    }
     if comes_too(is_single, behind, name) {
         return Ok(());
     }
+    let own = attribute(behind, frame);
     tell_last::<W>(texts, pass, page, path, behind, others, name, own)
 }
 
-/// Tells of an attribute by its row.
+/// Tells of an attribute by its row, unless it is kept as it is.
 fn tell_frame<W: Walk>(
     texts: &mut Texts,
     pass: Pass,
@@ -236,18 +231,12 @@ fn tell_frame<W: Walk>(
         (forest (named_at W.nest W.inner pass.is_state others.entry))
         (named_at W.nest W.inner pass.is_state behind.entry) frame.now)) page.old) }
 {
-    let number = frame.kind();
-    let (name, way) = row_in(behind.around, behind.list, number);
-    let own = Attribute {
-        around: behind.around,
-        list: behind.list,
-        number,
-        way,
-        payload: frame.value(),
-    };
-    tell_row::<W>(
-        texts, pass, page, path, behind, others, is_single, name, own,
-    )
+    match name_in(behind.around, behind.list, frame.kind(), frame.value()) {
+        Some(name) => tell_row::<W>(
+            texts, pass, page, path, behind, others, is_single, name, frame,
+        ),
+        None => Ok(()),
+    }
 }
 
 /// The first attribute, if it has this number.

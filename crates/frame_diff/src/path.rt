@@ -10,7 +10,7 @@ use std::alloc::{AllocError, Global};
 pub fn join(alloc: Global, text: &str, step: &str) -> Result<String, AllocError>
     ensures { IfOk result (λ path. string_bytes path ≡ joined text.now step.now) }
 {
-    let mut path = String::new(alloc);
+    let mut path = String::with_capacity(alloc, text.len() + step.len() + 1)?;
     if !text.is_empty() {
         path.push_str(text)?;
         path.push('.')?;

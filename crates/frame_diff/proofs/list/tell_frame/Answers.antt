@@ -1,16 +1,20 @@
-use Rattle.std.proofs.Common.{◌≡◌, ap, sym, ◌∙◌, subst}
-use Rattle.frame_shown.specs.Tables.{Known, is_kept, row_in}
-use Rattle.frame_diff.specs.Walked.{NoneComes}
-use Rattle.nla_wire.specs.Frames.{number}
-use Rattle.frame_diff.proofs.There.{none_comes_behind}
+use Rattle.std.proofs.Common.{ap, sym, ◌∙◌}
+use Rattle.frame_shown.specs.Tables.{is_kept, row_in}
+use Rattle.frame_diff.proofs.There.{kept_page}
 use Rattle.frame_diff.proofs.list.tell_frame.Goals as goal
 
-pub tell_row-requires-clause-single : goal.tell_row-requires-clause-single
-tell_row-requires-clause-single g c h named =
-    let behind = c.args.behind in
-    let f = c.args.frame.now in
-    let row : (c.row_in.result.0.now, c.row_in.result.1) ≡ row_in behind.around.now behind.list (number f) =
-    c.row_in.ensures.row ∙ ap (row_in behind.around.now behind.list) c.kind-number.ensures in
-    subst (NoneComes behind) (sym (ap (λ (row : Known). row.0) row))
-    (none_comes_behind behind f c.requires.names (c.requires.single h)
-    ((λ k. is_kept (sym (ap (λ (row : Known). row.1) row) k) (sym c.value.ensures.value k)) ∙ named))
+pub tell_row-requires-clause-name : goal.tell_row-requires-clause-name
+tell_row-requires-clause-name g c =
+    let cx = c.args.behind.around.now in
+    let list = c.args.behind.list in (
+      (λ k. is_kept (row_in cx list (sym c.kind.ensures k)).1 (sym c.value.ensures.value k)) ∙ c.in-Some.ensures.0,
+      c.in-Some.ensures.1 ∙ ap (λ n. (row_in cx list n).0) c.kind.ensures,
+    )
+
+pub returns-in-None : goal.returns-in-None
+returns-in-None g c =
+    let cx = c.args.behind.around.now in
+    let list = c.args.behind.list in
+    kept_page g.W.Depth.nest g.W.Walk.inner c.args.pass.is_state c.args.pass.side c.args.path.now c.args.behind
+    c.args.others c.args.frame.now c.args.page.now
+    ((λ k. is_kept (row_in cx list (sym c.kind.ensures k)).1 (sym c.value.ensures.value k)) ∙ c.in-None.ensures)

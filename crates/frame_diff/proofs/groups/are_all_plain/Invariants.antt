@@ -2,7 +2,7 @@ use Rattle.std.proofs.Common.{◌≡◌}
 use Rattle.link_info.specs.Tables.{frames_in}
 use Rattle.frame_diff.specs.Groups.{are_plain, group_at, group_values}
 use Rattle.frame_diff.specs.Walked.{reading_at}
-use Rattle.frame_diff.proofs.groups.are_plain.Given as goal
+use Rattle.frame_diff.proofs.groups.are_all_plain.Given as goal
 
 abbrev pub invariant-loop-item : goal.invariant-loop-item
 invariant-loop-item g l =

@@ -2,7 +2,7 @@ use Rattle.std.proofs.Common.{◌≡◌, ◌∷◌, ◌∙◌, Ok, ap}
 use Rattle.std.specs.Prelude.{not}
 use Rattle.frame_diff.specs.Groups.{are_plain, group_at}
 use Rattle.frame_diff.proofs.Grouped.{not_plain, plain_next}
-use Rattle.frame_diff.proofs.groups.are_plain.Goals as goal
+use Rattle.frame_diff.proofs.groups.are_all_plain.Goals as goal
 
 pub returns-then-is_deep : goal.returns-then-is_deep
 returns-then-is_deep g c =
