@@ -13,7 +13,7 @@ use Rattle.message_diff.specs.declared.key.Key.{Key}
 use Rattle.message_diff.specs.declared.store.Entry.{Entry}
 use Rattle.message_diff.specs.declared.store.Host.{Host}
 use Rattle.message_diff.specs.declared.store.Known.{Known}
-use Rattle.message_diff.specs.declared.watch.Telling.{Telling}
+use Rattle.message_diff.specs.declared.telling.Telling.{Telling}
 use Rattle.frame_shown.specs.declared.form.Order.{Order}
 use Rattle.message_diff.specs.Shots.{Shot}
 use Rattle.message_diff.specs.Announced.{is_another, kind_in, kind_or}

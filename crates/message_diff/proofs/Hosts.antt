@@ -8,7 +8,7 @@ use Rattle.std.proofs.lemmas.Cmp.{eq_by_cmp_equiv}
 use Rattle.std.proofs.lemmas.Map.Text.{is_eq-slice_cmp}
 use Rattle.message_diff.specs.declared.reading.Said.{Said}
 use Rattle.message_diff.specs.declared.reading.Said.TheVariants as Saids
-use Rattle.message_diff.specs.declared.watch.Telling.{Telling}
+use Rattle.message_diff.specs.declared.telling.Telling.{Telling}
 use Rattle.message_diff.specs.declared.watch.Watch.{Watch}
 use Rattle.message_diff.specs.Known.{Picture, is_text}
 use Rattle.message_diff.specs.Held.{Applies}

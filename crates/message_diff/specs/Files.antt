@@ -20,8 +20,8 @@ use Rattle.message_diff.specs.declared.files.Findings.{Findings}
 use Rattle.message_diff.specs.declared.files.Outcome.{Outcome}
 use Rattle.message_diff.specs.declared.files.Outcome.TheVariants as Outcomes
 use Rattle.message_diff.specs.declared.snapshot.Compared.{Compared}
-use Rattle.message_diff.specs.declared.watch.Told.{Told}
-use Rattle.message_diff.specs.declared.watch.Told.TheVariants.{Faults}
+use Rattle.message_diff.specs.declared.telling.Told.{Told}
+use Rattle.message_diff.specs.declared.telling.Told.TheVariants.{Faults}
 use Rattle.message_diff.specs.declared.watch.Watch.{Watch}
 use Rattle.message_diff.specs.Alone.{IsAlone}
 use Rattle.message_diff.specs.Announced as announced

@@ -14,7 +14,7 @@ use Rattle.message_diff.specs.declared.store.Host.{Host}
 use Rattle.message_diff.specs.declared.store.Entry.{Entry}
 use Rattle.message_diff.specs.declared.reading.Said.{Said}
 use Rattle.message_diff.specs.declared.reading.Said.TheVariants as Saids
-use Rattle.message_diff.specs.declared.watch.Telling.{Telling}
+use Rattle.message_diff.specs.declared.telling.Telling.{Telling}
 use Rattle.frame_shown.specs.declared.form.Order.{Order}
 use Rattle.message_diff.specs.Shots.{Shot}
 use Rattle.message_diff.specs.Announced.{kind_in, kind_or}

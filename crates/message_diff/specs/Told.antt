@@ -3,10 +3,10 @@ use Rattle.std.specs.Prelude.{◌≡◌, ◌==◌, ◌&&◌, ◌||◌, ℕ, Bool
 use Rattle.std.specs.Prelude.{Option, None, Some, is_some, cond, codes}
 use Rattle.std.specs.List.Sorted.{IsStrictlySortedBy}
 use Rattle.message_diff.specs.declared.key.Key.{Key}
-use Rattle.message_diff.specs.declared.watch.Told.{Told}
-use Rattle.message_diff.specs.declared.watch.Telling.{Telling}
+use Rattle.message_diff.specs.declared.telling.Told.{Told}
+use Rattle.message_diff.specs.declared.telling.Telling.{Telling}
 use Rattle.message_diff.specs.declared.snapshot.Compared.{Compared}
-use Rattle.message_diff.specs.declared.watch.Told.TheVariants as Tellings
+use Rattle.message_diff.specs.declared.telling.Told.TheVariants as Tellings
 use Rattle.message_diff.specs.Alone.{IsAlone}
 use Rattle.message_diff.specs.Announced.{is_another}
 use Rattle.message_diff.specs.Changed.{IsChanged}

@@ -3,9 +3,9 @@ use Rattle.std.proofs.Common.{◌≡◌, ◌≤◌, ◌<◌, ℕ, Bool, true, fa
 use Rattle.std.specs.Prelude.{Option, None, Some, cond, is_some, not, nat_le, ◌&&◌, ◌||◌, ◌==◌}
 use Rattle.std.proofs.lemmas.Bool.Decides.{nat_tests}
 use Rattle.message_diff.specs.declared.key.Key.{Key}
-use Rattle.message_diff.specs.declared.watch.Telling.{Telling}
-use Rattle.message_diff.specs.declared.watch.Told.{Told}
-use Rattle.message_diff.specs.declared.watch.Told.TheVariants as Tellings
+use Rattle.message_diff.specs.declared.telling.Telling.{Telling}
+use Rattle.message_diff.specs.declared.telling.Told.{Told}
+use Rattle.message_diff.specs.declared.telling.Told.TheVariants as Tellings
 use Rattle.message_diff.specs.Announced.{is_another, kind_in, kind_or}
 use Rattle.message_diff.specs.Shots.{Shot}
 use Rattle.message_diff.specs.Held.{IsAfter}

@@ -9,7 +9,7 @@ use Rattle.line_filter.specs.Runs.{Runs}
 use Rattle.line_filter.specs.Words.{front_of, rest_of}
 use Rattle.message_diff.specs.declared.reading.Said.{Said}
 use Rattle.message_diff.specs.declared.reading.Said.TheVariants as Saids
-use Rattle.message_diff.specs.declared.watch.Telling.{Telling}
+use Rattle.message_diff.specs.declared.telling.Telling.{Telling}
 use Rattle.message_diff.specs.declared.watch.Watch.{Watch}
 use Rattle.message_diff.specs.Held.{IsAfter, item_of}
 use Rattle.message_diff.specs.Known.{Item, Picture, after, is_text, nothing_known}

@@ -9,7 +9,7 @@ use Rattle.message_diff.specs.declared.key.Key.{Key}
 use Rattle.message_diff.specs.declared.reading.Said.{Said}
 use Rattle.message_diff.specs.declared.reading.Said.TheVariants as Saids
 use Rattle.message_diff.specs.declared.snapshot.Compared.{Compared}
-use Rattle.message_diff.specs.declared.watch.Telling.{Telling}
+use Rattle.message_diff.specs.declared.telling.Telling.{Telling}
 use Rattle.message_diff.specs.Announced.{are_two, is_another, kind_in, kind_or}
 use Rattle.message_diff.specs.Shots.{Shot}
 use Rattle.message_diff.specs.Held.{item_of}

@@ -2,7 +2,7 @@
 use Rattle.std.proofs.Common.{ℕ, List}
 use Rattle.line_filter.specs.Lines.{lines_of}
 use Rattle.message_diff.specs.declared.snapshot.Compared.{Compared}
-use Rattle.message_diff.specs.declared.watch.Told.TheVariants as Tellings
+use Rattle.message_diff.specs.declared.telling.Told.TheVariants as Tellings
 use Rattle.told_laws.specs.Hosts.{TellsApart, of_host}
 use Rattle.told_laws.specs.Turns.{all_by}
 use Rattle.told_laws.specs.Whole.{AreOrderly, WholeRuns}

@@ -4,8 +4,8 @@ use Rattle.line_filter.specs.Words.{front_of}
 use Rattle.message_diff.specs.declared.key.Key.{Key}
 use Rattle.message_diff.specs.declared.reading.Said.{Said}
 use Rattle.message_diff.specs.declared.snapshot.Compared.{Compared}
-use Rattle.message_diff.specs.declared.watch.Telling.{Telling}
-use Rattle.message_diff.specs.declared.watch.Told.TheVariants as Tellings
+use Rattle.message_diff.specs.declared.telling.Telling.{Telling}
+use Rattle.message_diff.specs.declared.telling.Told.TheVariants as Tellings
 use Rattle.message_diff.specs.Alone.{IsAlone}
 use Rattle.message_diff.specs.Announced.{is_another}
 use Rattle.message_diff.specs.Held.{item_of}

@@ -4,8 +4,8 @@ use Rattle.std.specs.Prelude.{◌≡◌, ◌⊎◌, ◌&&◌, ◌||◌, ◌++◌
 use Rattle.std.specs.Prelude.{None, Some, is_some}
 use Rattle.message_diff.specs.declared.key.Key.{Key}
 use Rattle.message_diff.specs.declared.snapshot.Compared.{Compared}
-use Rattle.message_diff.specs.declared.watch.Telling.{Telling}
-use Rattle.message_diff.specs.declared.watch.Told.TheVariants as Tellings
+use Rattle.message_diff.specs.declared.telling.Telling.{Telling}
+use Rattle.message_diff.specs.declared.telling.Told.TheVariants as Tellings
 use Rattle.message_diff.specs.Known.{Item, Picture, after, is_key, is_text, nothing_known}
 use Rattle.message_diff.specs.Shots.{Shot}
 use Rattle.message_diff.specs.Told.{is_told_gone}

@@ -4,7 +4,7 @@ use Rattle.std.specs.List.{flat_map}
 use Rattle.std.specs.Io.KnownBytes.{Appends, Consumes}
 use Rattle.line_filter.specs.Lines.{lines_of}
 use Rattle.message_diff.specs.declared.snapshot.Compared.{Compared}
-use Rattle.message_diff.specs.declared.watch.Told.TheVariants as Tellings
+use Rattle.message_diff.specs.declared.telling.Told.TheVariants as Tellings
 use Rattle.message_diff.specs.Watched.{Watches}
 use Rattle.told_laws.specs.Hosts.{Piece, of_host}
 use Rattle.told_laws.specs.Turns.{IsOrderly}

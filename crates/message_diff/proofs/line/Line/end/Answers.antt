@@ -1,6 +1,6 @@
 use Rattle.std.proofs.lemmas.Result.{on_ok_weaker}
 use Rattle.message_diff.proofs.Gone.{tells_went}
-use Rattle.message_diff.proofs.watch.Line.end.Goals as goal
+use Rattle.message_diff.proofs.line.Line.end.Goals as goal
 
 pub returns-clause-told : goal.returns-clause-told
 returns-clause-told c =

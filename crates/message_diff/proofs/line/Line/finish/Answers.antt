@@ -9,7 +9,7 @@ use Rattle.message_diff.specs.Told.{AddsAllGone}
 use Rattle.message_diff.specs.Held.{held, held_in, left, picture, seen_in, shot_told}
 use Rattle.message_diff.proofs.Gone.{tells_gone, tells_nothing}
 use Rattle.message_diff.proofs.Missed.{missed_taken, runs, runs_not, left_sorted, left_each}
-use Rattle.message_diff.proofs.watch.Line.finish.Goals as goal
+use Rattle.message_diff.proofs.line.Line.finish.Goals as goal
 
 always : {P : Type 0} (r : Result (Unit {0}) AllocError) → P → OnOk r P
 always (Ok _) h = h

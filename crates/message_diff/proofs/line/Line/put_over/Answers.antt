@@ -6,7 +6,7 @@ use Rattle.message_diff.specs.Held.{held, kind_at, kind_known, seen_in, shot_in,
 use Rattle.message_diff.proofs.Gone.{of_kept, of_other, on_ok_both, tells_other, tells_put}
 use Rattle.message_diff.proofs.Pictures.{kind_is, put_over, seen_taken, taken_both, shot_is}
 use Rattle.message_diff.proofs.TwoKinds.{kind_other}
-use Rattle.message_diff.proofs.watch.Line.put_over.Goals as goal
+use Rattle.message_diff.proofs.line.Line.put_over.Goals as goal
 
 pub returns-in_default-clause-known : goal.returns-in_default-clause-known
 returns-in_default-clause-known c =

@@ -1,7 +1,7 @@
 use Rattle.std.proofs.Common.{◌∙◌, arith}
 use Rattle.message_diff.proofs.Pictures.{taken_at}
 use Rattle.message_diff.proofs.Gone.{gone_next, gone_last, sorted_next}
-use Rattle.message_diff.proofs.watch.Line.forget_all.Goals as goal
+use Rattle.message_diff.proofs.line.Line.forget_all.Goals as goal
 
 pub loop-key-preserved : goal.loop-key-preserved
 loop-key-preserved c =

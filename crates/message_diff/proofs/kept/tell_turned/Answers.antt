@@ -1,6 +1,6 @@
 use Rattle.std.proofs.Common.{ap}
 use Rattle.message_diff.proofs.Silent.{told_of}
-use Rattle.message_diff.proofs.watch.tell_turned.Goals as goal
+use Rattle.message_diff.proofs.kept.tell_turned.Goals as goal
 
 pub returns : goal.returns
 returns c =

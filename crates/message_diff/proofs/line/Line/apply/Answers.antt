@@ -3,12 +3,12 @@ use Rattle.std.proofs.lemmas.Result.{on_ok_weaker}
 use Rattle.message_diff.specs.declared.reading.Said.{Said}
 use Rattle.message_diff.specs.declared.store.Host.{Host}
 use Rattle.message_diff.specs.Known.{Item, is_ended_with, is_key, kind_of, shot_of, words_kept}
-use Rattle.message_diff.specs.declared.watch.Telling.{Telling}
+use Rattle.message_diff.specs.declared.telling.Telling.{Telling}
 use Rattle.message_diff.specs.Told.{AddsTold}
 use Rattle.message_diff.specs.Held.{Applies, IsAfter, held, last_of, picture, run_in, seen_in}
 use Rattle.message_diff.proofs.Pictures.{kind_is, seen_taken, shot_is, words_is}
 use Rattle.message_diff.proofs.Gone.{on_ok_both, seen_put, stays, tells_nothing, whole_same}
-use Rattle.message_diff.proofs.watch.Line.apply.Goals as goal
+use Rattle.message_diff.proofs.line.Line.apply.Goals as goal
 
 pub returns-in-Refused : goal.returns-in-Refused
 returns-in-Refused c =

@@ -5,7 +5,7 @@ use Rattle.message_diff.specs.declared.key.Key.{Key}
 use Rattle.message_diff.specs.Known.{is_among, key_cmp}
 use Rattle.message_diff.specs.Told.{AddsAllGone}
 use Rattle.message_diff.specs.Held.{held, shot_told}
-use Rattle.message_diff.proofs.watch.Line.forget_all.Given as goal
+use Rattle.message_diff.proofs.line.Line.forget_all.Given as goal
 
 abbrev pub invariant-loop-key : goal.invariant-loop-key
 invariant-loop-key l = record {

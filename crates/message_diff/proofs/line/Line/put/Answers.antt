@@ -7,7 +7,7 @@ use Rattle.message_diff.specs.Told.{says}
 use Rattle.message_diff.proofs.Pictures.{kind_is, shot_is}
 use Rattle.message_diff.proofs.Gone.{kind_kept, kind_same, of_kept, seen_put, shot_same, some_shot, tells_same}
 use Rattle.message_diff.proofs.Gone.{words_none}
-use Rattle.message_diff.proofs.watch.Line.put.Goals as goal
+use Rattle.message_diff.proofs.line.Line.put.Goals as goal
 
 pub returns-then-see_same-clause-known : goal.returns-then-see_same-clause-known
 returns-then-see_same-clause-known c =
