@@ -100,8 +100,8 @@ def named(name):
 
 
 class Shown:
-    """What is shown of a message: the value at each path, in order; the paths that are counters; and of the values
-    those that are no counters of zero."""
+    """What is shown of a message: the value at each path, in order; the paths that are counters, which a state passes
+    over; and the values at the others."""
 
     def __init__(self, page, filled):
         page = json.loads(page)
@@ -109,13 +109,8 @@ class Shown:
         others = dict(leaves_of(json.loads(filled)))
         self.counters = {path for path, value in self.leaves.items()
                          if path not in others or others[path] != value or IPV6.match(path)}
-        self.settings = {path: value for path, value in self.leaves.items()
-                         if not (path in self.counters and may_be_zero(text_of(value)))}
+        self.settings = {path: value for path, value in self.leaves.items() if path not in self.counters}
         self.named = named(page.get("ifname"))
-
-
-def may_be_zero(value):
-    return value == '"none"' or "0" in value and not any(it in value for it in "123456789")
 
 
 def leaves_of(page):
@@ -184,17 +179,11 @@ def messages(linkshow, options, texts, kernels):
 def changes(old, new, is_all):
     """The list `changes` of two messages, each with how it is shown."""
     (was, before), (now, after) = old, new
-    olds, news = (set(), set()) if is_all else (before.counters, after.counters)
-    rows = [(path, text_of(value), text_of(after.leaves[path]) if path in after.leaves else None)
-            for path, value in before.leaves.items() if path not in after.leaves or after.leaves[path] != value]
-    rows += [(path, None, text_of(value)) for path, value in after.leaves.items() if path not in before.leaves]
-    out = []
-    for path, one, other in rows:
-        one = None if one and path in olds and may_be_zero(one) else one
-        other = None if other and path in news and may_be_zero(other) else other
-        if one is not None or other is not None:
-            out.append((path, one, other))
-    out = out or [("state", f'"{was.text.hex()}"', f'"{now.text.hex()}"')]
+    olds, news = (before.leaves, after.leaves) if is_all else (before.settings, after.settings)
+    rows = [(path, text_of(value), text_of(news[path]) if path in news else None)
+            for path, value in olds.items() if path not in news or news[path] != value]
+    rows += [(path, None, text_of(value)) for path, value in news.items() if path not in olds]
+    out = rows or [("state", f'"{was.text.hex()}"', f'"{now.text.hex()}"')]
     return "[" + ",".join(
         f'{{"path":{text_of(path)}' + ("" if one is None else f',"old":{one}')
         + ("" if other is None else f',"new":{other}') + "}" for path, one, other in out) + "]"

@@ -17,7 +17,7 @@ use crate::list::{behind, comes};
 use crate::path::{join, join_place};
 use crate::value::tell_value;
 use crate::walk::{Attribute, Attributes, Pass, Walk};
-use frame_shown::form::{name_in, row_in};
+use frame_shown::form::{is_kept, row_in};
 use nla_wire::{NlaBuffer, NlasIterator};
 use shown::Page;
 use std::alloc::AllocError;
@@ -39,11 +39,13 @@ fn again<'a>(behind: Attributes<'a>, frame: &NlaBuffer<'a>) -> Option<Named<'a>>
         (named_at nest inner is_state behind.entry) frame.now }
 {
     let number = frame.kind();
-    let name = name_in(behind.around, behind.list, number, frame.value())?;
+    let (name, way) = row_in(behind.around, behind.list, number);
+    if is_kept(way, frame.value()) {
+        return None;
+    }
     if !comes(behind, name) {
         return None;
     }
-    let (_, way) = row_in(behind.around, behind.list, number);
     let attribute = Attribute {
         around: behind.around,
         list: behind.list,

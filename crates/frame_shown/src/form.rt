@@ -597,6 +597,7 @@ pub(crate) fn found_in(cx: &Around<'_>, list: &List, number: u16) -> Found
 }
 
 /// The name that an attribute is shown under, unless it is kept as it is.
+#[inline(always)]
 pub fn name_in(cx: &Around<'_>, list: List, number: u16, payload: &[u8]) -> Option<&'static str>
     ensures { MatchOption result (is_kept (row_in cx.now list number).1 payload.now ≡ true)
         (λ name. (is_kept (row_in cx.now list number).1 payload.now ≡ false)
