@@ -348,12 +348,14 @@ def level(name, first=None, second=None):
 
 
 def cleared(rows, b, byte=b'\0'):
-    """A list with this byte in the place of what its level clears."""
+    """A list with this byte in the place of what its level clears. One that is not zero stands there also where what is
+    cleared has no bytes, so that it differs."""
     out, end = [], 0
     for start, kind, p in frames_in(b):
         what, *said = rows.get(kind & 0x3fff, ['Keep'])
+        size = len(p)
         if what == 'Clear':
-            p = byte * len(p)
+            p = byte * (size or byte[0])
         elif what == 'ClearPart':
             a, z = (int(x) for x in said)
             p = p[:a] + byte * len(p[a:z]) + p[z:]
@@ -363,8 +365,9 @@ def cleared(rows, b, byte=b'\0'):
             kinds = [next((KINDS[i][q] for _, k, q in frames_in(p) if k & 0x3fff == n and q in KINDS[i]), 'Other')
                      for i, n in ((0, 1), (1, 4))]
             p = cleared(level('Info', *kinds), p, byte)
-        out += [b[start:start + 4], p, b[start + 4 + len(p):(start + 4 + len(p) + 3) & ~3]]
-        end = start + 4 + len(p) + 3 & ~3
+        end = start + 4 + size + 3 & ~3
+        padding = b[start + 4 + size:end] if len(p) == size else bytes(-len(p) % 4)
+        out += [(4 + len(p)).to_bytes(2, 'little'), b[start + 2:start + 4], p, padding]
     return b''.join(out) + b[end:]
 
 

@@ -109,6 +109,9 @@ class Shown:
         others = dict(leaves_of(json.loads(filled)))
         self.counters = {path for path, value in self.leaves.items()
                          if path not in others or others[path] != value or IPV6.match(path)}
+        # of an attribute that is kept as it is all is passed over
+        kept = {path.removesuffix(".payload") for path in self.counters if path.endswith(".payload")}
+        self.counters |= {path for path in self.leaves if path.rpartition(".")[0] in kept}
         self.settings = {path: value for path, value in self.leaves.items() if path not in self.counters}
         self.named = named(page.get("ifname"))
 

@@ -20,7 +20,7 @@ use Rattle.frame_diff.specs.Members.{Reading, alone, earlier, named_in, placed, 
 use Rattle.frame_diff.specs.Repeated.{GoesOnAt, IsBeside, IsSameAgain, again_held, again_in, again_items, alone_at, earlier_at}
 use Rattle.frame_diff.specs.Repeated.{earlier_in, place_by}
 use Rattle.frame_diff.specs.Values.{nth}
-use Rattle.frame_diff.specs.Walked.{AreAlike, HasNames, HasRowByNumber, Holding, HoldsApart, IsOf, Showing, held_at}
+use Rattle.frame_diff.specs.Walked.{AreAlike, HasNames, HasRowByNumber, HasRowOf, Holding, HoldsApart, IsOf, Showing, held_at}
 use Rattle.frame_diff.specs.Walked.{held_items, reading_at}
 use Rattle.frame_diff.specs.declared.again.Named.{Named}
 use Rattle.frame_diff.specs.declared.side.Side.{Side}
@@ -175,6 +175,13 @@ again_fits f (Some own) it next here n m all is few =
     let first : frame_count it ≡ 1 + frame_count next = ap frame_count here in omega (arith, first, is, few)
 
 -- ** one that stands in the other list as it is
+
+pub row_known : (own : Named) (beside : Option Named)
+    → IfSome beside (λ a. HasRowByNumber own.attribute a.attribute)
+    → IfSome beside (λ a. a.attribute.number ≡ own.attribute.number)
+    → IfSome beside (λ a. HasRowOf own.attribute (Some a.attribute))
+row_known own None rows one = tt
+row_known own (Some a) rows one = rows one
 
 pub again_named : (behind : Attributes) (own : Option Named) → IfSome own (λ own. IsOf behind own.attribute)
     → HasNames behind.around.now → IfSome own (λ own. HasNames own.attribute.around.now)

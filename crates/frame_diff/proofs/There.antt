@@ -12,6 +12,7 @@ use Rattle.frame_shown.specs.Frames.{are_twice, by_number}
 use Rattle.frame_shown.specs.Items.{Item, are_any, comes_in, earlier_ones, objects}
 use Rattle.frame_shown.specs.Items.{has_number as has_shown_number}
 use Rattle.frame_shown.specs.Tables.{Known, is_kept, listed_row, no_row, row_in}
+use Rattle.frame_shown.specs.declared.form.Around.{Around}
 use Rattle.frame_shown.specs.declared.form.List.{List as Shape}
 use Rattle.frame_shown.proofs.Items.{any_earlier}
 use Rattle.frame_diff.specs.Beside.{held_of}
@@ -342,6 +343,11 @@ none_comes_behind behind f names none named nest inner is_state =
     let r = reading_at nest inner is_state behind.around.now in
     none_named r behind.list (names behind.list) f named (frames_in (items behind.bytes.now))
     (none (small r behind.list (names behind.list) f named))
+
+-- a number that is too large for a row is kept as it is
+pub large_kept : (cx : Around) (list : Shape) (f : Frame) → nat_lt (number f) 256 ≡ false
+    → is_kept (row_in cx list (number f)).1 f.payload ≡ true
+large_kept cx list f large = ap (λ b. is_kept (cond b (listed_row cx list (number f)) no_row).1 f.payload) large
 
 -- what an attribute tells that is not kept as it is, by whether another one of its name comes behind it
 module _ (nest : Showing) (inner : Holding) (is_state : Bool) (side : Side) (text : List ℕ)

@@ -1,7 +1,7 @@
 //! What differs between the attributes of two lists.
 
 ghost use Rattle.std.specs.Prelude.{◌≡◌, ◌∷◌, ◌&&◌, Bool, IfOk, IfSome, List as Seq, OnOk, Ok, drop};
-ghost use Rattle.std.specs.Prelude.{false, option_map, true};
+ghost use Rattle.std.specs.Prelude.{false, nat_lt, option_map, true};
 ghost use Rattle.std.specs.List.{list_any};
 ghost use Rattle.nla_wire.specs.Frames.{number};
 ghost use Rattle.nla_wire.specs.Items.{Item, items};
@@ -387,7 +387,15 @@ fn tell_found<W: Walk>(
     tell_single::<W>(texts, pass, page, path, behind, others, frame, beside)
 }
 
-/// Tells of an attribute, and returns where to look for the next one in the other list.
+/// Whether a number is too large to have a row.
+fn has_no_row(number: u16) -> bool
+    ensures { result ≡ true → nat_lt number 256 ≡ false }
+{
+    number >= 256
+}
+
+/// Tells of an attribute, and returns where to look for the next one in the other list. One without a row is passed over
+/// at once, since it is kept as it is: such numbers may be many.
 fn tell_next<'a, W: Walk>(
     texts: &mut Texts,
     pass: Pass,
@@ -411,6 +419,9 @@ fn tell_next<'a, W: Walk>(
         (named_at W.nest W.inner pass.is_state behind.entry) frame.now)) page.old) }
     ensures tail { IfOk result (λ next. IsTail others.entry.bytes.now next.now) }
 {
+    if has_no_row(frame.kind()) {
+        return Ok(there);
+    }
     if !is_once {
         tell_frame::<W>(texts, pass, page, path, behind, others, is_single, frame)?;
         return Ok(there);
