@@ -5,7 +5,8 @@ use Rattle.link_msg.specs.declared.encoding.CanonError.{CanonError}
 use Rattle.link_msg.specs.declared.encoding.CanonError.TheVariants as Errors
 use Rattle.line_filter.specs.Lines.{with_lf}
 use Rattle.shown.specs.Drafts.{object_of}
-use Rattle.message_shown.specs.Lines.{IsAnswerTo}
+use Rattle.frame_shown.specs.declared.form.Order.TheVariants as Orders
+use Rattle.message_shown.specs.Whole.{IsWholeAnswerTo, ToLine}
 use Rattle.message_diff.specs.Alone.{told_words, member_line}
 
 -- ** the words that are told, as an object begins
@@ -27,10 +28,10 @@ abbrev pub behind_brace : List ℕ → List ℕ
 behind_brace [] = []
 behind_brace (x ∷ text) = cond (x == 123) text []
 
--- the words that are told, and then what linkshow answers to the bytes alone
+-- the words that are told, and then all that linkshow answers to the bytes alone: by the kernel that the words name
 abbrev pub IsAnswered : List ℕ → List ℕ → List ℕ → Type 0
-IsAnswered front bytes line =
-    (answer : List ℕ) × IsAnswerTo [] bytes answer × (line ≡ told_front front ++ behind_brace (with_lf answer))
+IsAnswered front bytes line = (answer : List ℕ) × ToLine IsWholeAnswerTo Orders.Unknown front [] bytes answer
+    × (line ≡ told_front front ++ behind_brace (with_lf answer))
 
 abbrev pub fault_line : List ℕ → List ℕ → List ℕ
 fault_line front name = member_line front (codes "fault") name

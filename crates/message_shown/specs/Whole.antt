@@ -42,12 +42,15 @@ pub data IsWholeLenientAnswerTo (cx : Context) (words : Members) (bytes answer :
       → (told : List Members) → AreTold (told_all bytes) told → answer ≡ lenient_line words cx bytes told
       → IsWholeLenientAnswerTo cx words bytes answer
 
+-- by this order of counters
+abbrev pub ToBytes : Whole → Order → Answering
+ToBytes To order words bytes answer = (cx : Context) × IsPlain order cx × To cx words bytes answer
+
 -- ** to lines
 
 -- an answer to the bytes of a line with these words: by the order of counters that they say, or else by this one
 abbrev pub ToLine : Whole → Order → List ℕ → Answering
-ToLine To order front words bytes answer =
-    (cx : Context) × IsPlain (order_for front order) cx × To cx words bytes answer
+ToLine To order front = ToBytes To (order_for front order)
 
 -- what a line is answered
 abbrev pub IsWholeAnswer : Whole → Order → List ℕ → List ℕ → Type 0

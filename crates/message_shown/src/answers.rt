@@ -5,7 +5,7 @@ ghost use Rattle.link_msg.specs.Messages.{Means, FirstFault};
 ghost use Rattle.link_msg.specs.declared.message.LinkMessage.{LinkMessage};
 ghost use Rattle.message_shown.specs.Lines.{IsAnswerTo, AddsAnswerOf, AddsAnswerTo, AddsSpelled};
 ghost use Rattle.message_shown.specs.Lines.{TellsMessage, whole_object, nothex_member};
-ghost use Rattle.message_shown.specs.Whole.{IsWholeAnswer, IsWholeAnswerTo, ToLine};
+ghost use Rattle.message_shown.specs.Whole.{IsWholeAnswer, IsWholeAnswerTo, ToBytes, ToLine};
 ghost use Rattle.message_shown.specs.Worded.{words_shown};
 ghost use Rattle.line_filter.specs.Lines.{with_lf};
 ghost use Rattle.line_filter.specs.Runs.{answering};
@@ -231,23 +231,7 @@ fn push_not_hex(
     Ok(())
 }
 
-/// Adds the answer to a line that spells these bytes.
-pub fn push_bytes(
-    cx: &Context<'_>,
-    waiting: &mut Vec<u8>,
-    front: &[u8],
-    bytes: &[u8],
-) -> Result<(), AllocError>
-    ensures answer { OnOk result
-        (AddsAnswerTo IsAnswerTo (words_shown front.now) bytes.now
-        waiting.old.items waiting.new.items) }
-    ensures told { OnOk result (TellsMessage (words_shown front.now) cx.now bytes.now
-        waiting.old.items waiting.new.items) }
-{
-    push_bytes_in(cx, &mut Room::new(cx.alloc), waiting, front, bytes)
-}
-
-/// Does what `push_bytes` does, and writes the page of the answer in this room.
+/// Adds the answer to a line that spells these bytes. Its page is written in this room.
 pub fn push_bytes_in(
     cx: &Context<'_>,
     room: &mut Room,
@@ -270,16 +254,20 @@ pub fn push_bytes_in(
     }
 }
 
-/// Adds the answer to these bytes alone: what they say, or why they are no message.
+/// Adds the answer to these bytes alone: what they say, or why they are no message. Counters of IPv6 have this order.
 pub fn push_answer(
     alloc: Global,
     order: Order,
     waiting: &mut Vec<u8>,
     bytes: &[u8],
 ) -> Result<(), AllocError>
-    ensures { OnOk result
+    ensures whole { OnOk result (AddsAnswerTo (ToBytes IsWholeAnswerTo order) [] bytes.now
+        waiting.old.items waiting.new.items) }
+    ensures answer { OnOk result
         (AddsAnswerTo IsAnswerTo [] bytes.now waiting.old.items waiting.new.items) }
 {
     let tables = all_rows();
-    push_bytes(&Context::new(alloc, &tables, order), waiting, &[], bytes)
+    let cx = Context::new(alloc, &tables, order);
+    let mut room = Room::new(alloc);
+    push_bytes_in(&cx, &mut room, waiting, &[], bytes)
 }
