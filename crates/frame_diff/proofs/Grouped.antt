@@ -32,7 +32,8 @@ use Rattle.frame_diff.specs.Groups.{values_by, values_of}
 use Rattle.frame_diff.specs.Inside.{has_none, is_of_object}
 use Rattle.frame_diff.specs.Items.{items_told, joined, leaf_items, step_text}
 use Rattle.frame_diff.specs.Members.{Reading, entries_in, entry_of, frame_member, group_of, held_by, is_nest, is_some}
-use Rattle.frame_diff.specs.Members.{kept_in, list_at, list_members, named_by, named_in, placed, placed_one, places, value_in}
+use Rattle.frame_diff.specs.Members.{kept_in, list_at, list_members, named_by, named_in, placed, placed_one, places}
+use Rattle.frame_diff.specs.Members.{value_in}
 use Rattle.frame_diff.specs.Values.{kept_among, listed_shown}
 use Rattle.frame_diff.specs.Walked.{Holding, Showing, held_items, reading_at}
 use Rattle.frame_diff.specs.declared.side.Side.{Side}

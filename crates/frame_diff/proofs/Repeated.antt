@@ -17,10 +17,12 @@ use Rattle.frame_diff.specs.Differences.{inside_in}
 use Rattle.frame_diff.specs.Forests.{Held, Member, Step, comes, find, forest, is_text}
 use Rattle.frame_diff.specs.Items.{items_told, joined}
 use Rattle.frame_diff.specs.Members.{Reading, alone, earlier, named_in, placed, places}
-use Rattle.frame_diff.specs.Repeated.{GoesOnAt, IsBeside, IsSameAgain, again_held, again_in, again_items, alone_at, earlier_at}
+use Rattle.frame_diff.specs.Repeated.{GoesOnAt, IsBeside, IsSameAgain, again_held, again_in, again_items, alone_at}
+use Rattle.frame_diff.specs.Repeated.{earlier_at}
 use Rattle.frame_diff.specs.Repeated.{earlier_in, place_by}
 use Rattle.frame_diff.specs.Values.{nth}
-use Rattle.frame_diff.specs.Walked.{AreAlike, HasNames, HasRowByNumber, HasRowOf, Holding, HoldsApart, IsOf, Showing, held_at}
+use Rattle.frame_diff.specs.Walked.{AreAlike, HasNames, HasRowByNumber, HasRowOf, Holding, HoldsApart, IsOf, Showing}
+use Rattle.frame_diff.specs.Walked.{held_at}
 use Rattle.frame_diff.specs.Walked.{held_items, reading_at}
 use Rattle.frame_diff.specs.declared.again.Named.{Named}
 use Rattle.frame_diff.specs.declared.side.Side.{Side}

@@ -13,7 +13,8 @@ ghost use Rattle.frame_diff.specs.Beside.{held_of, is_named};
 ghost use Rattle.frame_diff.specs.Forests.{Step, comes, find, forest};
 ghost use Rattle.frame_diff.specs.Items.{items_told, joined};
 ghost use Rattle.frame_diff.specs.Walked.{AreAlike, AreOfFrame, HasNames, HasRowOf, Holding, IsOf, IsOfNumber, IsTail};
-ghost use Rattle.frame_diff.specs.Walked.{IsNamedBy, NoneBehind, NoneComes, Showing, StandsSingle, frame_items, has_payload};
+ghost use Rattle.frame_diff.specs.Walked.{IsNamedBy, NoneBehind, NoneComes, Showing, StandsSingle, frame_items};
+ghost use Rattle.frame_diff.specs.Walked.{has_payload};
 ghost use Rattle.frame_diff.specs.Walked.{held_at, held_items, is_row_alike};
 ghost use Rattle.frame_diff.specs.Walked.{is_kept_there, is_there, named_at, reading_at};
 
@@ -394,8 +395,8 @@ fn has_no_row(number: u16) -> bool
     number >= 256
 }
 
-/// Tells of an attribute, and returns where to look for the next one in the other list. One without a row is passed over
-/// at once, since it is kept as it is: such numbers may be many.
+/// Tells of an attribute, and returns where to look for the next one in the other list. One without a row is kept as it
+/// is, and passed over at once: such numbers may be many.
 fn tell_next<'a, W: Walk>(
     texts: &mut Texts,
     pass: Pass,

@@ -339,7 +339,7 @@ fn have_same_names(own: &[Row<'_>], others: &[Row<'_>]) -> bool
     there.is_empty()
 }
 
-/// Tells of a field beside another one, which is the first one of these and has its name: where it turned, unless one of
+/// Tells of a field beside another one, which is the first of these and has its name: where it turned, unless one of
 /// its name comes behind it.
 fn tell_pair(
     texts: &mut Texts,

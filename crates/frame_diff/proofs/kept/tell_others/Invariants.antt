@@ -16,6 +16,6 @@ invariant-loop-item l = record {
   told : with_members (objects (items_told l.pass.side (joined l.path (codes "other"))
       (forest (placed l.place (kept_among l.pass.is_state l.own.around.now l.own.list (frames_in l.item-iterator))))
       (places (kept_at l.pass.is_state l.others)))) l.page
-      ≡ with_members (objects (items_told l.pass.side (joined l.path (codes "other")) (places (kept_at l.pass.is_state l.own))
-      (places (kept_at l.pass.is_state l.others)))) l.fn.page;
+      ≡ with_members (objects (items_told l.pass.side (joined l.path (codes "other"))
+      (places (kept_at l.pass.is_state l.own)) (places (kept_at l.pass.is_state l.others)))) l.fn.page;
 }

@@ -26,7 +26,8 @@ returns c =
       told_front c.args.front.now ++ behind_brace (with_lf answer.0),
       (
         answer.0,
-        subst (λ (order : Order). ToBytes IsWholeAnswerTo order [] c.args.bytes.now answer.0) c.order_for.ensures answer.1,
+        subst (λ (order : Order). ToBytes IsWholeAnswerTo order [] c.args.bytes.now answer.0) c.order_for.ensures
+            answer.1,
         refl,
       ),
       fault_added c.args.out.now.items c.push_words.new.out.items c.extend_from_slice.new.self.items

@@ -43,7 +43,7 @@ fn number_rows<'a>(
     size: Size,
     bytes: &[u8],
 ) -> Result<Vec<Row<'a>>, AllocError> {
-    let mut rows = Vec::new(alloc);
+    let mut rows = Vec::with_capacity(alloc, names.len())?;
     let mut place = 0;
     for name in names {
         let value = Value::Unsigned(number_at(size, bytes, place));
@@ -73,7 +73,7 @@ fn placed_rows<'a>(
     is_since: bool,
     bytes: &[u8],
 ) -> Result<Vec<Row<'a>>, AllocError> {
-    let mut rows = Vec::new(alloc);
+    let mut rows = Vec::with_capacity(alloc, names.len())?;
     for row in names {
         let place = 8 * counter_place(is_since, row.1, row.2);
         let value = Value::Unsigned(u64_at(bytes, place));
@@ -116,7 +116,7 @@ fn setting_rows<'a>(
     part: Option<Cleared>,
     bytes: &[u8],
 ) -> Result<Vec<Row<'a>>, AllocError> {
-    let mut rows = Vec::new(alloc);
+    let mut rows = Vec::with_capacity(alloc, names.len())?;
     let mut place = 0;
     for name in names {
         let value = Value::Signed(i32_at(bytes, place).into());
@@ -178,7 +178,7 @@ pub fn settings_rows<'a>(
 
 /// The fields of a table.
 fn part_rows<'a>(alloc: Global, parts: &[Part], bytes: &'a [u8]) -> Result<Vec<Row<'a>>, AllocError> {
-    let mut rows = Vec::new(alloc);
+    let mut rows = Vec::with_capacity(alloc, parts.len())?;
     for part in parts {
         let value = Value::Field(part.2, bytes, part.1);
         rows.push(Row {
@@ -216,7 +216,7 @@ pub fn member_rows<'a>(
     part: Option<Cleared>,
     bytes: &'a [u8],
 ) -> Result<Vec<Row<'a>>, AllocError> {
-    let mut rows = Vec::new(alloc);
+    let mut rows = Vec::with_capacity(alloc, members.len())?;
     let mut rest = bytes;
     let mut place = 0;
     for Member(name, plain) in members {

@@ -3,13 +3,13 @@
 
 use crate::rattle::prelude::Vec;
 use crate::frame_diff::counters::is_passed;
-use crate::frame_diff::leaf::{Texts, Value};
+use crate::frame_diff::leaf::{Texts, Value, is_same};
 use crate::frame_diff::list::behind;
-use crate::frame_diff::path::join_place;
+use crate::frame_diff::path::{join, join_place};
 use crate::frame_diff::rows::{Row, tell_rows};
 use crate::frame_diff::side::Side;
 use crate::frame_diff::walk::{Attributes, Pass};
-use crate::frame_shown::form::{Around, Form, Way, is_kept, row_in};
+use crate::frame_shown::form::{Around, Form, Way, name_in, row_in};
 use crate::nla_wire::{NLA_TYPE_MASK, NlaBuffer, NlasIterator};
 use crate::shown::Page;
 use crate::rattle::alloc::{AllocError, Global};
@@ -56,7 +56,7 @@ fn push<'a>(rows: &mut Vec<Row<'a>>, name: &'static str, value: Value<'a>) -> Re
 
 /// What one says, as the fields of a record.
 fn rows_of<'a>(alloc: Global, kept: Kept<'a>) -> Result<Vec<Row<'a>>, AllocError> {
-    let mut rows = Vec::new(alloc);
+    let mut rows = Vec::with_capacity(alloc, 4)?;
     push(&mut rows, "number", Value::Number(kept.kind))?;
     push_name(&mut rows, kept.name)?;
     push(&mut rows, "flags", Value::Flags(kept.kind))?;
@@ -96,16 +96,24 @@ fn kind_shown(way: Way, kind: u16) -> u16 {
     }
 }
 
+/// Whether an attribute has a name, and is not kept as it is.
+fn is_some_name(list: Attributes<'_>, frame: &NlaBuffer<'_>) -> bool {
+    match name_in(list.around, list.list, frame.kind(), frame.value()) {
+        Some(_name) => true,
+        None => false,
+    }
+}
+
 /// What an attribute is in the list of those that are kept.
 fn look_at<'a>(is_state: bool, list: Attributes<'a>, frame: &NlaBuffer<'a>) -> Entry<'a> {
     let number = frame.kind();
-    let (name, way) = row_in(list.around, list.list, number);
-    if !is_kept(way, frame.value()) {
+    if is_some_name(list, frame) {
         return Entry::Named;
     }
     if is_passed(is_state, list.list, number) {
         return Entry::Passed;
     }
+    let (name, way) = row_in(list.around, list.list, number);
     Entry::Kept(Kept {
         name,
         kind: kind_shown(way, frame.kind_with_flags()),
@@ -165,6 +173,35 @@ fn beside_entry<'a>(
     )
 }
 
+/// Whether what stands beside one that is kept says the same.
+fn is_same_kept(own: Kept<'_>, beside: Option<Kept<'_>>) -> bool {
+    let other = match beside {
+        Some(other) => other,
+        _ => return false,
+    };
+    other.kind == own.kind && own.name == other.name && is_same(own.payload, other.payload)
+}
+
+/// Tells of one that is kept, beside the one at its place, if there is one. One that says the same costs a look.
+fn tell_placed(
+    texts: &mut Texts,
+    cx: &Around<'_>,
+    theirs: &Around<'_>,
+    page: &mut Page,
+    path: &str,
+    side: Side,
+    place: usize,
+    own: Kept<'_>,
+    beside: Option<Kept<'_>>,
+) -> Result<(), AllocError> {
+    if is_same_kept(own, beside) {
+        return Ok(());
+    }
+    let list = join(texts.alloc, path, "other")?;
+    let text = join_place(texts.alloc, list.as_str(), place)?;
+    tell_kept(texts, cx, theirs, page, text.as_str(), side, own, beside)
+}
+
 /// Tells of one in the list of those that are kept, beside the one at its place.
 fn tell_entry(
     texts: &mut Texts,
@@ -181,18 +218,9 @@ fn tell_entry(
         Entry::Kept(own) => own,
         _ => return Ok(()),
     };
-    let text = join_place(texts.alloc, path, place)?;
     let beside = kept_of(beside);
-    tell_kept(
-        texts,
-        cx,
-        others.around,
-        page,
-        text.as_str(),
-        pass.side,
-        own,
-        beside,
-    )
+    let theirs = others.around;
+    tell_placed(texts, cx, theirs, page, path, pass.side, place, own, beside)
 }
 
 /// The place of the next one.
@@ -203,7 +231,8 @@ fn more_by(entry: Entry<'_>, place: usize) -> usize {
     }
 }
 
-/// Tells of the attributes of a list that are kept, each beside the one at its place in another list.
+/// Tells of the attributes of a list that are kept, each beside the one at its place in another list, as members of a
+/// list of their own.
 pub fn tell_others(
     texts: &mut Texts,
     pass: Pass,

@@ -31,3 +31,7 @@ pub fn law_names() {}
 /// With the rows of `link_info` what is compared of a message, where all its attributes are accepted, is what is shown
 /// of it.
 pub fn law_whole() {}
+
+/// With the rows of `link_info` the text of a path stands for the path: no two leaves of a message have one text, and
+/// no two changes that are told of two messages.
+pub fn law_texts() {}

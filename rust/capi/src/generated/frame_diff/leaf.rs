@@ -13,6 +13,7 @@ use crate::link_info::Plain;
 use crate::nla_wire::{NLA_F_NESTED, NLA_F_NET_BYTEORDER, NLA_TYPE_MASK};
 use crate::shown::{Nest, Page, Room};
 use crate::rattle::alloc::{AllocError, Global};
+use std::mem;
 
 /// A value that holds no others.
 #[derive(Clone, Copy)]
@@ -46,7 +47,40 @@ pub struct Texts {
     /// Where they lie.
     pub alloc: Global,
     /// What they are written in.
-    pub room: Room,
+    room: Room,
+    /// What one of them took up before.
+    one: Vec<u8>,
+    /// What the other one did.
+    other: Vec<u8>,
+}
+
+/// The most bytes of a text whose room is kept for the next one.
+const MOST_KEPT: usize = 4096;
+
+impl Texts {
+    /// No room yet. It takes no memory.
+    pub fn new(alloc: Global) -> Texts {
+        Texts {
+            alloc,
+            room: Room::new(alloc),
+            one: Vec::new(alloc),
+            other: Vec::new(alloc),
+        }
+    }
+}
+
+/// Takes the room of a text, to write the next one there.
+fn take_room(alloc: Global, kept: &mut Vec<u8>) -> Vec<u8> {
+    let mut text = mem::replace(kept, Vec::new(alloc));
+    text.clear();
+    text
+}
+
+/// Keeps the room of a text for the next one.
+fn keep_room(text: Vec<u8>, kept: &mut Vec<u8>) {
+    if text.capacity() <= MOST_KEPT {
+        *kept = text;
+    }
 }
 
 /// The names of the two flags of a frame.
@@ -112,33 +146,52 @@ fn push_text<D: Depth>(
     room.finish(page, out)
 }
 
-/// The text of an object that holds this value alone.
-fn text_of<D: Depth>(
-    texts: &mut Texts,
-    cx: &Around<'_>,
-    value: Value<'_>,
-) -> Result<Vec<u8>, AllocError> {
-    let mut text = Vec::new(texts.alloc);
-    push_text::<D>(cx, &mut texts.room, value, &mut text)?;
-    Ok(text)
-}
-
 /// Whether two texts are the same.
 pub(crate) fn is_same(one: &[u8], other: &[u8]) -> bool {
     one == other
 }
 
-/// Whether two values are shown as the same.
-fn is_shown_same<D: Depth>(
+/// Whether two values are known to be shown as the same, whatever they are shown by.
+fn is_plainly_same(was: Value<'_>, is: Value<'_>) -> bool {
+    match (was, is) {
+        (Value::Unsigned(was), Value::Unsigned(is)) => was == is,
+        (Value::Signed(was), Value::Signed(is)) => was == is,
+        (Value::LinkFlags(was), Value::LinkFlags(is)) => was == is,
+        (Value::Octets(was), Value::Octets(is)) => is_same(was, is),
+        _ => false,
+    }
+}
+
+/// Whether two values have the same text.
+fn is_text_same<D: Depth>(
     texts: &mut Texts,
     cx: &Around<'_>,
     theirs: &Around<'_>,
     was: Value<'_>,
     is: Value<'_>,
 ) -> Result<bool, AllocError> {
-    let one = text_of::<D>(texts, cx, was)?;
-    let other = text_of::<D>(texts, theirs, is)?;
-    Ok(is_same(one.as_slice(), other.as_slice()))
+    let mut one = take_room(texts.alloc, &mut texts.one);
+    let mut other = take_room(texts.alloc, &mut texts.other);
+    push_text::<D>(cx, &mut texts.room, was, &mut one)?;
+    push_text::<D>(theirs, &mut texts.room, is, &mut other)?;
+    let same = is_same(one.as_slice(), other.as_slice());
+    keep_room(one, &mut texts.one);
+    keep_room(other, &mut texts.other);
+    Ok(same)
+}
+
+/// Whether two values are shown as the same.
+pub(crate) fn is_shown_same<D: Depth>(
+    texts: &mut Texts,
+    cx: &Around<'_>,
+    theirs: &Around<'_>,
+    was: Value<'_>,
+    is: Value<'_>,
+) -> Result<bool, AllocError> {
+    if is_plainly_same(was, is) {
+        return Ok(true);
+    }
+    is_text_same::<D>(texts, cx, theirs, was, is)
 }
 
 /// Adds the change of a value that one side alone has.
@@ -221,7 +274,43 @@ pub fn tell_leaf<D: Depth>(
     }
 }
 
-/// The same one step further.
+/// Adds the change of a value one step further that turned.
+pub(crate) fn put_step<D: Depth>(
+    texts: &mut Texts,
+    cx: &Around<'_>,
+    theirs: &Around<'_>,
+    page: &mut Page,
+    path: &str,
+    step: &str,
+    was: Value<'_>,
+    is: Value<'_>,
+) -> Result<(), AllocError> {
+    let text = join(texts.alloc, path, step)?;
+    put_turned::<D>(cx, theirs, page, text.as_str(), was, is)
+}
+
+/// Tells of a value one step further that both sides have: what turned is told of the old one.
+fn tell_both_step<D: Depth>(
+    texts: &mut Texts,
+    cx: &Around<'_>,
+    theirs: &Around<'_>,
+    page: &mut Page,
+    path: &str,
+    step: &str,
+    side: Side,
+    own: Value<'_>,
+    other: Value<'_>,
+) -> Result<(), AllocError> {
+    if side.is_new() {
+        return Ok(());
+    }
+    if is_shown_same::<D>(texts, cx, theirs, own, other)? {
+        return Ok(());
+    }
+    put_step::<D>(texts, cx, theirs, page, path, step, own, other)
+}
+
+/// Tells of a value one step further beside another one, if there is one.
 pub fn tell_step<D: Depth>(
     texts: &mut Texts,
     cx: &Around<'_>,
@@ -233,6 +322,11 @@ pub fn tell_step<D: Depth>(
     own: Value<'_>,
     beside: Option<Value<'_>>,
 ) -> Result<(), AllocError> {
-    let text = join(texts.alloc, path, step)?;
-    tell_leaf::<D>(texts, cx, theirs, page, text.as_str(), side, own, beside)
+    match beside {
+        None => {
+            let text = join(texts.alloc, path, step)?;
+            put_alone::<D>(cx, page, text.as_str(), side, own)
+        }
+        Some(other) => tell_both_step::<D>(texts, cx, theirs, page, path, step, side, own, other),
+    }
 }

@@ -6,7 +6,7 @@ use crate::frame_diff::named::{find_named, is_named};
 use crate::frame_diff::path::join;
 use crate::frame_diff::value::tell_value;
 use crate::frame_diff::walk::{Attribute, Attributes, Pass, Walk};
-use crate::frame_shown::form::{Around, List, is_kept, row_in};
+use crate::frame_shown::form::{Around, List, is_kept, name_in, row_in};
 use crate::frame_shown::list::has_twice;
 use crate::nla_wire::{NlaBuffer, NlasIterator, padded_len};
 use crate::shown::Page;
@@ -62,14 +62,6 @@ fn find_attribute<'a>(list: Attributes<'a>, name: &str) -> Option<Attribute<'a>>
     }
 }
 
-/// Whether an attribute has this number, if there is one.
-fn has_number(number: u16, beside: Option<Attribute<'_>>) -> bool {
-    match beside {
-        Some(other) => other.number == number,
-        None => true,
-    }
-}
-
 /// Whether there is an attribute with this payload.
 fn has_payload(payload: &[u8], beside: Option<Attribute<'_>>) -> bool {
     match beside {
@@ -78,9 +70,12 @@ fn has_payload(payload: &[u8], beside: Option<Attribute<'_>>) -> bool {
     }
 }
 
-/// Whether the row of an attribute is known to be that of the one beside it, in lists of which the rows are the same.
+/// Whether the row of an attribute is known to be that of the one beside it, if there is one.
 fn is_alike(pass: Pass, number: u16, beside: Option<Attribute<'_>>) -> bool {
-    pass.is_alike && has_number(number, beside)
+    match beside {
+        Some(other) => pass.is_alike && other.number == number,
+        None => true,
+    }
 }
 
 /// Tells of an attribute beside another one. Those that are the same are passed over at once.
@@ -120,7 +115,15 @@ fn tell_last<W: Walk>(
     tell_unless_same::<W>(texts, pass, page, path, name, own, beside)
 }
 
-/// Tells of an attribute, unless it is kept as it is, or another one of its name comes behind it.
+/// Whether a member with this name is among those behind an attribute, if one can be.
+fn comes_too(is_single: bool, behind: Attributes<'_>, name: &str) -> bool {
+    if is_single {
+        return false;
+    }
+    comes(behind, name)
+}
+
+/// Tells of an attribute under its name, unless another one of its name comes behind it.
 fn tell_row<W: Walk>(
     texts: &mut Texts,
     pass: Pass,
@@ -128,16 +131,18 @@ fn tell_row<W: Walk>(
     path: &str,
     behind: Attributes<'_>,
     others: Attributes<'_>,
+    is_single: bool,
     name: &str,
-    own: Attribute<'_>,
+    frame: &NlaBuffer<'_>,
 ) -> Result<(), AllocError> {
-    if is_kept(own.way, own.payload) || comes(behind, name) {
+    if comes_too(is_single, behind, name) {
         return Ok(());
     }
+    let own = attribute(behind, frame);
     tell_last::<W>(texts, pass, page, path, behind, others, name, own)
 }
 
-/// Tells of an attribute by its row.
+/// Tells of an attribute by its row, unless it is kept as it is.
 fn tell_frame<W: Walk>(
     texts: &mut Texts,
     pass: Pass,
@@ -145,18 +150,15 @@ fn tell_frame<W: Walk>(
     path: &str,
     behind: Attributes<'_>,
     others: Attributes<'_>,
+    is_single: bool,
     frame: &NlaBuffer<'_>,
 ) -> Result<(), AllocError> {
-    let number = frame.kind();
-    let (name, way) = row_in(behind.around, behind.list, number);
-    let own = Attribute {
-        around: behind.around,
-        list: behind.list,
-        number,
-        way,
-        payload: frame.value(),
-    };
-    tell_row::<W>(texts, pass, page, path, behind, others, name, own)
+    match name_in(behind.around, behind.list, frame.kind(), frame.value()) {
+        Some(name) => tell_row::<W>(
+            texts, pass, page, path, behind, others, is_single, name, frame,
+        ),
+        None => Ok(()),
+    }
 }
 
 /// The first attribute, if it has this number.
@@ -238,10 +240,10 @@ fn tell_single<W: Walk>(
     let own = attribute(behind, frame);
     let there = attribute_there(others, beside);
     if is_kept(own.way, own.payload) {
-        return tell_frame::<W>(texts, pass, page, path, behind, others, frame);
+        return tell_frame::<W>(texts, pass, page, path, behind, others, true, frame);
     }
     if is_kept_there(there) {
-        return tell_frame::<W>(texts, pass, page, path, behind, others, frame);
+        return tell_frame::<W>(texts, pass, page, path, behind, others, true, frame);
     }
     let (name, _) = row_in(behind.around, behind.list, own.number);
     tell_unless_same::<W>(texts, pass, page, path, name, own, there)
@@ -265,7 +267,13 @@ fn tell_found<W: Walk>(
     tell_single::<W>(texts, pass, page, path, behind, others, frame, beside)
 }
 
-/// Tells of an attribute, and returns where to look for the next one in the other list.
+/// Whether a number is too large to have a row.
+fn has_no_row(number: u16) -> bool {
+    number >= 256
+}
+
+/// Tells of an attribute, and returns where to look for the next one in the other list. One without a row is kept as it
+/// is, and passed over at once: such numbers may be many.
 fn tell_next<'a, W: Walk>(
     texts: &mut Texts,
     pass: Pass,
@@ -274,11 +282,15 @@ fn tell_next<'a, W: Walk>(
     behind: Attributes<'_>,
     others: Attributes<'a>,
     frame: &NlaBuffer<'_>,
+    is_single: bool,
     is_once: bool,
     there: &'a [u8],
 ) -> Result<&'a [u8], AllocError> {
+    if has_no_row(frame.kind()) {
+        return Ok(there);
+    }
     if !is_once {
-        tell_frame::<W>(texts, pass, page, path, behind, others, frame)?;
+        tell_frame::<W>(texts, pass, page, path, behind, others, is_single, frame)?;
         return Ok(there);
     }
     let (beside, next) = look_up(frame.kind(), there, others.bytes);
@@ -286,14 +298,14 @@ fn tell_next<'a, W: Walk>(
     Ok(next)
 }
 
-/// Whether the rows of two lists are known to be the same, and no number stands twice in this one.
-pub(crate) fn is_single(pass: Pass, own: Attributes<'_>) -> bool {
-    pass.is_alike && !has_twice(own.bytes)
+/// Whether no number stands twice in a list.
+pub(crate) fn is_single(own: Attributes<'_>) -> bool {
+    !has_twice(own.bytes)
 }
 
-/// Whether no number stands twice in another list either.
-fn is_once(is_single: bool, others: Attributes<'_>) -> bool {
-    is_single && !has_twice(others.bytes)
+/// Whether no number stands twice in another list either, of which the rows are known to be the same.
+fn is_once(pass: Pass, is_single: bool, others: Attributes<'_>) -> bool {
+    pass.is_alike && is_single && !has_twice(others.bytes)
 }
 
 /// Tells of the attributes of a list that have a name, each beside that of its name in another list. Where the rows of
@@ -307,7 +319,7 @@ pub fn tell_named<W: Walk>(
     others: Attributes<'_>,
     is_single: bool,
 ) -> Result<(), AllocError> {
-    let is_once = is_once(is_single, others);
+    let is_once = is_once(pass, is_single, others);
     let mut rest = own.bytes;
     let mut there = others.bytes;
     for item in NlasIterator::new(own.bytes) {
@@ -318,7 +330,7 @@ pub fn tell_named<W: Walk>(
         rest = behind(rest, &frame);
         let left = Attributes { bytes: rest, ..own };
         there = tell_next::<W>(
-            texts, pass, page, path, left, others, &frame, is_once, there,
+            texts, pass, page, path, left, others, &frame, is_single, is_once, there,
         )?;
     }
     Ok(())

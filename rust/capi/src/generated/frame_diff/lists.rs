@@ -2,8 +2,9 @@
 //! What a list of attributes tells beside another one.
 
 use crate::frame_diff::groups::tell_group;
+use crate::frame_diff::kept::tell_others;
 use crate::frame_diff::leaf::Texts;
-use crate::frame_diff::members::{tell_kept, tell_members};
+use crate::frame_diff::members::tell_members;
 use crate::frame_diff::same::is_same_list;
 use crate::frame_diff::walk::{Attributes, Pass, Walk};
 use crate::frame_shown::form::List;
@@ -38,18 +39,22 @@ pub(crate) fn none_of<'a>(own: Attributes<'a>) -> Attributes<'a> {
     Attributes { bytes: &[], ..own }
 }
 
-/// Another list that is shown as an object, and whether it has the rows of this one; a list without attributes where it
-/// is none.
-fn object_beside<'a>(own: Attributes<'a>, beside: Option<Attributes<'a>>) -> (Attributes<'a>, bool) {
+/// Another list that is shown as an object, and whether its rows are known to be those of this one; a list without
+/// attributes where it is none.
+fn object_beside<'a>(
+    is_alike: bool,
+    own: Attributes<'a>,
+    beside: Option<Attributes<'a>>,
+) -> (Attributes<'a>, bool) {
     match beside {
         Some(other) => {
             if is_object(other.list) {
-                (other, is_same_list(own.list, other.list))
+                (other, is_alike && is_same_list(own.list, other.list))
             } else {
-                (none_of(own), false)
+                (none_of(own), true)
             }
         }
-        None => (none_of(own), false),
+        None => (none_of(own), true),
     }
 }
 
@@ -62,8 +67,7 @@ pub(crate) fn tell_object<W: Walk>(
     own: Attributes<'_>,
     beside: Option<Attributes<'_>>,
 ) -> Result<(), AllocError> {
-    let (others, has_rows) = object_beside(own, beside);
-    let is_alike = pass.is_alike_too(has_rows);
+    let (others, is_alike) = object_beside(pass.is_alike, own, beside);
     tell_members::<W>(texts, Pass { is_alike, ..pass }, page, path, own, others)
 }
 
@@ -99,7 +103,7 @@ fn tell_rest<W: Walk>(
     beside: Option<Attributes<'_>>,
 ) -> Result<(), AllocError> {
     let others = listed_beside(own, beside);
-    tell_kept(texts, pass, page, path, own, others)
+    tell_others(texts, pass, page, path, own, others)
 }
 
 /// Tells of a list of values, and of those that are kept beside it.

@@ -27,19 +27,6 @@ fn tell_again<W: Walk>(
     tell_repeated::<W>(texts, pass, page, text.as_str(), own, others)
 }
 
-/// Tells of the attributes that are kept as they are.
-pub(crate) fn tell_kept(
-    texts: &mut Texts,
-    pass: Pass,
-    page: &mut Page,
-    path: &str,
-    own: Attributes<'_>,
-    others: Attributes<'_>,
-) -> Result<(), AllocError> {
-    let text = join(texts.alloc, path, "other")?;
-    tell_others(texts, pass, page, text.as_str(), own, others)
-}
-
 /// Tells of the attributes of a list that is shown as an object, beside those of another one: of each name the last
 /// one, then those behind which another one of their name stands, and those that are kept as they are, by their places.
 pub fn tell_members<W: Walk>(
@@ -50,8 +37,8 @@ pub fn tell_members<W: Walk>(
     own: Attributes<'_>,
     others: Attributes<'_>,
 ) -> Result<(), AllocError> {
-    let is_single = is_single(pass, own);
+    let is_single = is_single(own);
     tell_named::<W>(texts, pass, page, path, own, others, is_single)?;
     tell_again::<W>(texts, pass, page, path, own, others, is_single)?;
-    tell_kept(texts, pass, page, path, own, others)
+    tell_others(texts, pass, page, path, own, others)
 }

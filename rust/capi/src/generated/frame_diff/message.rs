@@ -45,7 +45,7 @@ impl<'a> Message<'a> {
 
 /// What the header says.
 fn header_rows<'a>(alloc: Global, bytes: &[u8]) -> Result<Vec<Row<'a>>, AllocError> {
-    let mut rows = Vec::new(alloc);
+    let mut rows = Vec::with_capacity(alloc, 5)?;
     rows.push(Row {
         name: "ifi-family",
         value: Value::Unsigned(u8_at(bytes, 0).into()),
@@ -69,7 +69,7 @@ fn header_rows<'a>(alloc: Global, bytes: &[u8]) -> Result<Vec<Row<'a>>, AllocErr
     Ok(rows)
 }
 
-/// Tells of the header of a message beside that of another one.
+/// Tells of the header of a message beside that of another one. Both have all fields, so none comes.
 fn tell_header(
     texts: &mut Texts,
     cx: &Around<'_>,
@@ -79,9 +79,14 @@ fn tell_header(
     own: &[u8],
     others: &[u8],
 ) -> Result<(), AllocError> {
-    let rows = header_rows(texts.alloc, own)?;
-    let there = header_rows(texts.alloc, others)?;
-    tell_rows(texts, cx, theirs, page, "", side, &rows, &there)
+    match side {
+        Side::Old => {
+            let rows = header_rows(texts.alloc, own)?;
+            let there = header_rows(texts.alloc, others)?;
+            tell_rows(texts, cx, theirs, page, "", side, &rows, &there)
+        }
+        Side::New => Ok(()),
+    }
 }
 
 /// What the attributes of a message are shown by.
@@ -154,10 +159,6 @@ fn tell_refused(
         around: theirs,
         list: List::Refused,
         bytes: others,
-    };
-    let pass = Pass {
-        is_alike: false,
-        ..pass
     };
     Flat::tell_list(texts, pass, page, "refused", list, Some(beside))
 }

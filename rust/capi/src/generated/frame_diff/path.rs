@@ -7,7 +7,7 @@ use crate::rattle::alloc::{AllocError, Global};
 
 /// The text of a path that goes one step on: the step stands behind a point, where it is not the first one.
 pub fn join(alloc: Global, text: &str, step: &str) -> Result<String, AllocError> {
-    let mut path = String::new(alloc);
+    let mut path = String::with_capacity(alloc, text.len() + step.len() + 1)?;
     if !text.is_empty() {
         path.push_str(text)?;
         path.push('.')?;

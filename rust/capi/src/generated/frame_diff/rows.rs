@@ -4,7 +4,7 @@
 use crate::rattle::prelude::Vec;
 use crate::frame_diff::counters::{Cleared, cleared_part, is_passed};
 use crate::frame_diff::fields::{counter_rows, event_rows, ipv6_rows, member_rows, record_rows, settings_rows};
-use crate::frame_diff::leaf::{Texts, Value, tell_step};
+use crate::frame_diff::leaf::{Texts, Value, is_shown_same, put_step, tell_step};
 use crate::frame_diff::side::Side;
 use crate::frame_diff::walk::Attribute;
 use crate::frame_shown::depth::Bottom;
@@ -219,8 +219,123 @@ fn tell_row(
     )
 }
 
-/// Tells of the fields of a record beside those of another one.
-pub fn tell_rows(
+/// The first field, if there is one.
+fn first<'a>(rows: &[Row<'a>]) -> Option<Row<'a>> {
+    match rows.first() {
+        Some(row) => Some(*row),
+        None => None,
+    }
+}
+
+/// Whether the first field has this name.
+fn is_first(rows: &[Row<'_>], name: &str) -> bool {
+    match first(rows) {
+        Some(row) => row.name == name,
+        None => false,
+    }
+}
+
+/// Whether two records have the same names, in the same order.
+fn have_same_names(own: &[Row<'_>], others: &[Row<'_>]) -> bool {
+    let mut there = others;
+    for row in own {
+        if !is_first(there, row.name) {
+            return false;
+        }
+        there = rest_of(there);
+    }
+    there.is_empty()
+}
+
+/// Tells of a field beside another one, which is the first of these and has its name: where it turned, unless one of
+/// its name comes behind it.
+fn tell_pair(
+    texts: &mut Texts,
+    cx: &Around<'_>,
+    theirs: &Around<'_>,
+    page: &mut Page,
+    path: &str,
+    own: Row<'_>,
+    other: Row<'_>,
+    behind: &[Row<'_>],
+    there: &[Row<'_>],
+) -> Result<(), AllocError> {
+    let is_same = is_shown_same::<Bottom>(texts, cx, theirs, own.value, other.value)?;
+    if is_same {
+        return Ok(());
+    }
+    if comes(behind, own.name) {
+        return Ok(());
+    }
+    put_step::<Bottom>(
+        texts,
+        cx,
+        theirs,
+        page,
+        path,
+        own.name,
+        own.value,
+        other.value,
+    )
+}
+
+/// Tells of a field beside the first one of these, which has its name.
+fn tell_first(
+    texts: &mut Texts,
+    cx: &Around<'_>,
+    theirs: &Around<'_>,
+    page: &mut Page,
+    path: &str,
+    own: Row<'_>,
+    behind: &[Row<'_>],
+    there: &[Row<'_>],
+) -> Result<(), AllocError> {
+    match first(there) {
+        Some(other) => tell_pair(texts, cx, theirs, page, path, own, other, behind, there),
+        None => Ok(()),
+    }
+}
+
+/// Tells of the fields of an old record beside those of a new one that has the same names, in the same order.
+fn tell_firsts(
+    texts: &mut Texts,
+    cx: &Around<'_>,
+    theirs: &Around<'_>,
+    page: &mut Page,
+    path: &str,
+    own: &[Row<'_>],
+    others: &[Row<'_>],
+) -> Result<(), AllocError> {
+    let mut behind = own;
+    let mut there = others;
+    for row in own {
+        behind = rest_of(behind);
+        tell_first(texts, cx, theirs, page, path, *row, behind, there)?;
+        there = rest_of(there);
+    }
+    Ok(())
+}
+
+/// Tells of the fields of a record beside those of one that has the same names, in the same order: of what turned. None
+/// came, and none went.
+fn tell_same_names(
+    texts: &mut Texts,
+    cx: &Around<'_>,
+    theirs: &Around<'_>,
+    page: &mut Page,
+    path: &str,
+    side: Side,
+    own: &[Row<'_>],
+    others: &[Row<'_>],
+) -> Result<(), AllocError> {
+    match side {
+        Side::Old => tell_firsts(texts, cx, theirs, page, path, own, others),
+        Side::New => Ok(()),
+    }
+}
+
+/// Tells of the fields of a record beside those of another one, each beside the one of its name.
+fn tell_each(
     texts: &mut Texts,
     cx: &Around<'_>,
     theirs: &Around<'_>,
@@ -236,4 +351,21 @@ pub fn tell_rows(
         tell_row(texts, cx, theirs, page, path, side, *row, behind, others)?;
     }
     Ok(())
+}
+
+/// Tells of the fields of a record beside those of another one.
+pub fn tell_rows(
+    texts: &mut Texts,
+    cx: &Around<'_>,
+    theirs: &Around<'_>,
+    page: &mut Page,
+    path: &str,
+    side: Side,
+    own: &[Row<'_>],
+    others: &[Row<'_>],
+) -> Result<(), AllocError> {
+    if have_same_names(own, others) {
+        return tell_same_names(texts, cx, theirs, page, path, side, own, others);
+    }
+    tell_each(texts, cx, theirs, page, path, side, own, others)
 }

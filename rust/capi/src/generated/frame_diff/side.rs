@@ -11,6 +11,14 @@ pub enum Side {
 }
 
 impl Side {
+    /// Whether it is the new one.
+    pub(crate) fn is_new(self) -> bool {
+        match self {
+            Side::Old => false,
+            Side::New => true,
+        }
+    }
+
     /// The name of its value in a change.
     pub fn name(self) -> &'static str {
         match self {

@@ -19,13 +19,6 @@ pub struct Pass {
     pub is_alike: bool,
 }
 
-impl Pass {
-    /// Whether both are known to be shown by the same, and this holds too.
-    pub(crate) fn is_alike_too(self, holds: bool) -> bool {
-        self.is_alike && holds
-    }
-}
-
 /// A list of attributes.
 #[derive(Clone, Copy)]
 pub struct Attributes<'a> {

@@ -528,6 +528,16 @@ pub(crate) fn found_in(cx: &Around<'_>, list: &List, number: u16) -> Found {
     }
 }
 
+/// The name that an attribute is shown under, unless it is kept as it is.
+#[inline(always)]
+pub fn name_in(cx: &Around<'_>, list: List, number: u16, payload: &[u8]) -> Option<&'static str> {
+    let (name, manner) = found_in(cx, &list, number);
+    if is_kept_by(manner, payload) {
+        return None;
+    }
+    Some(name)
+}
+
 /// The row of a number in a list.
 pub fn row_in(cx: &Around<'_>, list: List, number: u16) -> Known {
     let (name, manner) = found_in(cx, &list, number);

@@ -17,10 +17,7 @@ impl Desk {
     /// No room yet. It takes no memory.
     pub fn new(alloc: Global) -> Desk {
         Desk {
-            texts: Texts {
-                alloc,
-                room: Room::new(alloc),
-            },
+            texts: Texts::new(alloc),
             line: Room::new(alloc),
         }
     }

@@ -174,17 +174,7 @@ fn push_not_hex(
     Ok(())
 }
 
-/// Adds the answer to a line that spells these bytes.
-pub fn push_bytes(
-    cx: &Context<'_>,
-    waiting: &mut Vec<u8>,
-    front: &[u8],
-    bytes: &[u8],
-) -> Result<(), AllocError> {
-    push_bytes_in(cx, &mut Room::new(cx.alloc), waiting, front, bytes)
-}
-
-/// Does what `push_bytes` does, and writes the page of the answer in this room.
+/// Adds the answer to a line that spells these bytes. Its page is written in this room.
 pub fn push_bytes_in(
     cx: &Context<'_>,
     room: &mut Room,
@@ -198,7 +188,7 @@ pub fn push_bytes_in(
     }
 }
 
-/// Adds the answer to these bytes alone: what they say, or why they are no message.
+/// Adds the answer to these bytes alone: what they say, or why they are no message. Counters of IPv6 have this order.
 pub fn push_answer(
     alloc: Global,
     order: Order,
@@ -206,5 +196,7 @@ pub fn push_answer(
     bytes: &[u8],
 ) -> Result<(), AllocError> {
     let tables = all_rows();
-    push_bytes(&Context::new(alloc, &tables, order), waiting, &[], bytes)
+    let cx = Context::new(alloc, &tables, order);
+    let mut room = Room::new(alloc);
+    push_bytes_in(&cx, &mut room, waiting, &[], bytes)
 }
