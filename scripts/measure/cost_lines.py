@@ -141,6 +141,12 @@ def aliases(size, count, end=b""):
     return [frame(IFLA_IFALIAS, (b"x", b"y")[at % 2] * size + end) for at in range(count)]
 
 
+def reversed_unknown(count):
+    """Numbers that no kernel sends, in one order and then in the other, four times."""
+    it = [frame(1000 + number, b"kept") for number in range(count)]
+    return [HEAD + b"".join(it[::turn]) for _ in range(4) for turn in (1, -1)]
+
+
 def growing(count):
     """An unknown attribute more in each message."""
     return [b"".join(frame(UNKNOWN + number, b"kept") for number in range(at)) for at in range(count)]
@@ -185,6 +191,8 @@ def of_messages():
         "long": long(140_000) + long(1_000_000),
         # half of the message stays
         "turning-alias": [HEAD + kept + alias for alias in aliases(len(kept), 20)],
+        # each is kept as it is, and a walk that looked for each of them would be seen
+        "unknown-reversed": reversed_unknown(2048),
         "growing": [HEAD + attributes for attributes in growing(100)],
         # little more than 256 bytes, most of which is one text
         "one-text": [HEAD + alias for alias in aliases(240, 50)],
