@@ -4,8 +4,8 @@ use Rattle.std.specs.Prelude.{Option, Some, None, cond}
 use Rattle.json.specs.Token.{Token}
 use Rattle.frame_diff.specs.Differences.{Change, inside_in, is_shown_same, leaf_change, leaf_in, member_told, told}
 use Rattle.frame_diff.specs.Forests.{Forest, Held, Path, Step, find}
-use Rattle.frame_diff.specs.Items.{change_item, items_told, joined, leaf_items, member_items, path_text, step_text}
-use Rattle.frame_diff.specs.Items.{text_behind, turned_item}
+use Rattle.frame_diff.specs.Items.{change_item, is_leaf_untold, items_told, joined, leaf_item, leaf_items}
+use Rattle.frame_diff.specs.Items.{member_items, path_text, step_text, text_behind, turned_item}
 use Rattle.frame_diff.specs.Laws.{ItemsAreChanges}
 use Rattle.frame_diff.specs.declared.side.Side.{Side}
 use Rattle.frame_diff.specs.declared.side.Side.TheVariants.{Old, New}
@@ -30,6 +30,20 @@ leaf_is Old path v (Some w) = by (is_shown_same v w)
     by true = refl
     by false = refl
 leaf_is New path v (Some w) = refl
+
+-- of a leaf
+
+pub leaf_untold : (side : Side) (text : List ℕ) (v : List Token) (beside : Option (List Token))
+    → is_leaf_untold side v beside ≡ true → leaf_items side text v beside ≡ []
+leaf_untold side text v None h = absurd cc
+leaf_untold Old text v (Some w) h = ap (λ b. cond b [] (turned_item text v w ∷ [])) h
+leaf_untold New text v (Some w) h = refl
+
+pub leaf_told : (side : Side) (text : List ℕ) (v : List Token) (beside : Option (List Token))
+    → is_leaf_untold side v beside ≡ false → leaf_items side text v beside ≡ leaf_item side text v beside ∷ []
+leaf_told side text v None h = refl
+leaf_told Old text v (Some w) h = ap (λ b. cond b [] (turned_item text v w ∷ [])) h
+leaf_told New text v (Some w) h = absurd cc
 
 member_is : (side : Side) (path : Path) (v : List Token) (i : Forest) (beside : Option Held)
     → items_told side (path_text path) i (inside_in beside) ≡ map change_item (told side path i (inside_in beside))

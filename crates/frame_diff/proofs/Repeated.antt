@@ -178,13 +178,6 @@ again_fits f (Some own) it next here n m all is few =
 
 -- ** one that stands in the other list as it is
 
-pub row_known : (own : Named) (beside : Option Named)
-    → IfSome beside (λ a. HasRowByNumber own.attribute a.attribute)
-    → IfSome beside (λ a. a.attribute.number ≡ own.attribute.number)
-    → IfSome beside (λ a. HasRowOf own.attribute (Some a.attribute))
-row_known own None rows one = tt
-row_known own (Some a) rows one = rows one
-
 pub again_named : (behind : Attributes) (own : Option Named) → IfSome own (λ own. IsOf behind own.attribute)
     → HasNames behind.around.now → IfSome own (λ own. HasNames own.attribute.around.now)
 again_named behind None of names = tt

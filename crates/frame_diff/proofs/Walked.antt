@@ -206,6 +206,14 @@ rows_same list others own (Some a) alike of found both h =
     let way : a.way ≡ own.way = found.2 ∙ (λ k. (row_in (sym lists.0 k) (sym lists.1 k) (one k)).1) ∙ sym of.2 in
     (around, shape, one, way, subst HasNames (sym of.0) lists.2)
 
+-- one beside another has its row where both have one number
+pub row_known : (own : Attribute) (beside : Option Attribute) (alike : Bool)
+    → (alike ≡ true → IfSome beside (λ a. HasRowByNumber own a))
+    → is_row_alike alike own.number beside ≡ true → HasRowOf own beside
+row_known own None alike rows h = tt
+row_known own (Some a) alike rows h =
+    let parts = and_both alike (a.number == own.number) h in rows parts.0 (eqb-true a.number own.number parts.1)
+
 -- an attribute of a list is shown by what the list is
 pub names_of : (list : Attributes) (a : Attribute) → IsOf list a → HasNames list.around.now → HasNames a.around.now
 names_of list a of names = subst HasNames (sym of.0) names

@@ -1,5 +1,5 @@
 -- What is told, as it is written: an object for each change, with its path, the old value and the new one.
-use Rattle.std.specs.Prelude.{ℕ, List, [], ◌∷◌, ◌++◌, Option, Some, None, codes, cond, decimal}
+use Rattle.std.specs.Prelude.{ℕ, List, [], ◌∷◌, ◌++◌, Bool, true, false, Option, Some, None, codes, cond, decimal}
 use Rattle.json.specs.Token.{Token, string}
 use Rattle.shown.specs.Drafts.{Members}
 use Rattle.frame_diff.specs.Differences.{Change, inside_in, is_shown_same, leaf_in}
@@ -44,6 +44,16 @@ change_item (Change.went path value) = alone_item (path_text path) Old value
 change_item (Change.turned path was is) = turned_item (path_text path) was is
 
 -- ** as they are told member by member, behind the text of a path
+
+-- a value is shown as the one beside it, or what turned is told of the old one
+abbrev pub is_leaf_untold : Side → List Token → Option (List Token) → Bool
+is_leaf_untold side v None = false
+is_leaf_untold Old v (Some w) = is_shown_same v w
+is_leaf_untold New v (Some w) = true
+
+abbrev pub leaf_item : Side → List ℕ → List Token → Option (List Token) → Members
+leaf_item side text v None = alone_item text side v
+leaf_item side text v (Some w) = turned_item text v w
 
 abbrev pub leaf_items : Side → List ℕ → List Token → Option (List Token) → List Members
 leaf_items side text v None = alone_item text side v ∷ []

@@ -150,16 +150,6 @@ AreOfFrame None (Some g) = ⊥
 AreOfFrame (Some a) None = ⊥
 AreOfFrame (Some a) (Some g) = (a.number ≡ number g) × (a.payload.now ≡ g.payload)
 
--- one of them has this number and this payload
-abbrev pub Stands : ℕ → List ℕ → List ℕ → Type 0
-Stands n p all = (fs : List Frame) × (g : Frame) × (gs : List Frame) × (frames_in (items all) ≡ fs ++ g ∷ gs)
-    × (number g ≡ n) × (g.payload ≡ p)
-
--- and no number stands twice among them, in a list of which the rows are those of another one
-abbrev pub StandsOnce : Attributes → Attributes → ℕ → List ℕ → Type 0
-StandsOnce own others n p =
-    AreAlike own others × (are_twice (items others.bytes.now) ≡ false) × Stands n p others.bytes.now
-
 -- ** what is told
 
 -- of a value beside another one, if there is one

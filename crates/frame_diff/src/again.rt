@@ -9,12 +9,12 @@ ghost use Rattle.frame_diff.specs.Items.{items_told, joined};
 ghost use Rattle.frame_diff.specs.Members.{places};
 ghost use Rattle.frame_diff.specs.Repeated.{GoesOnAt, IsBeside, again_held, again_in, again_items, alone_at};
 ghost use Rattle.frame_diff.specs.Repeated.{IsSameAgain, earlier_at, earlier_in, place_by};
-ghost use Rattle.frame_diff.specs.Walked.{AreAlike, HasNames, HasRowByNumber, HasRowOf, Holding, IsOf, Showing};
+ghost use Rattle.frame_diff.specs.Walked.{AreAlike, HasNames, HasRowByNumber, Holding, IsOf, Showing};
 ghost use Rattle.frame_diff.specs.Walked.{held_at, held_items, named_at, reading_at};
 ghost use Rattle.frame_diff.specs.declared.walk.Attribute.{Attribute as One};
 
 use crate::leaf::{Texts, is_same};
-use crate::list::{behind, comes};
+use crate::list::{behind, comes, is_alike};
 use crate::path::{join, join_place};
 use crate::value::tell_value;
 use crate::walk::{Attribute, Attributes, Pass, Walk};
@@ -118,8 +118,8 @@ fn beside_again<'a>(
 
 /// The attribute, where it has this name.
 fn under_name<'a>(name: &str, beside: Option<Named<'a>>) -> Option<Attribute<'a>>
-    ensures row { (own : One) → IfSome beside.entry (λ other. HasRowOf own (Some other.attribute))
-        → HasRowOf own result }
+    ensures row { (own : One) → IfSome beside.entry (λ other. HasRowByNumber own other.attribute)
+        → IfSome result (λ other. HasRowByNumber own other) }
     ensures found { (nest : Showing) (inner : Holding) (is_state : Bool)
         → option_map (held_at nest inner is_state) result ≡ find (Step.name name.now)
         (inside_in (option_map (alone_at nest inner is_state) beside.entry)) }
@@ -146,8 +146,8 @@ fn tell_alone<W: Walk>(
     beside: Option<Named<'_>>,
 ) -> Result<(), AllocError>
     requires names { HasNames own.attribute.around.now }
-    requires alike { pass.is_alike ≡ true → IfSome beside (λ other.
-        HasRowOf own.attribute (Some other.attribute)) }
+    requires rows { pass.is_alike ≡ true → IfSome beside (λ other.
+        HasRowByNumber own.attribute other.attribute) }
     ensures { OnOk result (page.new
         ≡ with_members (objects (held_items pass.side (joined path.now own.entry.name.now)
         (held_at W.nest W.inner pass.is_state own.entry.attribute)
@@ -157,6 +157,8 @@ fn tell_alone<W: Walk>(
 {
     let text = join(texts.alloc, path, own.name)?;
     let there = under_name(own.name, beside);
+    let is_alike = is_alike(pass, own.attribute.number, there);
+    let pass = Pass { is_alike, ..pass };
     tell_value::<W>(texts, pass, page, text.as_str(), own.attribute, there)
 }
 
@@ -170,25 +172,6 @@ fn is_same_again(own: Named<'_>, beside: Option<Named<'_>>) -> bool
     other.attribute.number == own.attribute.number
         && own.name == other.name
         && is_same(own.attribute.payload, other.attribute.payload)
-}
-
-/// Whether the attribute beside one has its number, if there is one.
-fn is_one_number(own: Named<'_>, beside: Option<Named<'_>>) -> bool
-    ensures { result ≡ true → IfSome beside.entry (λ other.
-        other.attribute.number ≡ own.entry.attribute.number) }
-{
-    match beside {
-        Some(other) => other.attribute.number == own.attribute.number,
-        None => true,
-    }
-}
-
-/// Whether the attribute beside one is known to have its row, if there is one.
-fn is_row_known(pass: Pass, own: Named<'_>, beside: Option<Named<'_>>) -> bool
-    ensures { result ≡ true → (pass.is_alike ≡ true) × IfSome beside.entry (λ other.
-        other.attribute.number ≡ own.entry.attribute.number) }
-{
-    pass.is_alike && is_one_number(own, beside)
 }
 
 /// Tells of one of them, beside the one at its place. One that stands there as it is costs a look.
@@ -217,15 +200,7 @@ fn tell_placed<W: Walk>(
         }
     }
     let text = join_place(texts.alloc, path, place)?;
-    let is_alike = is_row_known(pass, own, beside);
-    tell_alone::<W>(
-        texts,
-        Pass { is_alike, ..pass },
-        page,
-        text.as_str(),
-        own,
-        beside,
-    )
+    tell_alone::<W>(texts, pass, page, text.as_str(), own, beside)
 }
 
 /// Tells of one of them, if there is one, beside the one at its place.
@@ -255,7 +230,7 @@ fn tell_again<W: Walk>(
 
 /// Tells of the attributes of a list behind which another one of their name stands, each beside the one at its place
 /// in another list.
-pub fn tell_repeated<W: Walk>(
+pub(crate) fn tell_repeated<W: Walk>(
     texts: &mut Texts,
     pass: Pass,
     page: &mut Page,

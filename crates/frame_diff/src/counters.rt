@@ -143,7 +143,7 @@ fn moves(list: List, number: u16) -> bool
 }
 
 /// Whether an attribute is passed over: in a state, where it moves by itself.
-pub fn is_passed(is_state: bool, list: List, number: u16) -> bool
+pub(crate) fn is_passed(is_state: bool, list: List, number: u16) -> bool
     ensures { result ≡ is_passed is_state list number }
 {
     is_state && moves(list, number)
@@ -197,7 +197,7 @@ fn moving_part(list: List, number: u16) -> Option<Cleared>
 }
 
 /// The part of the payload of an attribute that is passed over: in a state, what moves by itself.
-pub fn cleared_part(is_state: bool, list: List, number: u16) -> Option<Cleared>
+pub(crate) fn cleared_part(is_state: bool, list: List, number: u16) -> Option<Cleared>
     ensures { (place : ℕ) → clears_at (action_in is_state list number) place
         ≡ clears_at (clearing result) place }
 {

@@ -9,7 +9,7 @@ ghost use Rattle.frame_shown.specs.Kept.{frame_flags};
 ghost use Rattle.frame_shown.specs.Messages.{link_flag_names};
 ghost use Rattle.frame_diff.specs.Differences.{is_shown_same, text_of};
 ghost use Rattle.frame_diff.specs.Forests.{is_text};
-ghost use Rattle.frame_diff.specs.Items.{alone_item, joined, leaf_items, turned_item};
+ghost use Rattle.frame_diff.specs.Items.{alone_item, is_leaf_untold, joined, leaf_item, leaf_items, turned_item};
 ghost use Rattle.frame_diff.specs.Values.{AreShownAlike, listed_shown, value_shown};
 ghost use Rattle.frame_diff.specs.declared.side.Side.TheVariants as Sides;
 
@@ -273,50 +273,51 @@ fn put_turned<D: Depth>(
     page.end()
 }
 
-/// Tells of a value that both sides have, where it is shown as another one.
-fn tell_turned<D: Depth>(
+/// Whether nothing is told of a value: it is shown as the one beside it, or what turned is told of the old one.
+fn is_untold<D: Depth>(
     texts: &mut Texts,
     cx: &Around<'_>,
     theirs: &Around<'_>,
-    page: &mut Page,
-    path: &str,
-    was: Value<'_>,
-    is: Value<'_>,
-) -> Result<(), AllocError>
-    ensures { OnOk result (page.new ≡ with_members (objects (leaf_items Sides.Old path.now
-        (value_shown (D.nest cx.now) cx.now was.entry)
-        (Some (value_shown (D.nest theirs.now) theirs.now is.entry)))) page.old) }
+    side: Side,
+    own: Value<'_>,
+    beside: Option<Value<'_>>,
+) -> Result<bool, AllocError>
+    ensures { IfOk result (λ untold. untold
+        ≡ is_leaf_untold side (value_shown (D.nest cx.now) cx.now own.entry)
+        (option_map (value_shown (D.nest theirs.now) theirs.now) beside.entry)) }
 {
-    if is_shown_same::<D>(texts, cx, theirs, was, is)? {
-        return Ok(());
+    let Some(other) = beside else {
+        return Ok(false);
+    };
+    match side {
+        Side::Old => is_shown_same::<D>(texts, cx, theirs, own, other),
+        Side::New => Ok(true),
     }
-    put_turned::<D>(cx, theirs, page, path, was, is)
 }
 
-/// Tells of a value that both sides have: what turned is told of the old one.
-fn tell_both<D: Depth>(
-    texts: &mut Texts,
+/// Adds the change of a value: one that turned, if another one stands beside it.
+fn put<D: Depth>(
     cx: &Around<'_>,
     theirs: &Around<'_>,
     page: &mut Page,
     path: &str,
     side: Side,
     own: Value<'_>,
-    other: Value<'_>,
+    beside: Option<Value<'_>>,
 ) -> Result<(), AllocError>
-    ensures { OnOk result (page.new ≡ with_members (objects (leaf_items side path.now
+    ensures { OnOk result (page.new ≡ with_value [] (object_of (leaf_item side path.now
         (value_shown (D.nest cx.now) cx.now own.entry)
-        (Some (value_shown (D.nest theirs.now) theirs.now other.entry))))
-        page.old) }
+        (option_map (value_shown (D.nest theirs.now) theirs.now) beside.entry))) page.old) }
 {
-    match side {
-        Side::Old => tell_turned::<D>(texts, cx, theirs, page, path, own, other),
-        Side::New => Ok(()),
+    match beside {
+        None => put_alone::<D>(cx, page, path, side, own),
+        Some(other) => put_turned::<D>(cx, theirs, page, path, own, other),
     }
 }
 
 /// Tells of a value beside another one, if there is one: it came or went, or it turned, which is told of the old one.
-pub fn tell_leaf<D: Depth>(
+#[tactic(auto, using(crate::proofs::Items::leaf_untold, crate::proofs::Items::leaf_told))]
+pub(crate) fn tell_leaf<D: Depth>(
     texts: &mut Texts,
     cx: &Around<'_>,
     theirs: &Around<'_>,
@@ -331,34 +332,15 @@ pub fn tell_leaf<D: Depth>(
         (option_map (value_shown (D.nest theirs.now) theirs.now) beside.entry)))
         page.old) }
 {
-    match beside {
-        None => put_alone::<D>(cx, page, path, side, own),
-        Some(other) => tell_both::<D>(texts, cx, theirs, page, path, side, own, other),
+    let untold = is_untold::<D>(texts, cx, theirs, side, own, beside)?;
+    if untold {
+        return Ok(());
     }
+    put::<D>(cx, theirs, page, path, side, own, beside)
 }
 
-/// Adds the change of a value one step further that turned.
+/// Adds the change of a value one step further.
 pub(crate) fn put_step<D: Depth>(
-    texts: &mut Texts,
-    cx: &Around<'_>,
-    theirs: &Around<'_>,
-    page: &mut Page,
-    path: &str,
-    step: &str,
-    was: Value<'_>,
-    is: Value<'_>,
-) -> Result<(), AllocError>
-    ensures { OnOk result (page.new
-        ≡ with_members (objects (turned_item (joined path.now step.now)
-        (value_shown (D.nest cx.now) cx.now was.entry)
-        (value_shown (D.nest theirs.now) theirs.now is.entry) ∷ [])) page.old) }
-{
-    let text = join(texts.alloc, path, step)?;
-    put_turned::<D>(cx, theirs, page, text.as_str(), was, is)
-}
-
-/// Tells of a value one step further that both sides have: what turned is told of the old one.
-fn tell_both_step<D: Depth>(
     texts: &mut Texts,
     cx: &Around<'_>,
     theirs: &Around<'_>,
@@ -367,24 +349,20 @@ fn tell_both_step<D: Depth>(
     step: &str,
     side: Side,
     own: Value<'_>,
-    other: Value<'_>,
+    beside: Option<Value<'_>>,
 ) -> Result<(), AllocError>
     ensures { OnOk result (page.new
-        ≡ with_members (objects (leaf_items side (joined path.now step.now)
+        ≡ with_members (objects (leaf_item side (joined path.now step.now)
         (value_shown (D.nest cx.now) cx.now own.entry)
-        (Some (value_shown (D.nest theirs.now) theirs.now other.entry)))) page.old) }
+        (option_map (value_shown (D.nest theirs.now) theirs.now) beside.entry) ∷ [])) page.old) }
 {
-    if side.is_new() {
-        return Ok(());
-    }
-    if is_shown_same::<D>(texts, cx, theirs, own, other)? {
-        return Ok(());
-    }
-    put_step::<D>(texts, cx, theirs, page, path, step, own, other)
+    let text = join(texts.alloc, path, step)?;
+    put::<D>(cx, theirs, page, text.as_str(), side, own, beside)
 }
 
-/// Tells of a value one step further beside another one, if there is one.
-pub fn tell_step<D: Depth>(
+/// Tells of a value one step further beside another one, if there is one. A path is written where something is told.
+#[tactic(auto, using(crate::proofs::Items::leaf_untold, crate::proofs::Items::leaf_told))]
+pub(crate) fn tell_step<D: Depth>(
     texts: &mut Texts,
     cx: &Around<'_>,
     theirs: &Around<'_>,
@@ -400,11 +378,8 @@ pub fn tell_step<D: Depth>(
         (value_shown (D.nest cx.now) cx.now own.entry)
         (option_map (value_shown (D.nest theirs.now) theirs.now) beside.entry))) page.old) }
 {
-    match beside {
-        None => {
-            let text = join(texts.alloc, path, step)?;
-            put_alone::<D>(cx, page, text.as_str(), side, own)
-        }
-        Some(other) => tell_both_step::<D>(texts, cx, theirs, page, path, step, side, own, other),
+    if is_untold::<D>(texts, cx, theirs, side, own, beside)? {
+        return Ok(());
     }
+    put_step::<D>(texts, cx, theirs, page, path, step, side, own, beside)
 }

@@ -12,7 +12,7 @@ use frame_shown::form::{Around, List, name_in};
 use nla_wire::{NlaBuffer, NlasIterator};
 
 /// Whether an attribute is told under this name.
-pub fn is_named(cx: &Around<'_>, list: List, name: &str, frame: &NlaBuffer<'_>) -> bool
+pub(crate) fn is_named(cx: &Around<'_>, list: List, name: &str, frame: &NlaBuffer<'_>) -> bool
     ensures { result ≡ is_named cx.now list name.now frame.now }
 {
     match name_in(cx, list, frame.kind(), frame.value()) {
@@ -39,7 +39,7 @@ fn find_last<'a>(cx: &Around<'_>, list: List, name: &str, bytes: &'a [u8]) -> Op
 }
 
 /// The attribute that is the member with this name, whatever the lists in it are shown as.
-pub fn find_named<'a>(
+pub(crate) fn find_named<'a>(
     cx: &Around<'_>,
     list: List,
     name: &str,

@@ -7,7 +7,7 @@ use itoa::Buffer;
 use std::alloc::{AllocError, Global};
 
 /// The text of a path that goes one step on: the step stands behind a point, where it is not the first one.
-pub fn join(alloc: Global, text: &str, step: &str) -> Result<String, AllocError>
+pub(crate) fn join(alloc: Global, text: &str, step: &str) -> Result<String, AllocError>
     ensures { IfOk result (λ path. string_bytes path ≡ joined text.now step.now) }
 {
     let mut path = String::with_capacity(alloc, text.len() + step.len() + 1)?;
@@ -20,7 +20,7 @@ pub fn join(alloc: Global, text: &str, step: &str) -> Result<String, AllocError>
 }
 
 /// The text of a path that goes on at a place of a list.
-pub fn join_place(alloc: Global, text: &str, place: usize) -> Result<String, AllocError>
+pub(crate) fn join_place(alloc: Global, text: &str, place: usize) -> Result<String, AllocError>
     ensures { IfOk result (λ path. string_bytes path ≡ joined text.now (decimal place)) }
 {
     let mut digits = Buffer::new();

@@ -55,7 +55,7 @@ pub struct Attribute<'a> {
 }
 
 /// How deep lists of attributes are gone through.
-pub trait Walk: Depth {
+pub(crate) trait Walk: Depth {
     ghost inner: { Holding };
 
     /// Whether a list holds no member at all, so that it is a value.

@@ -417,10 +417,6 @@ all_shown items none =
     ∙ sym (append-nil (last_ones items))
     ∙ ap (λ l. last_ones items ++ l) (sym (none_under (codes "repeated") (earlier_ones items) none))
 
-pub some_under : (name : List ℕ) (os : List Members) → are_any os ≡ true
-    → list_under name (map object_of os) ≡ (name, list_of (flat_map (λ v. v) (map object_of os))) ∷ []
-some_under name os any = under name (map object_of os) (any_mapped object_of os ∙ any)
-
 pub kept_any : (x : Item) (rest : List Item) → number_in x ≡ None → are_any (kept_ones (x ∷ rest)) ≡ true
 kept_any (Item.named n ms) rest is = absurd cc
 kept_any (Item.as_is name kind payload) rest is = refl

@@ -1,6 +1,6 @@
 //! The attributes that are accepted of bytes that are no message.
 
-ghost use Rattle.std.specs.Prelude.{◌≡◌, ◌++◌, IfOk, OnOk, codes, false};
+ghost use Rattle.std.specs.Prelude.{◌≡◌, ◌++◌, IfOk, OnOk, codes, false, true};
 ghost use Rattle.nla_wire.specs.Canon.{canon};
 ghost use Rattle.nla_wire.specs.Items.{items};
 ghost use Rattle.link_info.specs.Styles.{are_frames};
@@ -62,20 +62,25 @@ pub fn accepted(
     Ok(out)
 }
 
-/// The attributes that are refused of a message of this family, spelled one after the other.
-pub fn refused(alloc: Global, bytes: &[u8], family: u8) -> Result<Vec<u8>, AllocError>
-    ensures { IfOk result (λ out. out.items ≡ refused family bytes.now) }
+/// The attributes that are accepted of a message of this family, and those that are refused, each spelled one after the
+/// other.
+pub fn parted(alloc: Global, bytes: &[u8], family: u8) -> Result<(Vec<u8>, Vec<u8>), AllocError>
+    ensures { IfOk result (λ parts. (parts.0.items ≡ accepted true family bytes.now)
+        × (parts.1.items ≡ refused family bytes.now)) }
 {
-    let mut out = Vec::new(alloc);
+    let mut accepted = Vec::new(alloc);
+    let mut refused = Vec::new(alloc);
     for item in NlasIterator::new(bytes) {
         let Ok(frame) = item else {
             break;
         };
-        if !is_accepted(&frame, family) {
-            push_frame(&mut out, &frame)?;
+        if is_accepted(&frame, family) {
+            push_frame(&mut accepted, &frame)?;
+        } else {
+            push_frame(&mut refused, &frame)?;
         }
     }
-    Ok(out)
+    Ok((accepted, refused))
 }
 
 /// Whether bytes are frames that fit.

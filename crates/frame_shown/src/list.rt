@@ -21,7 +21,7 @@ use crate::form::{
     Around, Form, Group, List, Manner, NUMBERS, Way, found_in, is_kept_by, kind_shown,
 };
 use crate::kept::show_kept;
-use crate::value::{number_at, show_form, show_style};
+use crate::value::{number_at, show_form, show_style, show_text};
 use link_info::{Member, Place, Style};
 use nla_wire::{NlaBuffer, NlasIterator};
 use shown::{Nest, Page};
@@ -46,7 +46,7 @@ pub fn show_way<D: Depth>(
     }
 }
 
-/// Adds a value by a form: most are numbers.
+/// Adds a value by a form: most are numbers, and most of a long list are texts.
 #[inline(always)]
 fn show_own<D: Depth>(
     cx: &Around<'_>,
@@ -61,6 +61,7 @@ fn show_own<D: Depth>(
 {
     match *form {
         Form::Number(size) => page.keyed_number(name, number_at(size, payload, 0)),
+        Form::Text => show_text(page, name, payload),
         _ => show_form::<D>(cx, page, name, form, payload),
     }
 }

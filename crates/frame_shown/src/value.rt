@@ -636,7 +636,7 @@ fn without_last_nul(bytes: &[u8]) -> &[u8]
 
 /// Adds a text, or the digits of bytes that are none.
 #[inline(always)]
-fn show_text(page: &mut Page, name: &str, payload: &[u8]) -> Result<(), AllocError>
+pub(crate) fn show_text(page: &mut Page, name: &str, payload: &[u8]) -> Result<(), AllocError>
     requires key { IsKey name.now }
     ensures { OnOk result
         (page.new ≡ with_value name.now (text_shown (read_as S.Text payload.now)) page.old) }

@@ -14,7 +14,7 @@ ghost use Rattle.message_diff.specs.Split.{parts_in};
 use crate::snapshot::{Compared, Snapshot};
 use frame_diff::leaf::Texts;
 use frame_diff::message::{Message, tell};
-use frame_shown::accepted::{accepted, refused};
+use frame_shown::accepted::parted;
 use frame_shown::message::rest_of;
 use nla_wire::fields::u8_at;
 use shown::{Nest, Page};
@@ -34,8 +34,7 @@ impl<'a> Split<'a> {
         ensures { IfOk result (λ split. parts_in split ≡ leniently text.now) }
     {
         let family = u8_at(text, 0);
-        let accepted = accepted(alloc, rest_of(text), family, true)?;
-        let refused = refused(alloc, rest_of(text), family)?;
+        let (accepted, refused) = parted(alloc, rest_of(text), family)?;
         Ok(Split {
             text,
             accepted,

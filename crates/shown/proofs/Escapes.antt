@@ -4,7 +4,7 @@ use Rattle.std.proofs.Common.{List, [], ◌∷◌, ◌++◌}
 use Rattle.std.proofs.Common.{length, take, drop, get_or, nat_lt, refl, ap, sym, ◌∙◌, subst, arith, length-drop}
 use Rattle.std.proofs.Common.{append_assoc, append-nil, get_or-drop, length-take-le, set, Bool}
 use Rattle.std.specs.Bool.{OnTrue}
-use Rattle.std.proofs.lemmas.Bool.{eqb-false, ltb-false, not-true, or_parts}
+use Rattle.std.proofs.lemmas.Bool.{agree_below_at, eqb-false, eqb-true, ltb-false, not-true, or_parts}
 use Rattle.std.proofs.lemmas.List.{drop_all, drop_more, drop-drop, length-set, take_all, take_more_set}
 use Rattle.json.specs.Filled.{Placed}
 use Rattle.json.proofs.Printed.Places.{Placed-then}
@@ -15,6 +15,17 @@ use Rattle.shown.specs.Sheets.{Adds, Keeps}
 use Rattle.shown.proofs.Pieces.{adds_behind, placed_keeps}
 
 -- ** one character
+
+-- no byte below DEL begins one that shows nothing
+low_none : (x y z : ℕ) → x < 0x7f → unseen x y z ≡ 0
+low_none x y z low =
+    eqb-true (unseen x y z) 0 (agree_below_at (λ c. unseen c y z == 0) (λ c. true) 0x7f x refl low)
+
+pub none_low : (text : List ℕ) (at : ℕ) → get_or text at 0 < 0x7f → unseen_in (drop at text) ≡ 0
+none_low text at low =
+    let here : at + 0 ≡ at = omega arith in
+    low_none (get_or (drop at text) 0 0) (get_or (drop at text) 1 0) (get_or (drop at text) 2 0)
+    (subst (λ n. n < 0x7f) (sym (get_or-drop at text 0 0 ∙ ap (λ n. get_or text n 0) here)) low)
 
 skipped : (n : ℕ) (s : List ℕ) → escape_from n s ≡ escape (drop n s)
 unfolding escape_from

@@ -107,12 +107,18 @@ fn byte_at(text: &[u8], at: usize) -> u8
 }
 
 /// The number of the character at a place of a text, where it shows nothing or turns what stands beside it; else 0.
+/// No byte below DEL is one, or begins one.
 #[inline(always)]
+#[tactic(auto, using(crate::proofs::Escapes::none_low))]
 fn unseen_at(text: &[u8], at: usize) -> u16
     requires { at < length text.now }
     ensures { result ≡ unseen_in (drop at text.now) }
 {
-    unseen(text[at], byte_at(text, at + 1), byte_at(text, at + 2))
+    let first = text[at];
+    if first < 0x7f {
+        return 0;
+    }
+    unseen(first, byte_at(text, at + 1), byte_at(text, at + 2))
 }
 
 /// What stands for such a character, or for a byte where there is none, at the front of six bytes, and its length.

@@ -1,5 +1,4 @@
-use Rattle.std.proofs.Common.{◌∙◌, sym}
-use Rattle.frame_diff.proofs.Repeated.{again_silent, row_known}
+use Rattle.frame_diff.proofs.Repeated.{again_silent}
 use Rattle.frame_diff.proofs.again.tell_placed.Goals as goal
 
 pub returns-then-is_same_again : goal.returns-then-is_same_again
@@ -7,8 +6,3 @@ returns-then-is_same_again g c =
     again_silent g.W.Depth.nest g.W.Walk.inner c.laws.ensures.apart c.args.pass.is_state c.args.pass.side
     c.args.path.now c.args.place c.args.others c.args.own c.args.beside c.args.page.now
     (c.requires.rows c.if-pass.true) c.requires.beside (c.is_same_again.ensures c.if-is_same_again.true)
-
-pub tell_alone-requires-clause-alike : goal.tell_alone-requires-clause-alike
-tell_alone-requires-clause-alike g c h =
-    let known = c.is_row_known-is_alike.ensures h in
-    row_known c.args.own c.args.beside (c.requires.rows known.0) known.1

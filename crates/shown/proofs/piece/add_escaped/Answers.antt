@@ -18,5 +18,5 @@ returns-in_err-end c =
 pub returns : goal.returns
 returns c =
     rw (in_quotes (comma_if c.args.comma) c.args.text.now) at
-    (added_behind _ _ c.add_bytes-2.result c.requires.within (adds_behind c.in_ok-start.ensures c.in_ok-end.ensures)
-    c.add_bytes-2.ensures)
+    (added_behind _ _ c.add_byte-2.result c.requires.within (adds_behind c.in_ok-start.ensures c.in_ok-end.ensures)
+    c.add_byte-2.ensures)
