@@ -1,14 +1,13 @@
 -- What stands in the other message as it is tells nothing, and records with the same names are told in step.
 use Rattle.std.proofs.Common.{◌≡◌, ℕ, ◌+◌, Bool, true, false, List, [], ◌∷◌, ◌++◌, append_assoc, refl, sym, ap, ◌∙◌}
-use Rattle.std.proofs.Common.{drop, map}
-use Rattle.std.specs.Prelude.{◌&&◌, Option, Some, None, cond, option_map}
-use Rattle.json.specs.Token.{Token}
+use Rattle.std.proofs.Common.{map}
+use Rattle.std.specs.Prelude.{Option, Some, None, cond, option_map}
 use Rattle.shown.specs.Drafts.{Draft, Members, with_members}
 use Rattle.frame_shown.specs.Items.{objects}
 use Rattle.frame_shown.specs.Kept.{frame_members}
 use Rattle.frame_shown.specs.declared.form.Around.{Around}
 use Rattle.frame_diff.specs.Differences.{is_shown_same}
-use Rattle.frame_diff.specs.Forests.{AreApart, Forest, Held, Member, Step, comes, field_step, find, forest, is_step}
+use Rattle.frame_diff.specs.Forests.{Forest, Held, Member, Step, comes, field_step, find, forest, is_step}
 use Rattle.frame_diff.specs.Forests.{is_text}
 use Rattle.frame_diff.specs.Groups.{IsSameEntry, entry_held, list_held}
 use Rattle.frame_diff.specs.Items.{items_told, joined, leaf_items, turned_item}
@@ -21,10 +20,10 @@ use Rattle.frame_diff.specs.declared.rows.Row.{Row}
 use Rattle.frame_diff.specs.declared.side.Side.{Side}
 use Rattle.frame_diff.specs.declared.side.Side.TheVariants.{Old, New}
 use Rattle.frame_diff.specs.declared.walk.Attributes.{Attributes}
-use Rattle.frame_diff.proofs.Apart.{fields_apart, find_none}
+use Rattle.frame_diff.proofs.Apart.{fields_apart}
 use Rattle.frame_diff.proofs.Beside.{found_last, last_at, or_else}
 use Rattle.frame_diff.proofs.Classes.{above_apart}
-use Rattle.frame_diff.proofs.Steps.{and_left, and_right, step_is, text_is, text_same}
+use Rattle.frame_diff.proofs.Steps.{and_left, and_right, step_is, text_same}
 use Rattle.frame_diff.proofs.There.{last_kept}
 use Rattle.frame_diff.proofs.Walked.{held_same, last_further, tree_same}
 

@@ -5,27 +5,26 @@ use Rattle.json.specs.Token.{Token}
 use Rattle.nla_wire.specs.Frames.{Frame}
 use Rattle.nla_wire.specs.Items.{items}
 use Rattle.link_info.specs.Tables.{frames_in}
-use Rattle.shown.specs.Drafts.{Members}
 use Rattle.frame_shown.specs.Tables.{group_name}
 use Rattle.frame_shown.specs.declared.form.Around.{Around}
 use Rattle.frame_shown.specs.declared.form.List.{List as Shape}
 use Rattle.frame_shown.specs.declared.form.List.TheVariants as Shapes
-use Rattle.frame_diff.specs.Forests.{Forest, Held, Member, Step, comes, field_step, find}
+use Rattle.frame_diff.specs.Forests.{Forest, Held, Member, Step, field_step, find}
 use Rattle.frame_diff.specs.Forests.{forest, is_step, left_of, rest_step, values_step}
 use Rattle.frame_diff.specs.Groups.{is_group}
-use Rattle.frame_diff.specs.Inside.{HoldsNoField, above, has_none, inside_list, is_field, is_of_object}
+use Rattle.frame_diff.specs.Inside.{HoldsNoField, above, has_none, inside_list, is_of_object}
 use Rattle.frame_diff.specs.Items.{items_told}
 use Rattle.frame_diff.specs.Members.{Reading, earlier, group_of, is_some, kept_in, list_at, list_members}
-use Rattle.frame_diff.specs.Members.{members_in, named, named_in, places, unless_none}
+use Rattle.frame_diff.specs.Members.{members_in, named_in, places, unless_none}
 use Rattle.frame_diff.specs.Repeated.{members_at}
 use Rattle.frame_diff.specs.Walked.{Holding, HoldsApart, Showing, reading_at}
 use Rattle.frame_diff.specs.declared.side.Side.{Side}
 use Rattle.frame_diff.specs.declared.walk.Attributes.{Attributes}
 use Rattle.frame_diff.proofs.Apart.{find_none, left_apart, list_members_apart}
-use Rattle.frame_diff.proofs.Inside.{AreAt, append_at, at_weaker, fields_lack, find_left, forest_all, forest_some}
+use Rattle.frame_diff.proofs.Inside.{AreAt, append_at, at_weaker, find_left, forest_all, forest_some}
 use Rattle.frame_diff.proofs.Inside.{left_some}
 use Rattle.frame_diff.proofs.Inside.{left_told, none_at, same_told}
-use Rattle.frame_diff.proofs.Parts.{AreNames, NoneComes, named_names}
+use Rattle.frame_diff.proofs.Parts.{AreNames, named_names}
 
 -- ** steps
 

@@ -29,7 +29,7 @@ use Rattle.frame_diff.specs.Groups.{IsFlat, are_plain, first_by, first_of, group
 use Rattle.frame_diff.specs.Groups.{group_values, is_entries, is_group, is_nested, is_same_group, nest_in}
 use Rattle.frame_diff.specs.Groups.{next_place, picked, place_items, rest_by, rest_forest, rest_of, value_at}
 use Rattle.frame_diff.specs.Groups.{values_by, values_of}
-use Rattle.frame_diff.specs.Inside.{has_none, is_of_object}
+use Rattle.frame_diff.specs.Inside.{has_none}
 use Rattle.frame_diff.specs.Items.{items_told, joined, leaf_items, step_text}
 use Rattle.frame_diff.specs.Members.{Reading, entries_in, entry_of, frame_member, group_of, held_by, is_nest, is_some}
 use Rattle.frame_diff.specs.Members.{kept_in, list_at, list_members, named_by, named_in, placed, placed_one, places}

@@ -21,7 +21,7 @@ use Rattle.frame_diff.specs.Repeated.{GoesOnAt, IsBeside, IsSameAgain, again_hel
 use Rattle.frame_diff.specs.Repeated.{earlier_at}
 use Rattle.frame_diff.specs.Repeated.{earlier_in, place_by}
 use Rattle.frame_diff.specs.Values.{nth}
-use Rattle.frame_diff.specs.Walked.{AreAlike, HasNames, HasRowByNumber, HasRowOf, Holding, HoldsApart, IsOf, Showing}
+use Rattle.frame_diff.specs.Walked.{AreAlike, HasNames, HasRowByNumber, Holding, HoldsApart, IsOf, Showing}
 use Rattle.frame_diff.specs.Walked.{held_at}
 use Rattle.frame_diff.specs.Walked.{held_items, reading_at}
 use Rattle.frame_diff.specs.declared.again.Named.{Named}

@@ -9,7 +9,7 @@ use denote.Struct.Field.{Field}
 use denote.Enum.Declared.{Record, Choice, left_or, right_or}
 use Rattle.nla_wire.specs.Sizes.{plain_growth, growth}
 use Rattle.nla_wire.specs.Frames.{Frame, Frames, number, IsBytes, IsFrame}
-use Rattle.nla_wire.specs.Grammar.{Grammar, as_a, by_payload, undecoded, if_true, list, Every, is_one, not_empty}
+use Rattle.nla_wire.specs.Grammar.{Grammar, as_a, undecoded, if_true, list, Every, is_one, not_empty}
 use Rattle.nla_wire.specs.Grammar.{picked}
 use Rattle.nla_wire.specs.Items.{items}
 use Rattle.nla_wire.proofs.Back.{frames_framed, all_filtered}

@@ -11,7 +11,7 @@ use Rattle.link_info.specs.Lent.{member_now, name_now, plain_now, style_now}
 use Rattle.link_info.specs.Meanings.{Meaning, Raw, Present, Number, Signed, Words, Hardware, Four, Six}
 use Rattle.link_info.specs.Meanings.{Members as Fields, Elements, Listed, Nested, flag_meaning, form_meaning, read_as}
 use Rattle.link_info.specs.Meanings.{text_or_bytes}
-use Rattle.link_info.specs.Styles.{Form, Host, Network, Twos, SixOctets, FourOctets, SixteenOctets, Octets, are_frames}
+use Rattle.link_info.specs.Styles.{Form, Host, are_frames}
 use Rattle.link_info.specs.Styles.{are_frames_of, form, form_size, is_multiple, plain_size, record_size}
 use Rattle.link_info.specs.declared.style.Member.{Member}
 use Rattle.link_info.specs.declared.style.Plain.{Plain}

@@ -1,7 +1,6 @@
 -- Where no number stands twice, no attribute comes again.
 use Rattle.std.proofs.Common.{◌≡◌, ℕ, ◌||◌, ◌<◌, List, [], ◌∷◌, refl, sym, ap, ◌∙◌, length, set, arith}
-use Rattle.std.specs.Prelude.{Bool, true, false, Ok, Some, None, cond, map, nat_lt, not, replicate, slice_index, ◌==◌}
-use Rattle.std.specs.List.{list_any}
+use Rattle.std.specs.Prelude.{Bool, true, false, Ok, Some, cond, map, nat_lt, not, replicate, slice_index, ◌==◌}
 use Rattle.std.proofs.lemmas.Bool.{or_from, or_parts}
 use Rattle.std.proofs.Math.Bool.{or-false}
 use Rattle.nla_wire.specs.Frames.{Frame, number}
@@ -14,7 +13,7 @@ use Rattle.frame_shown.specs.Tables.{Known, is_kept, kind_shown, listed_row, no_
 use Rattle.frame_shown.specs.Values.{Nesting}
 use Rattle.frame_shown.specs.declared.form.Around.{Around}
 use Rattle.frame_shown.specs.declared.form.List.{List as Shape}
-use Rattle.frame_shown.proofs.Items.{any_earlier, is_told, named_repeats, kept_repeats, none_repeats, repeats}
+use Rattle.frame_shown.proofs.Items.{any_earlier, named_repeats, none_repeats, repeats}
 
 -- only a number below 256 has a name
 small_by : (b : Bool) (row : Known) (p : List ℕ) → is_kept (cond b row no_row).1 p ≡ false → b ≡ true

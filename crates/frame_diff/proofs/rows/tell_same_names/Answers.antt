@@ -1,4 +1,4 @@
-use Rattle.std.proofs.Common.{[], ap, map, subst, sym, ◌≡◌, ◌∙◌}
+use Rattle.std.proofs.Common.{[], ap, map, sym, ◌∙◌}
 use Rattle.std.proofs.lemmas.Result.{on_ok_weaker}
 use Rattle.shown.specs.Drafts.{with_members}
 use Rattle.frame_shown.specs.Items.{objects}
