@@ -94,11 +94,12 @@
 //! # What is proved
 //!
 //! In the sources that this crate is made from these parts are proved: the check of the message, the search for the
-//! last attribute of a number, or of each of several in one pass, and the reading of its value. Keys and `iter` call
-//! them. By contract that value is the variant and the value that `parse` gives, in a message and in each list inside.
-//! Written by hand are the choice of the variant that a key names, the entries of the lists of virtual functions and
-//! ports, and the data of kinds. This crate is tested to give the same answers; it is not proved itself. The tests
-//! compare all of it with what `parse` gives, on every stored message.
+//! last attribute of a number, or of each of several in one pass, the reading of its value, and going over the entries
+//! of the lists of virtual functions and ports. Keys and `iter` call them. By contract that value is the variant and
+//! the value that `parse` gives, in a message and in each list inside, and the entries are those that it gives, in
+//! order. Written by hand are the choice of the variant that a key names, and the data of kinds. This crate is tested
+//! to give the same answers; it is not proved itself. The tests compare all of it with what `parse` gives, on every
+//! stored message.
 
 #[macro_use]
 mod macros;
@@ -140,8 +141,20 @@ pub trait Place<'a>: Sized {
 
     #[doc(hidden)]
     #[inline]
-    fn next(left: &mut BorrowedAttributes<'a>) -> Option<Result<Option<Self::Member>, DecodeError>> {
-        Some(left.frames.next()?.and_then(|frame| Self::member(Attribute::new(frame), left.family)))
+    #[must_use]
+    fn frames(list: &'a [u8]) -> NlasIterator<'a> {
+        NlasIterator::new(list)
+    }
+
+    #[doc(hidden)]
+    #[inline]
+    fn next(left: &mut BorrowedAttributes<'a>) -> Option<Result<Self::Member, DecodeError>> {
+        loop {
+            let read = left.frames.next()?.and_then(|frame| Self::member(Attribute::new(frame), left.family));
+            if let Some(item) = read.transpose() {
+                return Some(item);
+            }
+        }
     }
 }
 
@@ -425,7 +438,7 @@ impl<'a, P: Place<'a>> ListView<'a, P> {
     /// [`ListView`] has an example.
     #[must_use]
     pub fn iter(&self) -> Members<'a, P> {
-        Members::of(BorrowedAttributes { family: AddressFamily::Unspec, frames: NlasIterator::new(self.list) })
+        Members::of(BorrowedAttributes { family: AddressFamily::Unspec, frames: P::frames(self.list) })
     }
 }
 
@@ -479,24 +492,22 @@ impl<'a, P: Place<'a>> Iterator for Members<'a, P> {
 
     #[inline]
     fn next(&mut self) -> Option<Self::Item> {
-        loop {
-            if let Some(item) = P::next(&mut self.left)?.transpose() {
-                return Some(item);
-            }
-        }
+        P::next(&mut self.left)
     }
 }
 
 impl<'a, P: Place<'a>> FusedIterator for Members<'a, P> {}
 
 mod keys {
-    use super::read::{self, Nest};
+    use super::read::Nest;
     use super::{Key, ListView, Place, Values, WirelessEventView};
     use crate::link_msg::numbers;
     use crate::link_view::LinkView;
     use crate::link_view::attributes::{BorrowedAttributes, borrow_frame};
     use crate::link_view::borrowed::BorrowedAttribute;
+    use crate::link_view::entries::{borrow_entry, entries_in, next_entry};
     use crate::link_view::sought::Sought;
+    use crate::nla_wire::NlasIterator;
     use crate::rattle::net::{Ipv4Addr, Ipv6Addr};
     use crate::{AddressFamily, Attribute, DecodeError, LinkAttribute, typed};
 

@@ -135,7 +135,7 @@ macro_rules! members {
 }
 
 macro_rules! entries {
-    ($place:ident $member:ident $number:ident) => {
+    ($place:ident $member:ident) => {
         impl Checked for ListView<'_, linkwire::$place> {
             fn keys_agree(&self) {
                 self.iter().for_each(|it| it.unwrap().keys_agree());
@@ -369,6 +369,32 @@ fn by_size_and_family() {
     bytes[0] = u8::from(AddressFamily::Inet6);
     let view = LinkView::new(&bytes).unwrap();
     assert_eq!(view.get(AfSpecUnknown), Ok(Some(&frame(12, &[])[..])));
+}
+
+/// Of functions and ports the entries of another number are dropped unread, and one without attributes is refused in
+/// its place; what stands around it is read.
+#[test]
+fn entries() {
+    let (one, other) = (frame(1, &frame(9, &[3, 0, 0, 0, 1, 0, 0, 0])), frame(2, &[7]));
+    let fault = Err(("IFLA_VF_INFO", Cause::EmptyList));
+    for (entries, wanted) in [
+        (vec![&one, &other, &one, &other], vec![Ok(8), Ok(8)]),
+        (vec![&other], vec![]),
+        (vec![&other, &frame(1, &[]), &other, &one], vec![fault, Ok(8)]),
+    ] {
+        let list: Vec<u8> = entries.into_iter().flatten().copied().collect();
+        let bytes = [vec![0; HEADER_SIZE], frame(22, &list)].concat();
+        agrees(&bytes);
+        let functions = LinkView::peek(&bytes).unwrap().get(VfInfoList).unwrap().unwrap();
+        let found = functions.iter().map(|it| it.map(len).map_err(|it| (it.place, it.cause)));
+        assert_eq!(found.collect::<Vec<_>>(), wanted);
+        agrees(&[vec![0; HEADER_SIZE], frame(24, &list)].concat());
+    }
+}
+
+/// How many bytes the first attribute of a list has.
+fn len(list: ListView<'_, linkwire::VfInfo>) -> usize {
+    list.attributes().next().unwrap().unwrap().payload().len()
 }
 
 #[test]

@@ -140,8 +140,8 @@ def enums(source):
 
 
 def entries(source):
-    """The entries of a source that are lists themselves: the type, its members, its number."""
-    return re.findall(r"^pub struct (\w+)\(pub List<(\w+)>\);[\s\S]*?const NUMBER: u16 = (\w+);", source, re.M)
+    """The entries of a source that are lists themselves: the type, and its members."""
+    return re.findall(r"^pub struct (\w+)\(pub List<(\w+)>\);[\s\S]*?const NUMBER: u16 = ", source, re.M)
 
 
 def lists():
@@ -149,8 +149,8 @@ def lists():
     for crate, _, source in sources():
         for enum, said in enums(source):
             yield inner(crate, source, enum, said)
-        for enum, held, number in entries(source):
-            yield f"entries!({enum} {held} {number});\n"
+        for enum, held in entries(source):
+            yield f"entries!({enum} {held});\n"
 
 
 # ** the data of kinds

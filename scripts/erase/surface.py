@@ -7,11 +7,11 @@ HIDDEN_NAMES = {
     "BorrowedAttribute", "BorrowedAttributes", "BorrowedDevlinkPort", "BorrowedDpllPin", "BorrowedLinkInfo",
     "BorrowedLinkProtoInfoInet6", "BorrowedLinkProtocolDownReason", "BorrowedLinkXdp", "BorrowedProp",
     "BorrowedVfInfo", "BorrowedVfPort", "BorrowedVfStats", "BorrowedVfVlan", "Entry", "Kind", "Level", "Nla",
-    "NlaBuffer", "NlaRead", "NlasIterator", "Sought", "WirelessEventView", "borrow_frame", "canonical_into",
-    "canonical_lenient_into", "check_string", "clear", "emit_i32", "emit_nlas", "emit_u16", "emit_u32", "emit_u64",
-    "fill", "frame_of", "last_each", "last_in", "list_measure", "nlas_buffer_len", "nlas_fill", "nlas_fit",
-    "nlas_measure", "nlas_write", "same_refusal", "same_room_refusal", "state_into", "state_lenient_into",
-    "thin_families", "thin_inet6", "write_list",
+    "NlaBuffer", "NlaRead", "NlasIterator", "Sought", "WirelessEventView", "borrow_entry", "borrow_frame",
+    "canonical_into", "canonical_lenient_into", "check_string", "clear", "emit_i32", "emit_nlas", "emit_u16",
+    "emit_u32", "emit_u64", "entries_in", "fill", "frame_of", "last_each", "last_in", "list_measure", "next_entry",
+    "nlas_buffer_len", "nlas_fill", "nlas_fit", "nlas_measure", "nlas_write", "same_refusal", "same_room_refusal",
+    "state_into", "state_lenient_into", "thin_families", "thin_inet6", "write_list",
 }
 # Calls of types that serve the crates alone, or that the trait `Emitable` has, as in netlink-packet-route.
 HIDDEN_CALLS = {

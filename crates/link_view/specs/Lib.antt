@@ -1,6 +1,7 @@
 pub mod Told
 pub mod Views
 pub mod Search
+pub mod Entries
 pub mod Events
 pub mod Borrowed
 pub mod Nest

@@ -4,6 +4,8 @@
 pub mod afspec;
 pub mod attributes;
 pub mod borrowed;
+pub mod entries;
+pub mod laws;
 pub mod message_view;
 pub mod nest;
 pub mod payload;
@@ -16,6 +18,7 @@ pub use afspec::{
 };
 pub use attributes::{BorrowedAttributes, borrow_frame};
 pub use borrowed::BorrowedAttribute;
+pub use entries::{borrow_entry, entries_in, next_entry};
 pub use message_view::{LinkView, last_in};
 pub use nest::{
     BorrowedDevlinkPort, BorrowedDpllPin, BorrowedLinkInfo, BorrowedLinkProtocolDownReason,

@@ -255,7 +255,7 @@ members! {
     ExpectedFd(u32) IFLA_XDP_EXPECTED_FD same;
 }
 
-entries!(LinkVfPort VfPort IFLA_VF_PORT);
+entries!(LinkVfPort VfPort);
 
 members! {
     /// Members of IFLA_VF_STATS: the keys of [`VfStats`](crate::VfStats).
@@ -309,7 +309,7 @@ members! {
     Broadcast(crate::VfInfoBroadcast) IFLA_VF_BROADCAST same;
 }
 
-entries!(LinkVfInfo VfInfo IFLA_VF_INFO);
+entries!(LinkVfInfo VfInfo);
 
 members! {
     /// Members of IFLA_VF_PORT: the keys of [`VfPort`](crate::VfPort).

@@ -73,11 +73,11 @@ macro_rules! keys {
 
         /// The same attribute, as a user has it.
         #[inline]
-        fn shown(attribute: BorrowedAttribute<'_>) -> Option<AttributeView<'_>> {
-            Some(match attribute {
+        fn shown(attribute: BorrowedAttribute<'_>) -> AttributeView<'_> {
+            match attribute {
                 $(BorrowedAttribute::$name(value) => AttributeView::$name(shown!($how value)),)+
                 BorrowedAttribute::Other(frame) => AttributeView::Other(Attribute::new(frame)),
-            })
+            }
         }
 
         impl<'a> Place<'a> for LinkAttribute {
@@ -85,11 +85,11 @@ macro_rules! keys {
 
             #[inline]
             fn member(attribute: Attribute<'a>, family: AddressFamily) -> Result<Option<Self::Member>, DecodeError> {
-                borrow_frame(attribute.number(), *attribute.frame(), family).map(shown)
+                Ok(Some(shown(borrow_frame(attribute.number(), *attribute.frame(), family)?)))
             }
 
             #[inline]
-            fn next(left: &mut BorrowedAttributes<'a>) -> Option<Result<Option<Self::Member>, DecodeError>> {
+            fn next(left: &mut BorrowedAttributes<'a>) -> Option<Result<Self::Member, DecodeError>> {
                 Some(left.next()?.map(shown))
             }
         }
@@ -167,11 +167,11 @@ macro_rules! members {
 
             /// The same attribute, as a user has it.
             #[inline]
-            fn shown(member: Borrowed<'_>) -> Option<Member<'_>> {
-                Some(match member {
+            fn shown(member: Borrowed<'_>) -> Member<'_> {
+                match member {
                     $(Borrowed::$name(value) => Member::$name(shown!($how value)),)*
                     Borrowed::Other(frame) => Member::Other(Attribute::new(frame)),
-                })
+                }
             }
 
             impl<'a> Place<'a> for crate::$place {
@@ -179,11 +179,11 @@ macro_rules! members {
 
                 #[inline]
                 fn member(attribute: Attribute<'a>, _: AddressFamily) -> Result<Option<Member<'a>>, DecodeError> {
-                    Borrowed::borrow(attribute.number(), *attribute.frame()).map(shown)
+                    Ok(Some(shown(Borrowed::borrow(attribute.number(), *attribute.frame())?)))
                 }
 
                 #[inline]
-                fn next(left: &mut BorrowedAttributes<'a>) -> Option<Result<Option<Member<'a>>, DecodeError>> {
+                fn next(left: &mut BorrowedAttributes<'a>) -> Option<Result<Member<'a>, DecodeError>> {
                     Some(Borrowed::next(&mut left.frames)?.map(shown))
                 }
             }
@@ -193,16 +193,23 @@ macro_rules! members {
 
 /// A list of lists, of which attributes with another number are dropped.
 macro_rules! entries {
-    ($place:ident $member:ident $number:ident) => {
+    ($place:ident $member:ident) => {
         impl<'a> Place<'a> for crate::$place {
             type Member = ListView<'a, crate::$member>;
 
             #[inline]
             fn member(attribute: Attribute<'a>, _: AddressFamily) -> Result<Option<Self::Member>, DecodeError> {
-                if attribute.number() != crate::link_vf::numbers::$number {
-                    return Ok(None);
-                }
-                read::list(attribute.payload())
+                Ok(borrow_entry::<crate::$place>(attribute.number(), *attribute.frame())?.map(ListView::of))
+            }
+
+            #[inline]
+            fn frames(list: &'a [u8]) -> NlasIterator<'a> {
+                entries_in::<crate::$place>(list)
+            }
+
+            #[inline]
+            fn next(left: &mut BorrowedAttributes<'a>) -> Option<Result<Self::Member, DecodeError>> {
+                Some(next_entry::<crate::$place>(&mut left.frames)?.map(ListView::of))
             }
         }
     };

@@ -17,10 +17,6 @@ pub(super) fn text(payload: &[u8]) -> Read<&str> {
     text_of(payload).map(Some)
 }
 
-pub(super) fn list<P>(payload: &[u8]) -> Read<ListView<'_, P>> {
-    Ok(Some(ListView::of(payload)))
-}
-
 // ** the data of kinds: what is not of the form is `Other`, and so is what would not be written as it was
 
 pub(super) mod forms {

@@ -4,6 +4,7 @@
 pub(crate) mod afspec;
 pub(crate) mod attributes;
 pub(crate) mod borrowed;
+pub(crate) mod entries;
 pub(crate) mod message_view;
 pub(crate) mod nest;
 pub(crate) mod payload;
