@@ -5,7 +5,7 @@ from contracts import impls_of
 
 # Of these no value is stored: they are borrowed, are rows of tables, or say why something was refused.
 NOT_STORED = {"CanonError", "Cause", "DecodeError", "Field", "Fields", "Info", "InfoError", "Kind", "KindRow",
-              "Member", "Place", "Plain", "RoomError", "Row", "Size", "Style", "Value"}
+              "Level", "Member", "Place", "Plain", "RoomError", "Row", "Size", "Style", "Value"}
 # `Debug` of these is written by hand: it names the flags.
 FLAG_SETS = {"LinkFlags", "Inet6IfaceFlags"}
 # A new kernel adds to these: attributes and members, names of numbers, fields of records; so they are in

@@ -25,7 +25,6 @@ use crate::link_vf::numbers::{
 
 /// A list of attributes.
 #[derive(Clone, Copy, Debug, PartialEq, Eq, Hash)]
-#[cfg_attr(feature = "serde", derive(serde::Serialize, serde::Deserialize))]
 pub enum Level {
     /// Those of a message whose header has this family.
     Message(AddressFamily),
