@@ -340,6 +340,7 @@ pub(crate) fn tell_leaf<D: Depth>(
 }
 
 /// Adds the change of a value one step further.
+#[inline(always)]
 pub(crate) fn put_step<D: Depth>(
     texts: &mut Texts,
     cx: &Around<'_>,
