@@ -24,8 +24,8 @@ fn read_entry<'a, E: Entry>(frame: NlaBuffer<'a>) -> Result<&'a [u8], DecodeErro
     Ok(payload)
 }
 
-/// Reads a frame of IFLA_VFINFO_LIST or IFLA_VF_PORTS (linux/if_link.h), whose number is given beside it: the payload of
-/// an entry, a list of attributes; `None` where the number is another, which `parse` drops unread. Refuses the empty
+/// Reads a frame of IFLA_VFINFO_LIST or IFLA_VF_PORTS (linux/if_link.h), whose number is given beside it: the payload
+/// of an entry, a list of attributes; `None` where the number is another, which `parse` drops unread. Refuses the empty
 /// payload with `EmptyList`. The attributes are not looked at: `parse` may refuse one.
 #[inline(always)]
 pub fn borrow_entry<'a, E: Entry>(

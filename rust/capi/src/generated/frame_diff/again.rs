@@ -2,7 +2,7 @@
 //! What attributes tell behind which another one of their name stands.
 
 use crate::frame_diff::leaf::{Texts, is_same};
-use crate::frame_diff::list::{behind, comes};
+use crate::frame_diff::list::{behind, comes, is_alike};
 use crate::frame_diff::path::{join, join_place};
 use crate::frame_diff::value::tell_value;
 use crate::frame_diff::walk::{Attribute, Attributes, Pass, Walk};
@@ -109,6 +109,8 @@ fn tell_alone<W: Walk>(
 ) -> Result<(), AllocError> {
     let text = join(texts.alloc, path, own.name)?;
     let there = under_name(own.name, beside);
+    let is_alike = is_alike(pass, own.attribute.number, there);
+    let pass = Pass { is_alike, ..pass };
     tell_value::<W>(texts, pass, page, text.as_str(), own.attribute, there)
 }
 
@@ -121,19 +123,6 @@ fn is_same_again(own: Named<'_>, beside: Option<Named<'_>>) -> bool {
     other.attribute.number == own.attribute.number
         && own.name == other.name
         && is_same(own.attribute.payload, other.attribute.payload)
-}
-
-/// Whether the attribute beside one has its number, if there is one.
-fn is_one_number(own: Named<'_>, beside: Option<Named<'_>>) -> bool {
-    match beside {
-        Some(other) => other.attribute.number == own.attribute.number,
-        None => true,
-    }
-}
-
-/// Whether the attribute beside one is known to have its row, if there is one.
-fn is_row_known(pass: Pass, own: Named<'_>, beside: Option<Named<'_>>) -> bool {
-    pass.is_alike && is_one_number(own, beside)
 }
 
 /// Tells of one of them, beside the one at its place. One that stands there as it is costs a look.
@@ -154,15 +143,7 @@ fn tell_placed<W: Walk>(
         }
     }
     let text = join_place(texts.alloc, path, place)?;
-    let is_alike = is_row_known(pass, own, beside);
-    tell_alone::<W>(
-        texts,
-        Pass { is_alike, ..pass },
-        page,
-        text.as_str(),
-        own,
-        beside,
-    )
+    tell_alone::<W>(texts, pass, page, text.as_str(), own, beside)
 }
 
 /// Tells of one of them, if there is one, beside the one at its place.
@@ -184,7 +165,7 @@ fn tell_again<W: Walk>(
 
 /// Tells of the attributes of a list behind which another one of their name stands, each beside the one at its place
 /// in another list.
-pub fn tell_repeated<W: Walk>(
+pub(crate) fn tell_repeated<W: Walk>(
     texts: &mut Texts,
     pass: Pass,
     page: &mut Page,

@@ -117,7 +117,7 @@ fn moves(list: List, number: u16) -> bool {
 }
 
 /// Whether an attribute is passed over: in a state, where it moves by itself.
-pub fn is_passed(is_state: bool, list: List, number: u16) -> bool {
+pub(crate) fn is_passed(is_state: bool, list: List, number: u16) -> bool {
     is_state && moves(list, number)
 }
 
@@ -161,7 +161,7 @@ fn moving_part(list: List, number: u16) -> Option<Cleared> {
 }
 
 /// The part of the payload of an attribute that is passed over: in a state, what moves by itself.
-pub fn cleared_part(is_state: bool, list: List, number: u16) -> Option<Cleared> {
+pub(crate) fn cleared_part(is_state: bool, list: List, number: u16) -> Option<Cleared> {
     if is_state {
         moving_part(list, number)
     } else {

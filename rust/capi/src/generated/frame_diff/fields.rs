@@ -54,7 +54,7 @@ fn number_rows<'a>(
 }
 
 /// Counters.
-pub fn counter_rows<'a>(
+pub(crate) fn counter_rows<'a>(
     alloc: Global,
     words: Words,
     bytes: &[u8],
@@ -99,7 +99,7 @@ fn push_unless_zero<'a>(
 }
 
 /// The counters of IPv6, and behind them one that no kernel sends.
-pub fn ipv6_rows<'a>(
+pub(crate) fn ipv6_rows<'a>(
     alloc: Global,
     is_since: bool,
     bytes: &[u8],
@@ -165,7 +165,7 @@ fn push_behind<'a>(rows: &mut Vec<Row<'a>>, set: Settings, bytes: &[u8]) -> Resu
 }
 
 /// Settings that are not passed over, and behind those of IPv4 one that no kernel sends.
-pub fn settings_rows<'a>(
+pub(crate) fn settings_rows<'a>(
     alloc: Global,
     set: Settings,
     part: Option<Cleared>,
@@ -190,7 +190,7 @@ fn part_rows<'a>(alloc: Global, parts: &[Part], bytes: &'a [u8]) -> Result<Vec<R
 }
 
 /// The fields of a record.
-pub fn record_rows<'a>(
+pub(crate) fn record_rows<'a>(
     alloc: Global,
     kind: Record,
     bytes: &'a [u8],
@@ -199,7 +199,7 @@ pub fn record_rows<'a>(
 }
 
 /// What a wireless event holds.
-pub fn event_rows<'a>(alloc: Global, payload: &'a [u8]) -> Result<Vec<Row<'a>>, AllocError> {
+pub(crate) fn event_rows<'a>(alloc: Global, payload: &'a [u8]) -> Result<Vec<Row<'a>>, AllocError> {
     let (name, bytes) = event_in(payload);
     let mut rows = Vec::new(alloc);
     rows.push(Row {
@@ -210,7 +210,7 @@ pub fn event_rows<'a>(alloc: Global, payload: &'a [u8]) -> Result<Vec<Row<'a>>, 
 }
 
 /// The members of a record of link data that are not passed over.
-pub fn member_rows<'a>(
+pub(crate) fn member_rows<'a>(
     alloc: Global,
     members: &[Member],
     part: Option<Cleared>,

@@ -233,7 +233,7 @@ fn more_by(entry: Entry<'_>, place: usize) -> usize {
 
 /// Tells of the attributes of a list that are kept, each beside the one at its place in another list, as members of a
 /// list of their own.
-pub fn tell_others(
+pub(crate) fn tell_others(
     texts: &mut Texts,
     pass: Pass,
     page: &mut Page,

@@ -224,42 +224,27 @@ fn put_turned<D: Depth>(
     page.end()
 }
 
-/// Tells of a value that both sides have, where it is shown as another one.
-fn tell_turned<D: Depth>(
+/// Whether nothing is told of a value: it is shown as the one beside it, or what turned is told of the old one.
+fn is_untold<D: Depth>(
     texts: &mut Texts,
     cx: &Around<'_>,
     theirs: &Around<'_>,
-    page: &mut Page,
-    path: &str,
-    was: Value<'_>,
-    is: Value<'_>,
-) -> Result<(), AllocError> {
-    if is_shown_same::<D>(texts, cx, theirs, was, is)? {
-        return Ok(());
-    }
-    put_turned::<D>(cx, theirs, page, path, was, is)
-}
-
-/// Tells of a value that both sides have: what turned is told of the old one.
-fn tell_both<D: Depth>(
-    texts: &mut Texts,
-    cx: &Around<'_>,
-    theirs: &Around<'_>,
-    page: &mut Page,
-    path: &str,
     side: Side,
     own: Value<'_>,
-    other: Value<'_>,
-) -> Result<(), AllocError> {
+    beside: Option<Value<'_>>,
+) -> Result<bool, AllocError> {
+    let other = match beside {
+        Some(other) => other,
+        _ => return Ok(false),
+    };
     match side {
-        Side::Old => tell_turned::<D>(texts, cx, theirs, page, path, own, other),
-        Side::New => Ok(()),
+        Side::Old => is_shown_same::<D>(texts, cx, theirs, own, other),
+        Side::New => Ok(true),
     }
 }
 
-/// Tells of a value beside another one, if there is one: it came or went, or it turned, which is told of the old one.
-pub fn tell_leaf<D: Depth>(
-    texts: &mut Texts,
+/// Adds the change of a value: one that turned, if another one stands beside it.
+fn put<D: Depth>(
     cx: &Around<'_>,
     theirs: &Around<'_>,
     page: &mut Page,
@@ -270,48 +255,31 @@ pub fn tell_leaf<D: Depth>(
 ) -> Result<(), AllocError> {
     match beside {
         None => put_alone::<D>(cx, page, path, side, own),
-        Some(other) => tell_both::<D>(texts, cx, theirs, page, path, side, own, other),
+        Some(other) => put_turned::<D>(cx, theirs, page, path, own, other),
     }
 }
 
-/// Adds the change of a value one step further that turned.
-pub(crate) fn put_step<D: Depth>(
+/// Tells of a value beside another one, if there is one: it came or went, or it turned, which is told of the old one.
+pub(crate) fn tell_leaf<D: Depth>(
     texts: &mut Texts,
     cx: &Around<'_>,
     theirs: &Around<'_>,
     page: &mut Page,
     path: &str,
-    step: &str,
-    was: Value<'_>,
-    is: Value<'_>,
-) -> Result<(), AllocError> {
-    let text = join(texts.alloc, path, step)?;
-    put_turned::<D>(cx, theirs, page, text.as_str(), was, is)
-}
-
-/// Tells of a value one step further that both sides have: what turned is told of the old one.
-fn tell_both_step<D: Depth>(
-    texts: &mut Texts,
-    cx: &Around<'_>,
-    theirs: &Around<'_>,
-    page: &mut Page,
-    path: &str,
-    step: &str,
     side: Side,
     own: Value<'_>,
-    other: Value<'_>,
+    beside: Option<Value<'_>>,
 ) -> Result<(), AllocError> {
-    if side.is_new() {
+    let untold = is_untold::<D>(texts, cx, theirs, side, own, beside)?;
+    if untold {
         return Ok(());
     }
-    if is_shown_same::<D>(texts, cx, theirs, own, other)? {
-        return Ok(());
-    }
-    put_step::<D>(texts, cx, theirs, page, path, step, own, other)
+    put::<D>(cx, theirs, page, path, side, own, beside)
 }
 
-/// Tells of a value one step further beside another one, if there is one.
-pub fn tell_step<D: Depth>(
+/// Adds the change of a value one step further.
+#[inline(always)]
+pub(crate) fn put_step<D: Depth>(
     texts: &mut Texts,
     cx: &Around<'_>,
     theirs: &Around<'_>,
@@ -322,11 +290,24 @@ pub fn tell_step<D: Depth>(
     own: Value<'_>,
     beside: Option<Value<'_>>,
 ) -> Result<(), AllocError> {
-    match beside {
-        None => {
-            let text = join(texts.alloc, path, step)?;
-            put_alone::<D>(cx, page, text.as_str(), side, own)
-        }
-        Some(other) => tell_both_step::<D>(texts, cx, theirs, page, path, step, side, own, other),
+    let text = join(texts.alloc, path, step)?;
+    put::<D>(cx, theirs, page, text.as_str(), side, own, beside)
+}
+
+/// Tells of a value one step further beside another one, if there is one. A path is written where something is told.
+pub(crate) fn tell_step<D: Depth>(
+    texts: &mut Texts,
+    cx: &Around<'_>,
+    theirs: &Around<'_>,
+    page: &mut Page,
+    path: &str,
+    step: &str,
+    side: Side,
+    own: Value<'_>,
+    beside: Option<Value<'_>>,
+) -> Result<(), AllocError> {
+    if is_untold::<D>(texts, cx, theirs, side, own, beside)? {
+        return Ok(());
     }
+    put_step::<D>(texts, cx, theirs, page, path, step, side, own, beside)
 }

@@ -71,7 +71,7 @@ fn has_payload(payload: &[u8], beside: Option<Attribute<'_>>) -> bool {
 }
 
 /// Whether the row of an attribute is known to be that of the one beside it, if there is one.
-fn is_alike(pass: Pass, number: u16, beside: Option<Attribute<'_>>) -> bool {
+pub(crate) fn is_alike(pass: Pass, number: u16, beside: Option<Attribute<'_>>) -> bool {
     match beside {
         Some(other) => pass.is_alike && other.number == number,
         None => true,
@@ -310,7 +310,7 @@ fn is_once(pass: Pass, is_single: bool, others: Attributes<'_>) -> bool {
 
 /// Tells of the attributes of a list that have a name, each beside that of its name in another list. Where the rows of
 /// both are the same and no number stands twice, each is looked for by its number, behind the one before it.
-pub fn tell_named<W: Walk>(
+pub(crate) fn tell_named<W: Walk>(
     texts: &mut Texts,
     pass: Pass,
     page: &mut Page,

@@ -29,7 +29,7 @@ fn tell_again<W: Walk>(
 
 /// Tells of the attributes of a list that is shown as an object, beside those of another one: of each name the last
 /// one, then those behind which another one of their name stands, and those that are kept as they are, by their places.
-pub fn tell_members<W: Walk>(
+pub(crate) fn tell_members<W: Walk>(
     texts: &mut Texts,
     pass: Pass,
     page: &mut Page,

@@ -165,7 +165,7 @@ fn tell_refused(
 
 /// Tells of a message, or of a state, beside another one: in the old one of what went or turned, in the new one of what
 /// came.
-pub fn tell_side(
+pub(crate) fn tell_side(
     texts: &mut Texts,
     pass: Pass,
     cx: &Around<'_>,
@@ -199,7 +199,7 @@ fn is_same_order(one: Order, other: Order) -> bool {
 
 /// Tells of all that differs between two messages, or between two states: of each path once, first of what went or
 /// turned, in the order of the old one, and then of what came. The counters of IPv6 have an order of their own in each.
-pub fn tell_messages(
+pub(crate) fn tell_messages(
     texts: &mut Texts,
     is_state: bool,
     cx: &Around<'_>,

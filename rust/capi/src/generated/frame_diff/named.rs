@@ -5,7 +5,7 @@ use crate::frame_shown::form::{Around, List, name_in};
 use crate::nla_wire::{NlaBuffer, NlasIterator};
 
 /// Whether an attribute is told under this name.
-pub fn is_named(cx: &Around<'_>, list: List, name: &str, frame: &NlaBuffer<'_>) -> bool {
+pub(crate) fn is_named(cx: &Around<'_>, list: List, name: &str, frame: &NlaBuffer<'_>) -> bool {
     match name_in(cx, list, frame.kind(), frame.value()) {
         Some(own) => own == name,
         None => false,
@@ -28,7 +28,7 @@ fn find_last<'a>(cx: &Around<'_>, list: List, name: &str, bytes: &'a [u8]) -> Op
 }
 
 /// The attribute that is the member with this name, whatever the lists in it are shown as.
-pub fn find_named<'a>(
+pub(crate) fn find_named<'a>(
     cx: &Around<'_>,
     list: List,
     name: &str,

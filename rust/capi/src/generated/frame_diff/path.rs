@@ -6,7 +6,7 @@ use crate::rattle::itoa::Buffer;
 use crate::rattle::alloc::{AllocError, Global};
 
 /// The text of a path that goes one step on: the step stands behind a point, where it is not the first one.
-pub fn join(alloc: Global, text: &str, step: &str) -> Result<String, AllocError> {
+pub(crate) fn join(alloc: Global, text: &str, step: &str) -> Result<String, AllocError> {
     let mut path = String::with_capacity(alloc, text.len() + step.len() + 1)?;
     if !text.is_empty() {
         path.push_str(text)?;
@@ -17,7 +17,7 @@ pub fn join(alloc: Global, text: &str, step: &str) -> Result<String, AllocError>
 }
 
 /// The text of a path that goes on at a place of a list.
-pub fn join_place(alloc: Global, text: &str, place: usize) -> Result<String, AllocError> {
+pub(crate) fn join_place(alloc: Global, text: &str, place: usize) -> Result<String, AllocError> {
     let mut digits = Buffer::new();
     join(alloc, text, digits.format(place))
 }

@@ -150,7 +150,7 @@ fn way_holds<'a>(
 }
 
 /// What an attribute holds.
-pub fn held_in<'a>(
+pub(crate) fn held_in<'a>(
     alloc: Global,
     is_state: bool,
     own: Attribute<'a>,
@@ -274,8 +274,9 @@ fn tell_pair(
         page,
         path,
         own.name,
+        Side::Old,
         own.value,
-        other.value,
+        Some(other.value),
     )
 }
 
@@ -354,7 +355,7 @@ fn tell_each(
 }
 
 /// Tells of the fields of a record beside those of another one.
-pub fn tell_rows(
+pub(crate) fn tell_rows(
     texts: &mut Texts,
     cx: &Around<'_>,
     theirs: &Around<'_>,

@@ -193,7 +193,7 @@ fn tell_held<W: Walk>(
 }
 
 /// Tells of an attribute beside another one, if there is one.
-pub fn tell_value<W: Walk>(
+pub(crate) fn tell_value<W: Walk>(
     texts: &mut Texts,
     pass: Pass,
     page: &mut Page,

@@ -46,7 +46,7 @@ pub struct Attribute<'a> {
 }
 
 /// How deep lists of attributes are gone through.
-pub trait Walk: Depth {
+pub(crate) trait Walk: Depth {
     /// Whether a list holds no member at all, so that it is a value.
     fn is_bare(own: Attributes<'_>) -> bool;
 

@@ -50,19 +50,23 @@ pub fn accepted(
     Ok(out)
 }
 
-/// The attributes that are refused of a message of this family, spelled one after the other.
-pub fn refused(alloc: Global, bytes: &[u8], family: u8) -> Result<Vec<u8>, AllocError> {
-    let mut out = Vec::new(alloc);
+/// The attributes that are accepted of a message of this family, and those that are refused, each spelled one after the
+/// other.
+pub fn parted(alloc: Global, bytes: &[u8], family: u8) -> Result<(Vec<u8>, Vec<u8>), AllocError> {
+    let mut accepted = Vec::new(alloc);
+    let mut refused = Vec::new(alloc);
     for item in NlasIterator::new(bytes) {
         let frame = match item {
             Ok(frame) => frame,
             _ => break,
         };
-        if !is_accepted(&frame, family) {
-            push_frame(&mut out, &frame)?;
+        if is_accepted(&frame, family) {
+            push_frame(&mut accepted, &frame)?;
+        } else {
+            push_frame(&mut refused, &frame)?;
         }
     }
-    Ok(out)
+    Ok((accepted, refused))
 }
 
 /// Whether bytes are frames that fit.

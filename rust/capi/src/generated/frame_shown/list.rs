@@ -6,7 +6,7 @@ use crate::frame_shown::form::{
     Around, Form, Group, List, Manner, NUMBERS, Way, found_in, is_kept_by, kind_shown,
 };
 use crate::frame_shown::kept::show_kept;
-use crate::frame_shown::value::{number_at, show_form, show_style};
+use crate::frame_shown::value::{number_at, show_form, show_style, show_text};
 use crate::link_info::{Member, Place, Style};
 use crate::nla_wire::{NlaBuffer, NlasIterator};
 use crate::shown::{Nest, Page};
@@ -27,7 +27,7 @@ pub fn show_way<D: Depth>(
     }
 }
 
-/// Adds a value by a form: most are numbers.
+/// Adds a value by a form: most are numbers, and most of a long list are texts.
 #[inline(always)]
 fn show_own<D: Depth>(
     cx: &Around<'_>,
@@ -38,6 +38,7 @@ fn show_own<D: Depth>(
 ) -> Result<(), AllocError> {
     match *form {
         Form::Number(size) => page.keyed_number(name, number_at(size, payload, 0)),
+        Form::Text => show_text(page, name, payload),
         _ => show_form::<D>(cx, page, name, form, payload),
     }
 }

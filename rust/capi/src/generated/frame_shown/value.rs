@@ -481,7 +481,7 @@ fn without_last_nul(bytes: &[u8]) -> &[u8] {
 
 /// Adds a text, or the digits of bytes that are none.
 #[inline(always)]
-fn show_text(page: &mut Page, name: &str, payload: &[u8]) -> Result<(), AllocError> {
+pub(crate) fn show_text(page: &mut Page, name: &str, payload: &[u8]) -> Result<(), AllocError> {
     match str::from_utf8(without_last_nul(payload)) {
         Ok(text) => page.keyed_string(name, text),
         Err(_) => page.hex(name, payload),

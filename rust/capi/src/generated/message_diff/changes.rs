@@ -5,7 +5,7 @@ use crate::rattle::prelude::Vec;
 use crate::message_diff::snapshot::{Compared, Snapshot};
 use crate::frame_diff::leaf::Texts;
 use crate::frame_diff::message::{Message, tell};
-use crate::frame_shown::accepted::{accepted, refused};
+use crate::frame_shown::accepted::parted;
 use crate::frame_shown::message::rest_of;
 use crate::nla_wire::fields::u8_at;
 use crate::shown::{Nest, Page};
@@ -22,8 +22,7 @@ impl<'a> Split<'a> {
     /// The attributes of an encoding, apart.
     fn of(alloc: Global, text: &'a [u8]) -> Result<Split<'a>, AllocError> {
         let family = u8_at(text, 0);
-        let accepted = accepted(alloc, rest_of(text), family, true)?;
-        let refused = refused(alloc, rest_of(text), family)?;
+        let (accepted, refused) = parted(alloc, rest_of(text), family)?;
         Ok(Split {
             text,
             accepted,

@@ -86,9 +86,14 @@ fn byte_at(text: &[u8], at: usize) -> u8 {
 }
 
 /// The number of the character at a place of a text, where it shows nothing or turns what stands beside it; else 0.
+/// No byte below DEL is one, or begins one.
 #[inline(always)]
 fn unseen_at(text: &[u8], at: usize) -> u16 {
-    unseen(text[at], byte_at(text, at + 1), byte_at(text, at + 2))
+    let first = text[at];
+    if first < 0x7f {
+        return 0;
+    }
+    unseen(first, byte_at(text, at + 1), byte_at(text, at + 2))
 }
 
 /// What stands for such a character, or for a byte where there is none, at the front of six bytes, and its length.

@@ -291,9 +291,9 @@ fn add_escaped(
     comma: bool,
     text: &[u8],
 ) -> Result<usize, AllocError> {
-    let start = add_bytes(bytes, len, comma, b"\"")?;
+    let start = add_byte(bytes, len, comma, b'"')?;
     let end = add_escapes(bytes, start, text)?;
-    add_bytes(bytes, end, false, b"\"")
+    add_byte(bytes, end, false, b'"')
 }
 
 /// Adds a name that may need an escape, and a colon.
@@ -323,7 +323,7 @@ pub(crate) fn add_name(
     }
 }
 
-/// Adds a string.
+/// Adds a string, with the escapes that it needs.
 #[inline(always)]
 pub(crate) fn add_string(
     bytes: &mut Vec<u8>,
@@ -331,12 +331,7 @@ pub(crate) fn add_string(
     comma: bool,
     text: &str,
 ) -> Result<usize, AllocError> {
-    let plain = text.as_bytes();
-    reserve(bytes, len, plain.len() + 3)?;
-    match put_quoted(bytes.as_mut_slice(), len, comma, plain) {
-        Some(end) => Ok(end),
-        None => add_escaped(bytes, len, comma, plain),
-    }
+    add_escaped(bytes, len, comma, text.as_bytes())
 }
 
 /// Adds a number.
