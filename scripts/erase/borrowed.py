@@ -18,7 +18,7 @@ VIEW = os.path.join(keys.CRATES, "link_view")
 SAID = "made by scripts/erase/borrowed.py of the rows of"
 # How the value of an attribute is read that is no list: what the arm does with its payload.
 READ = {"Bytes": "Ok({variant}(payload))", "DefaultNla": "Ok({variant}(frame))",
-        "Text": "borrow!({variant}, text_of(payload))", "WirelessEvent": "borrow!({variant}, event_of(payload))",
+        "Text": "borrow!({variant}, borrow_string(payload))", "WirelessEvent": "borrow!({variant}, event_of(payload))",
         "bool": "borrow!({variant}, n => n != 0, parse_u8(payload))",
         "List<LinkExtentMask>": "borrow!({variant}, parse_u32(payload))",
         "Ipv6Addr": "borrow!({variant}, parse_ipv6_addr(payload))",
@@ -112,13 +112,13 @@ ghost use Rattle.link_msg.specs.Tables.{{attribute_place, proto_info, af_spec}};
 ghost use Rattle.link_view.specs.Told.{{told}};
 ghost use Rattle.link_view.specs.Borrowed.{{owned}};
 
-use crate::payload::{{WirelessEventView, borrow, event_of, some, text_of}};
+use crate::payload::{{WirelessEventView, borrow, event_of, some}};
 use link_msg::numbers::*;
 use link_msg::{{
     AddressFamily, LinkEvent, LinkMode, LinkPhysId, Map, State, Stats, Stats64, parse_i32,
     parse_u8, parse_u16, parse_u32,
 }};
-use nla_wire::{{DecodeError, NlaBuffer, empty_list}};
+use nla_wire::{{DecodeError, NlaBuffer, borrow_string, empty_list}};
 
 /// An attribute over borrowed bytes: a variant for each of `LinkAttribute`, with its value. That of a list is its
 /// payload, and that of an extent mask the number.
@@ -368,9 +368,9 @@ def members(crate):
     made = "".join(member(crate, enum, said, rows) for _, enum, said, rows in inner(crate))
     enums = [enum for _, enum, *_ in inner(crate)]
     held = sorted({row[2] for _, _, _, rows in inner(crate) for row in rows} - set(HELD) - keys.NUMBERS)
-    own = names_in(made, ["attached_of", "binding_of", "borrow", "flags_of", "mode_of", "some", "text_of"])
-    wire = names_in(made, ["DecodeError", "NlaBuffer", "NlasIterator", "PlainRecord", "Record", "empty_list",
-                           "parse_i32", "parse_ipv6_addr", "parse_u8", "parse_u32", "parse_u64"])
+    own = names_in(made, ["attached_of", "binding_of", "borrow", "flags_of", "mode_of", "some"])
+    wire = names_in(made, ["DecodeError", "NlaBuffer", "NlasIterator", "PlainRecord", "Record", "borrow_string",
+                           "empty_list", "parse_i32", "parse_ipv6_addr", "parse_u8", "parse_u32", "parse_u64"])
     wire += ["empty_list"] * ("some!" in made) + ["Record"] * ("::parse(payload)" in made)
     wire += ["PlainRecord"] * ("read_padded" in made)
     recs = [one for one in held if one in ("InetDevConf", "Inet6CacheInfo", "Inet6DevConf", "Inet6Stats", "Icmp6Stats")]

@@ -10,7 +10,6 @@ ghost use Rattle.link_info.specs.Styles.{plain_size, width};
 ghost use Rattle.link_info.specs.Tables.{frames_in};
 ghost use Rattle.shown.specs.Drafts.{with_members, with_value, object_of};
 ghost use Rattle.shown.specs.Keys.{AreKeys, IsKey};
-ghost use Rattle.nla_wire.specs.Payloads.{IsTextOf};
 ghost use Rattle.shown.specs.Values.{flags_of};
 ghost use Rattle.frame_shown.specs.declared.form.Choice.TheVariants as Choices;
 ghost use Rattle.frame_shown.specs.Values.{number_shown, plain_shown, plain_in, spelled, hexadecimal, listed};
@@ -33,11 +32,10 @@ use crate::tables::{
 use link_info::read::read;
 use link_info::{Member, Place, Plain, Size, Style, Value};
 use link_nest::numbers::{IWEVASSOCREQIE, IWEVASSOCRESPIE};
-use nla_wire::NlasIterator;
 use nla_wire::fields::{be16_at, bytes_32_at, i32_at, u8_at, u16_at, u32_at, u64_at};
+use nla_wire::{NlasIterator, borrow_string};
 use shown::{Nest, Page};
 use std::alloc::AllocError;
-use std::str;
 
 /// Adds a number, by how it is spelled.
 fn show_number(page: &mut Page, name: &str, plain: Plain, number: u64) -> Result<(), AllocError>
@@ -623,17 +621,6 @@ fn show_bits(page: &mut Page, name: &str, bits: Bits, number: u32) -> Result<(),
     }
 }
 
-/// The bytes without one NUL at their end, if they have one.
-#[inline(always)]
-fn without_last_nul(bytes: &[u8]) -> &[u8]
-    ensures { IsTextOf bytes.now result.now }
-{
-    match bytes {
-        [front @ .., 0] => front,
-        _ => bytes,
-    }
-}
-
 /// Adds a text, or the digits of bytes that are none.
 #[inline(always)]
 pub(crate) fn show_text(page: &mut Page, name: &str, payload: &[u8]) -> Result<(), AllocError>
@@ -641,19 +628,20 @@ pub(crate) fn show_text(page: &mut Page, name: &str, payload: &[u8]) -> Result<(
     ensures { OnOk result
         (page.new ≡ with_value name.now (text_shown (read_as S.Text payload.now)) page.old) }
 {
-    match str::from_utf8(without_last_nul(payload)) {
+    match borrow_string(payload) {
         Ok(text) => page.keyed_string(name, text),
         Err(_) => page.hex(name, payload),
     }
 }
 
 /// The text that a payload is.
-fn text_of(payload: &[u8]) -> Option<&str>
+#[inline(always)]
+pub fn text_of(payload: &[u8]) -> Option<&str>
     ensures { option_map (λ text. text.now) result ≡ text_in payload.now }
 {
-    match read(Style::Text, payload) {
-        Value::Text(text) => Some(text),
-        _ => None,
+    match borrow_string(payload) {
+        Ok(text) => Some(text),
+        Err(_) => None,
     }
 }
 

@@ -1,7 +1,7 @@
 //! Payloads read by their style.
 
 ghost use Rattle.std.specs.Prelude.{◌≡◌, ◌<◌, ◌==◌, length};
-ghost use Rattle.nla_wire.specs.Payloads.{address_of_octets, IsTextOf};
+ghost use Rattle.nla_wire.specs.Payloads.{address_of_octets};
 ghost use Rattle.nla_wire.specs.Items.{items};
 ghost use Rattle.link_info.specs.Styles.{form, plain_size, record_size, is_multiple, are_frames, are_frames_of};
 ghost use Rattle.link_info.specs.Meanings.{meaning, plain_meaning, plain_of, text_meaning, read_as, ValueFits};
@@ -9,9 +9,8 @@ ghost use Rattle.link_info.specs.Meanings.{meaning, plain_meaning, plain_of, tex
 use crate::number::{host_number, network_number, signed_number};
 use crate::style::{Member, Plain, Style};
 use crate::value::Value;
-use nla_wire::NlasIterator;
+use nla_wire::{NlasIterator, borrow_string};
 use std::net::{Ipv4Addr, Ipv6Addr};
-use std::str;
 
 /// Reads a hardware address.
 fn mac(bytes: &[u8]) -> [u8; 6]
@@ -110,21 +109,11 @@ pub(crate) fn are_elements(bytes: &[u8], size: usize) -> bool
     true
 }
 
-/// The bytes without one NUL at their end, if they have one.
-fn without_last_nul(bytes: &[u8]) -> &[u8]
-    ensures { IsTextOf bytes.now result.now }
-{
-    match bytes {
-        [front @ .., 0] => front,
-        _ => bytes,
-    }
-}
-
 /// Reads a text, or keeps the bytes that are none.
 fn read_text(bytes: &[u8]) -> Value<'_>
     ensures { meaning result ≡ text_meaning bytes.now }
 {
-    match str::from_utf8(without_last_nul(bytes)) {
+    match borrow_string(bytes) {
         Ok(text) => Value::Text(text),
         Err(_) => Value::Bytes(bytes),
     }

@@ -11,12 +11,12 @@ ghost use Rattle.link_view.specs.Search.{IsFound};
 ghost use Rattle.link_view.specs.Told.{told, told_found, read_found, IsNext};
 
 use crate::message_view::last_in;
-use crate::payload::{attached_of, borrow, text_of, within};
+use crate::payload::{attached_of, borrow, within};
 use crate::sought::{Sought, frame_of};
 use link_nest::numbers::*;
 use link_nest::{DevlinkPort, DpllPin, LinkInfo, LinkProtocolDownReason, LinkXdp, Prop};
 use link_vals::XdpAttached;
-use nla_wire::{DecodeError, NlaBuffer, NlasIterator, parse_i32, parse_u32};
+use nla_wire::{DecodeError, NlaBuffer, NlasIterator, borrow_string, parse_i32, parse_u32};
 
 /// A member of IFLA_DEVLINK_PORT over borrowed bytes: a variant for each of `DevlinkPort`.
 #[derive(Drop)]
@@ -38,8 +38,8 @@ impl<'a> BorrowedDevlinkPort<'a> {
     {
         let payload = frame.value();
         match kind {
-            DEVLINK_ATTR_BUS_NAME => borrow!(BorrowedDevlinkPort::BusName, text_of(payload)),
-            DEVLINK_ATTR_DEV_NAME => borrow!(BorrowedDevlinkPort::DevName, text_of(payload)),
+            DEVLINK_ATTR_BUS_NAME => borrow!(BorrowedDevlinkPort::BusName, borrow_string(payload)),
+            DEVLINK_ATTR_DEV_NAME => borrow!(BorrowedDevlinkPort::DevName, borrow_string(payload)),
             DEVLINK_ATTR_PORT_INDEX => borrow!(BorrowedDevlinkPort::PortIndex, parse_u32(payload)),
             _ => Ok(BorrowedDevlinkPort::Other(frame)),
         }
@@ -98,7 +98,8 @@ impl<'a> BorrowedDevlinkPort<'a> {
     /// The next member of a list, front to back; `None` after the last.
     #[inline(always)]
     pub fn next(left: &mut NlasIterator<'a>) -> Option<Result<BorrowedDevlinkPort<'a>, DecodeError>>
-        ensures { IsNext owned_devlink_port devlink_port_place.grammar.reads left.old result left.new }
+        ensures { IsNext owned_devlink_port devlink_port_place.grammar.reads
+            left.old result left.new }
     {
         match left.next() {
             Some(Ok(frame)) => {
@@ -206,7 +207,8 @@ impl<'a> BorrowedLinkProtocolDownReason<'a> {
     pub fn next(
         left: &mut NlasIterator<'a>,
     ) -> Option<Result<BorrowedLinkProtocolDownReason<'a>, DecodeError>>
-        ensures { IsNext owned_link_protocol_down_reason down_reason_place.grammar.reads left.old result left.new }
+        ensures { IsNext owned_link_protocol_down_reason down_reason_place.grammar.reads
+            left.old result left.new }
     {
         match left.next() {
             Some(Ok(frame)) => {
@@ -292,7 +294,8 @@ impl<'a> BorrowedDpllPin<'a> {
     /// The next member of a list, front to back; `None` after the last.
     #[inline(always)]
     pub fn next(left: &mut NlasIterator<'a>) -> Option<Result<BorrowedDpllPin<'a>, DecodeError>>
-        ensures { IsNext owned_dpll_pin dpll_pin_place.grammar.reads left.old result left.new }
+        ensures { IsNext owned_dpll_pin dpll_pin_place.grammar.reads
+            left.old result left.new }
     {
         match left.next() {
             Some(Ok(frame)) => {
@@ -323,7 +326,7 @@ impl<'a> BorrowedLinkInfo<'a> {
     {
         let payload = frame.value();
         match kind {
-            IFLA_INFO_KIND => borrow!(BorrowedLinkInfo::Kind, text_of(payload)),
+            IFLA_INFO_KIND => borrow!(BorrowedLinkInfo::Kind, borrow_string(payload)),
             _ => Ok(BorrowedLinkInfo::Other(frame)),
         }
     }
@@ -381,7 +384,8 @@ impl<'a> BorrowedLinkInfo<'a> {
     /// The next member of a list, front to back; `None` after the last.
     #[inline(always)]
     pub fn next(left: &mut NlasIterator<'a>) -> Option<Result<BorrowedLinkInfo<'a>, DecodeError>>
-        ensures { IsNext owned_link_info link_info_place.grammar.reads left.old result left.new }
+        ensures { IsNext owned_link_info link_info_place.grammar.reads
+            left.old result left.new }
     {
         match left.next() {
             Some(Ok(frame)) => {
@@ -412,7 +416,7 @@ impl<'a> BorrowedProp<'a> {
     {
         let payload = frame.value();
         match kind {
-            IFLA_ALT_IFNAME => borrow!(BorrowedProp::AltIfName, text_of(payload)),
+            IFLA_ALT_IFNAME => borrow!(BorrowedProp::AltIfName, borrow_string(payload)),
             _ => Ok(BorrowedProp::Other(frame)),
         }
     }
@@ -467,7 +471,8 @@ impl<'a> BorrowedProp<'a> {
     /// The next member of a list, front to back; `None` after the last.
     #[inline(always)]
     pub fn next(left: &mut NlasIterator<'a>) -> Option<Result<BorrowedProp<'a>, DecodeError>>
-        ensures { IsNext owned_prop prop_place.grammar.reads left.old result left.new }
+        ensures { IsNext owned_prop prop_place.grammar.reads
+            left.old result left.new }
     {
         match left.next() {
             Some(Ok(frame)) => {
@@ -567,7 +572,8 @@ impl<'a> BorrowedLinkXdp<'a> {
     /// The next member of a list, front to back; `None` after the last.
     #[inline(always)]
     pub fn next(left: &mut NlasIterator<'a>) -> Option<Result<BorrowedLinkXdp<'a>, DecodeError>>
-        ensures { IsNext owned_link_xdp xdp_place.grammar.reads left.old result left.new }
+        ensures { IsNext owned_link_xdp xdp_place.grammar.reads
+            left.old result left.new }
     {
         match left.next() {
             Some(Ok(frame)) => {

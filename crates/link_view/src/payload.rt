@@ -1,7 +1,6 @@
-//! Payloads over borrowed bytes: texts and wireless events.
+//! Payloads over borrowed bytes.
 
 ghost use Rattle.std.specs.Prelude.{◌≡◌, Ok, Err, MatchResult};
-ghost use Rattle.nla_wire.specs.Payloads.{text, IsTextOf};
 ghost use Rattle.nla_wire.specs.Gives.{without_place};
 ghost use Rattle.link_afspec.specs.Tables.{iface_flags, addr_gen_mode, phys_binding};
 ghost use Rattle.link_nest.specs.Tables.{xdp_attached};
@@ -11,8 +10,7 @@ ghost use Rattle.link_view.specs.Events.{owned_event};
 use link_nest::numbers::{IWEVASSOCREQIE, IWEVASSOCRESPIE};
 use link_vals::{In6AddrGenMode, Inet6IfaceFlags, MctpPhysBinding, XdpAttached};
 use nla_wire::fields::{too_short, u16_at};
-use nla_wire::{Cause, DecodeError, NlaRead, PAYLOAD, parse_u8, parse_u32};
-use std::str;
+use nla_wire::{DecodeError, NlaRead, parse_u8, parse_u32};
 
 /// The bytes of a wireless event's header.
 const EVENT_HEADER_LEN: usize = 8;
@@ -57,28 +55,6 @@ pub(crate) fn within<N: NlaRead>(fault: DecodeError, number: u16) -> DecodeError
     ensures { result.cause ≡ fault.cause }
 {
     fault.within(N::kind_name(number))
-}
-
-/// The bytes without one NUL at their end, if they have one.
-fn without_nul(bytes: &[u8]) -> &[u8]
-    ensures { IsTextOf bytes.now result.now }
-{
-    match bytes {
-        [front @ .., 0] => front,
-        _ => bytes,
-    }
-}
-
-/// The text that a payload is, or `NotUtf8`.
-#[inline]
-pub fn text_of(payload: &[u8]) -> Result<&str, DecodeError>
-    ensures { MatchResult result (λ s. text.reads payload.now ≡ Ok s.now)
-        (λ e. text.reads payload.now ≡ Err e.cause) }
-{
-    match str::from_utf8(without_nul(payload)) {
-        Ok(text) => Ok(text),
-        Err(_) => Err(DecodeError::new(PAYLOAD, Cause::NotUtf8)),
-    }
 }
 
 /// Where a program is attached, one byte.

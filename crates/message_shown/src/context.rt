@@ -1,15 +1,14 @@
 //! What lines are shown by, beside themselves.
 
-ghost use Rattle.std.specs.Prelude.{◌≡◌, map, option_map};
+ghost use Rattle.std.specs.Prelude.{◌≡◌, map};
 ghost use Rattle.link_info.specs.Lent.{member_now};
 ghost use Rattle.link_info.specs.Values.{can_counters};
-ghost use Rattle.message_shown.specs.Contexts.{text_in};
 
 use frame_shown::form::Around;
 pub use frame_shown::form::Order;
-use link_info::read::read;
+pub use frame_shown::value::text_of;
+use link_info::Tables;
 use link_info::tables::can::CAN_STATS;
-use link_info::{Style, Tables, Value};
 use std::alloc::Global;
 
 /// What lines are shown by, beside themselves: tables, and the order of the counters of IPv6.
@@ -19,16 +18,6 @@ pub struct Context<'a> {
     pub alloc: Global,
     /// What frames are shown by.
     pub around: Around<'a>,
-}
-
-/// The text that a payload is.
-pub fn text_of(payload: &[u8]) -> Option<&str>
-    ensures { option_map (λ text. text.now) result ≡ text_in payload.now }
-{
-    match read(Style::Text, payload) {
-        Value::Text(text) => Some(text),
-        _ => None,
-    }
 }
 
 impl<'a> Context<'a> {

@@ -1,6 +1,7 @@
 //! Texts as payloads: UTF-8, which may end in one NUL.
 
 ghost use Rattle.std.specs.Prelude.{◌≡◌, ◌≢◌, ◌⊎◌, ◌<◌, ◌≤◌, ◌↔◌, List, ℕ, IfOk, IfErr, IsTrue, IsUtf8, MatchOption};
+ghost use Rattle.std.specs.Prelude.{MatchResult, Ok, Err};
 ghost use Rattle.std.specs.Prelude.{◌+◌, length, take};
 ghost use Rattle.std.specs.List.{AllByRecursion};
 ghost use Rattle.nla_wire.specs.Payloads.{text, AreAscii, IsTextOf};
@@ -145,6 +146,18 @@ pub fn parse_string(alloc: Global, bytes: &[u8]) -> Result<Text, DecodeError>
 {
     match utf8(without_nul(bytes)) {
         Some(text) => Text::from_str(alloc, text),
+        None => Err(not_utf8()),
+    }
+}
+
+/// The text that a payload is, in place: what `parse_string` reads, with no memory taken; else `NotUtf8`.
+#[inline(always)]
+pub fn borrow_string(bytes: &[u8]) -> Result<&str, DecodeError>
+    ensures { MatchResult result (λ s. text.reads bytes.now ≡ Ok s.now)
+        (λ e. text.reads bytes.now ≡ Err e.cause) }
+{
+    match utf8(without_nul(bytes)) {
+        Some(text) => Ok(text),
         None => Err(not_utf8()),
     }
 }

@@ -12,7 +12,7 @@ use Rattle.json.proofs.Printed.Strings.{escape_byte_plain}
 use Rattle.shown.specs.Escapes.{AddsEscaped, Escaped, PlainBetween, may_escape}
 use Rattle.shown.specs.Print.{bytes_behind, escape, escape_byte, escape_first, escape_from, unseen, unseen_in}
 use Rattle.shown.specs.Sheets.{Adds, Keeps}
-use Rattle.shown.proofs.Pieces.{adds_behind, placed_keeps}
+use Rattle.shown.proofs.Pieces.{adds_behind, placed_added, placed_keeps}
 
 -- ** one character
 
@@ -177,7 +177,7 @@ pub escaped_added : {a b c text : List ℕ} {len end from to : ℕ} → Keeps a 
     → end ≤ length c → AddsEscaped a c len end text from to
 escaped_added kept e within = record {
   piece = e.piece;
-  adds = record { bytes = e.placed.bytes ∙ ap (λ l. l ++ e.piece) kept.0; within = within };
+  adds = placed_added kept e.placed within;
   is = e.is;
 }
 
@@ -193,13 +193,22 @@ added_then {text = text} {to = to} p q = record {
   is = p.is ∙ ap (λ l. p.piece ++ l) q.is ∙ sym (append_assoc p.piece q.piece (escape (drop to text)));
 }
 
+whole : (text piece : List ℕ) (to : ℕ) → length text ≤ to → escape (drop 0 text) ≡ piece ++ escape (drop to text)
+    → escape text ≡ piece
+unfolding escape_from
+whole text piece to within is =
+    is ∙ ap (λ l. piece ++ escape l) (drop_all to text within) ∙ append-nil piece
+
 -- the whole text
 pub all_added : {a b : List ℕ} {len end to : ℕ} (text : List ℕ) → length text ≤ to
     → AddsEscaped a b len end text 0 to → Adds a b len (escape text) end
-unfolding escape_from
 all_added {a} {b} {len} {end} {to} text within h =
-    subst (λ (piece : List ℕ). Adds a b len piece end)
-    (sym (h.is ∙ ap (λ l. h.piece ++ escape l) (drop_all to text within) ∙ append-nil h.piece)) h.adds
+    subst (λ (piece : List ℕ). Adds a b len piece end) (sym (whole text h.piece to within h.is)) h.adds
+
+pub all_stored : {a b : List ℕ} {at end to : ℕ} (text : List ℕ) → length text ≤ to
+    → Escaped a b at end text 0 to → Placed a b at (escape text) end
+all_stored {a} {b} {at} {end} {to} text within h =
+    subst (λ (piece : List ℕ). Placed a b at piece end) (sym (whole text h.piece to within h.is)) h.placed
 
 pub escape_on_plain : (b : Bool) (text : List ℕ) → OnTrue b (PlainBetween text 0 (length text))
     → OnTrue b (escape text ≡ text)

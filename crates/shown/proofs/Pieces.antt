@@ -1,6 +1,6 @@
 -- Pieces that were stored one after another.
-use Rattle.std.proofs.Common.{◌≡◌, ℕ, ◌+◌, ◌/◌, ◌%◌, ◌<◌, ◌≤◌, Bool, List, [], ◌∷◌, ◌++◌, length, take, ap, sym}
-use Rattle.std.proofs.Common.{◌∙◌, arith}
+use Rattle.std.proofs.Common.{◌≡◌, ℕ, ◌+◌, ◌/◌, ◌%◌, ◌<◌, ◌≤◌, Bool, true, false, List, [], ◌∷◌, ◌++◌, ◌∙◌}
+use Rattle.std.proofs.Common.{length, take, ap, sym, arith}
 use Rattle.std.proofs.Common.{append_assoc, append-nil, length-append, length-take-le, take-take, subst}
 use Rattle.std.proofs.lemmas.List.{take_at}
 use Rattle.std.specs.Prelude.{Result, Ok, Err, decimal}
@@ -24,13 +24,27 @@ pub digit_behind : (n : ℕ) (a b c : List ℕ) (at middle end : ℕ) → 10 ≤
 digit_behind n a b c at middle end two few p q =
     subst (λ xs. Placed a c at xs end) (sym (decimal_step n two (omega (arith, few)))) (Placed-then p q)
 
--- a comma where one is due, a quote, a text that needs no escape, and a quote
-pub quoted_placed : {a b c d : List ℕ} {i j k l : ℕ} (comma : Bool) (text : List ℕ) → escape text ≡ text
-    → Placed a b i (comma_if comma ++ 34 ∷ []) j → Placed b c j text k → Placed c d k (34 ∷ []) l
+-- a comma where one is due, a quote, a text with its escapes, and a quote
+pub quoted_placed : {a b c d : List ℕ} {i j k l : ℕ} (comma : Bool) (text : List ℕ)
+    → Placed a b i (comma_if comma ++ 34 ∷ []) j → Placed b c j (escape text) k → Placed c d k (34 ∷ []) l
     → Placed a d i (comma_if comma ++ quoted text) l
-quoted_placed {a} {b} {c} {d} {i} {j} {k} {l} comma text plain p q r =
-    let all = Placed-then p (Placed-then q r) in
-    rw plain (subst (λ xs. Placed a d i xs l) (append_assoc (comma_if comma) (34 ∷ []) (text ++ 34 ∷ [])) all)
+quoted_placed {a} {b} {c} {d} {i} {j} {k} {l} comma text p q r =
+    subst (λ xs. Placed a d i xs l) (append_assoc (comma_if comma) (34 ∷ []) (escape text ++ 34 ∷ []))
+    (Placed-then p (Placed-then q r))
+
+pub plain_placed : {a b text : List ℕ} {at end : ℕ} → escape text ≡ text → Placed a b at text end
+    → Placed a b at (escape text) end
+plain_placed {a} {b} {text} {at} {end} plain p = subst (λ s. Placed a b at s end) (sym plain) p
+
+pub quote_short : (comma : Bool) → length (comma_if comma ++ 34 ∷ []) ≤ 2
+quote_short true = omega arith
+quote_short false = omega arith
+
+-- what was placed behind the first bytes of a buffer, which are kept, was added
+pub placed_added : {a b c piece : List ℕ} {len end : ℕ} → Keeps a b len → Placed b c len piece end → end ≤ length c
+    → Adds a c len piece end
+placed_added {piece = piece} kept p within =
+    record { bytes = p.bytes ∙ ap (λ l. l ++ piece) kept.0; within = within }
 
 -- the text of a token alone
 pub token_alone : (t : Token) → print (t ∷ []) ≡ token_text t

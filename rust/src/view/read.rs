@@ -2,8 +2,7 @@
 
 use super::{ListView, Place};
 use crate::link_view::LinkView;
-use crate::link_view::payload::text_of;
-use crate::nla_wire::{NLA_HEADER_SIZE, NlasIterator, padded_len};
+use crate::nla_wire::{NLA_HEADER_SIZE, NlasIterator, borrow_string, padded_len};
 use crate::typed::parts::Part;
 use crate::{DecodeError, LinkMessage};
 use core::fmt;
@@ -14,7 +13,7 @@ use core::mem::size_of;
 type Read<T> = Result<Option<T>, DecodeError>;
 
 pub(super) fn text(payload: &[u8]) -> Read<&str> {
-    text_of(payload).map(Some)
+    borrow_string(payload).map(Some)
 }
 
 // ** the data of kinds: what is not of the form is `Other`, and so is what would not be written as it was
