@@ -15,8 +15,9 @@ wanted=("${@:2}")
 sysroots=${SYSROOTS:-/usr}
 export CARGO_NET_OFFLINE=true CARGO_TARGET_DIR=${CARGO_TARGET_DIR:-$folder/target}
 export RUST_BACKTRACE=0 CARGO_INCREMENTAL=0 CARGO_PROFILE_DEV_DEBUG=0 CARGO_PROFILE_TEST_DEBUG=0
-# of the crate, not of the tests: overflow is checked all the same, and qemu takes less time
-export CARGO_PROFILE_DEV_OPT_LEVEL=1 CARGO_PROFILE_TEST_OPT_LEVEL=0
+# 'cargo test' compiles the crate too by the profile 'test'. At 1 it takes some minutes more, and qemu takes seconds for
+# tests that take it minutes at 0; overflow is checked all the same.
+export CARGO_PROFILE_DEV_OPT_LEVEL=1 CARGO_PROFILE_TEST_OPT_LEVEL=1
 needs cargo rustc python3
 
 # the processor as Debian names it, rustc's target, the triplet of its C, and qemu's name
