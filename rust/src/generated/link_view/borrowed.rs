@@ -6,8 +6,8 @@ use crate::link_msg::{
     AddressFamily, LinkEvent, LinkMode, LinkPhysId, Map, State, Stats, Stats64, parse_i32, parse_u8, parse_u16,
     parse_u32,
 };
-use crate::link_view::payload::{WirelessEventView, borrow, event_of, some, text_of};
-use crate::nla_wire::{DecodeError, NlaBuffer, empty_list};
+use crate::link_view::payload::{WirelessEventView, borrow, event_of, some};
+use crate::nla_wire::{DecodeError, NlaBuffer, borrow_string, empty_list};
 
 /// An attribute over borrowed bytes: a variant for each of `LinkAttribute`, with its value. That of a list is its
 /// payload, and that of an extent mask the number.
@@ -94,10 +94,10 @@ pub(crate) fn read_frame<'a>(
     match kind {
         IFLA_ADDRESS => Ok(BorrowedAttribute::Address(payload)),
         IFLA_BROADCAST => Ok(BorrowedAttribute::Broadcast(payload)),
-        IFLA_IFNAME => borrow!(BorrowedAttribute::IfName, text_of(payload)),
+        IFLA_IFNAME => borrow!(BorrowedAttribute::IfName, borrow_string(payload)),
         IFLA_MTU => borrow!(BorrowedAttribute::Mtu, parse_u32(payload)),
         IFLA_LINK => borrow!(BorrowedAttribute::Link, parse_u32(payload)),
-        IFLA_QDISC => borrow!(BorrowedAttribute::Qdisc, text_of(payload)),
+        IFLA_QDISC => borrow!(BorrowedAttribute::Qdisc, borrow_string(payload)),
         IFLA_STATS => Ok(BorrowedAttribute::Stats(Stats::read_padded(payload))),
         IFLA_MASTER => borrow!(BorrowedAttribute::Controller, parse_u32(payload)),
         IFLA_WIRELESS => borrow!(BorrowedAttribute::Wireless, event_of(payload)),
@@ -107,7 +107,7 @@ pub(crate) fn read_frame<'a>(
         IFLA_LINKMODE => borrow!(BorrowedAttribute::Mode, n => LinkMode::from(n), parse_u8(payload)),
         IFLA_LINKINFO => some!(BorrowedAttribute::LinkInfo, payload),
         IFLA_NET_NS_PID => borrow!(BorrowedAttribute::NetNsPid, parse_u32(payload)),
-        IFLA_IFALIAS => borrow!(BorrowedAttribute::IfAlias, text_of(payload)),
+        IFLA_IFALIAS => borrow!(BorrowedAttribute::IfAlias, borrow_string(payload)),
         IFLA_NUM_VF => borrow!(BorrowedAttribute::NumVf, parse_u32(payload)),
         IFLA_VFINFO_LIST => Ok(BorrowedAttribute::VfInfoList(payload)),
         IFLA_STATS64 => Ok(BorrowedAttribute::Stats64(Stats64::read_padded(payload))),
@@ -124,7 +124,7 @@ pub(crate) fn read_frame<'a>(
         IFLA_CARRIER_CHANGES => borrow!(BorrowedAttribute::CarrierChanges, parse_u32(payload)),
         IFLA_PHYS_SWITCH_ID => borrow!(BorrowedAttribute::PhysSwitchId, LinkPhysId::parse(payload)),
         IFLA_LINK_NETNSID => borrow!(BorrowedAttribute::LinkNetNsId, parse_i32(payload)),
-        IFLA_PHYS_PORT_NAME => borrow!(BorrowedAttribute::PhysPortName, text_of(payload)),
+        IFLA_PHYS_PORT_NAME => borrow!(BorrowedAttribute::PhysPortName, borrow_string(payload)),
         IFLA_PROTO_DOWN => borrow!(BorrowedAttribute::ProtoDown, parse_u8(payload)),
         IFLA_GSO_MAX_SEGS => borrow!(BorrowedAttribute::GsoMaxSegs, parse_u32(payload)),
         IFLA_GSO_MAX_SIZE => borrow!(BorrowedAttribute::GsoMaxSize, parse_u32(payload)),
@@ -140,8 +140,8 @@ pub(crate) fn read_frame<'a>(
         IFLA_PROP_LIST => Ok(BorrowedAttribute::PropList(payload)),
         IFLA_PERM_ADDRESS => Ok(BorrowedAttribute::PermAddress(payload)),
         IFLA_PROTO_DOWN_REASON => Ok(BorrowedAttribute::ProtoDownReason(payload)),
-        IFLA_PARENT_DEV_NAME => borrow!(BorrowedAttribute::ParentDevName, text_of(payload)),
-        IFLA_PARENT_DEV_BUS_NAME => borrow!(BorrowedAttribute::ParentDevBusName, text_of(payload)),
+        IFLA_PARENT_DEV_NAME => borrow!(BorrowedAttribute::ParentDevName, borrow_string(payload)),
+        IFLA_PARENT_DEV_BUS_NAME => borrow!(BorrowedAttribute::ParentDevBusName, borrow_string(payload)),
         IFLA_GRO_MAX_SIZE => borrow!(BorrowedAttribute::GroMaxSize, parse_u32(payload)),
         IFLA_TSO_MAX_SIZE => borrow!(BorrowedAttribute::TsoMaxSize, parse_u32(payload)),
         IFLA_TSO_MAX_SEGS => borrow!(BorrowedAttribute::TsoMaxSegs, parse_u32(payload)),

@@ -6,9 +6,9 @@ use crate::link_nest::numbers::*;
 use crate::link_nest::{DevlinkPort, DpllPin, LinkInfo, LinkProtocolDownReason, LinkXdp, Prop};
 use crate::link_vals::XdpAttached;
 use crate::link_view::message_view::last_in;
-use crate::link_view::payload::{attached_of, borrow, text_of, within};
+use crate::link_view::payload::{attached_of, borrow, within};
 use crate::link_view::sought::{Sought, frame_of};
-use crate::nla_wire::{DecodeError, NlaBuffer, NlasIterator, parse_i32, parse_u32};
+use crate::nla_wire::{DecodeError, NlaBuffer, NlasIterator, borrow_string, parse_i32, parse_u32};
 
 /// A member of IFLA_DEVLINK_PORT over borrowed bytes: a variant for each of `DevlinkPort`.
 #[derive(Clone)]
@@ -24,8 +24,8 @@ impl<'a> BorrowedDevlinkPort<'a> {
     fn read(kind: u16, frame: NlaBuffer<'a>) -> Result<BorrowedDevlinkPort<'a>, DecodeError> {
         let payload = frame.value();
         match kind {
-            DEVLINK_ATTR_BUS_NAME => borrow!(BorrowedDevlinkPort::BusName, text_of(payload)),
-            DEVLINK_ATTR_DEV_NAME => borrow!(BorrowedDevlinkPort::DevName, text_of(payload)),
+            DEVLINK_ATTR_BUS_NAME => borrow!(BorrowedDevlinkPort::BusName, borrow_string(payload)),
+            DEVLINK_ATTR_DEV_NAME => borrow!(BorrowedDevlinkPort::DevName, borrow_string(payload)),
             DEVLINK_ATTR_PORT_INDEX => borrow!(BorrowedDevlinkPort::PortIndex, parse_u32(payload)),
             _ => Ok(BorrowedDevlinkPort::Other(frame)),
         }
@@ -232,7 +232,7 @@ impl<'a> BorrowedLinkInfo<'a> {
     fn read(kind: u16, frame: NlaBuffer<'a>) -> Result<BorrowedLinkInfo<'a>, DecodeError> {
         let payload = frame.value();
         match kind {
-            IFLA_INFO_KIND => borrow!(BorrowedLinkInfo::Kind, text_of(payload)),
+            IFLA_INFO_KIND => borrow!(BorrowedLinkInfo::Kind, borrow_string(payload)),
             _ => Ok(BorrowedLinkInfo::Other(frame)),
         }
     }
@@ -300,7 +300,7 @@ impl<'a> BorrowedProp<'a> {
     fn read(kind: u16, frame: NlaBuffer<'a>) -> Result<BorrowedProp<'a>, DecodeError> {
         let payload = frame.value();
         match kind {
-            IFLA_ALT_IFNAME => borrow!(BorrowedProp::AltIfName, text_of(payload)),
+            IFLA_ALT_IFNAME => borrow!(BorrowedProp::AltIfName, borrow_string(payload)),
             _ => Ok(BorrowedProp::Other(frame)),
         }
     }

@@ -236,7 +236,7 @@ pub use payload::{
 };
 pub use place::{Place, check_one, parse_one};
 pub use record::{PlainRecord, Record, RecordBuffer, measure_by_size};
-pub use text::{check_string, parse_string};
+pub use text::{borrow_string, check_string, parse_string};
 pub use write::{
     MOST_VALUE_LEN, add_len, at_most_value, finish, nla_align, padded_len, write_bytes, write_i32, write_text,
     write_u8, write_u16, write_u32, write_u64, write_value,

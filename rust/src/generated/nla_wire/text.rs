@@ -117,6 +117,15 @@ pub fn parse_string(bytes: &[u8]) -> Result<String, DecodeError> {
     }
 }
 
+/// The text that a payload is, in place: what `parse_string` reads, with no memory taken; else `NotUtf8`.
+#[cfg_attr(not(debug_assertions), inline(always))]
+pub fn borrow_string(bytes: &[u8]) -> Result<&str, DecodeError> {
+    match utf8(without_nul(bytes)) {
+        Some(text) => Ok(text),
+        None => Err(not_utf8()),
+    }
+}
+
 /// `Ok` where the payload is a text, else the fault.
 fn check_utf8(bytes: &[u8]) -> Result<(), DecodeError> {
     if is_utf8(without_nul(bytes)) {

@@ -11,11 +11,10 @@ use crate::frame_shown::tables::{
 use crate::link_info::read::read;
 use crate::link_info::{Member, Place, Plain, Size, Style, Value};
 use crate::link_nest::numbers::{IWEVASSOCREQIE, IWEVASSOCRESPIE};
-use crate::nla_wire::NlasIterator;
 use crate::nla_wire::fields::{be16_at, bytes_32_at, i32_at, u8_at, u16_at, u32_at, u64_at};
+use crate::nla_wire::{NlasIterator, borrow_string};
 use crate::shown::{Nest, Page};
 use crate::rattle::alloc::AllocError;
-use crate::rattle::str;
 
 /// Adds a number, by how it is spelled.
 fn show_number(page: &mut Page, name: &str, plain: Plain, number: u64) -> Result<(), AllocError> {
@@ -470,29 +469,21 @@ fn show_bits(page: &mut Page, name: &str, bits: Bits, number: u32) -> Result<(),
     }
 }
 
-/// The bytes without one NUL at their end, if they have one.
-#[inline(always)]
-fn without_last_nul(bytes: &[u8]) -> &[u8] {
-    match bytes {
-        [front @ .., 0] => front,
-        _ => bytes,
-    }
-}
-
 /// Adds a text, or the digits of bytes that are none.
 #[inline(always)]
 pub(crate) fn show_text(page: &mut Page, name: &str, payload: &[u8]) -> Result<(), AllocError> {
-    match str::from_utf8(without_last_nul(payload)) {
+    match borrow_string(payload) {
         Ok(text) => page.keyed_string(name, text),
         Err(_) => page.hex(name, payload),
     }
 }
 
 /// The text that a payload is.
-fn text_of(payload: &[u8]) -> Option<&str> {
-    match read(Style::Text, payload) {
-        Value::Text(text) => Some(text),
-        _ => None,
+#[inline(always)]
+pub fn text_of(payload: &[u8]) -> Option<&str> {
+    match borrow_string(payload) {
+        Ok(text) => Some(text),
+        Err(_) => None,
     }
 }
 

@@ -4,9 +4,8 @@
 use crate::link_info::number::{host_number, network_number, signed_number};
 use crate::link_info::style::{Member, Plain, Style};
 use crate::link_info::value::Value;
-use crate::nla_wire::NlasIterator;
+use crate::nla_wire::{NlasIterator, borrow_string};
 use std::net::{Ipv4Addr, Ipv6Addr};
-use crate::rattle::str;
 
 /// Reads a hardware address.
 fn mac(bytes: &[u8]) -> [u8; 6] {
@@ -85,17 +84,9 @@ pub(crate) fn are_elements(bytes: &[u8], size: usize) -> bool {
     true
 }
 
-/// The bytes without one NUL at their end, if they have one.
-fn without_last_nul(bytes: &[u8]) -> &[u8] {
-    match bytes {
-        [front @ .., 0] => front,
-        _ => bytes,
-    }
-}
-
 /// Reads a text, or keeps the bytes that are none.
 fn read_text(bytes: &[u8]) -> Value<'_> {
-    match str::from_utf8(without_last_nul(bytes)) {
+    match borrow_string(bytes) {
         Ok(text) => Value::Text(text),
         Err(_) => Value::Bytes(bytes),
     }

@@ -3,9 +3,9 @@
 
 use crate::frame_shown::form::Around;
 pub use crate::frame_shown::form::Order;
-use crate::link_info::read::read;
+pub use crate::frame_shown::value::text_of;
+use crate::link_info::Tables;
 use crate::link_info::tables::can::CAN_STATS;
-use crate::link_info::{Style, Tables, Value};
 use crate::rattle::alloc::Global;
 
 /// What lines are shown by, beside themselves: tables, and the order of the counters of IPv6.
@@ -15,14 +15,6 @@ pub struct Context<'a> {
     pub alloc: Global,
     /// What frames are shown by.
     pub around: Around<'a>,
-}
-
-/// The text that a payload is.
-pub fn text_of(payload: &[u8]) -> Option<&str> {
-    match read(Style::Text, payload) {
-        Value::Text(text) => Some(text),
-        _ => None,
-    }
 }
 
 impl<'a> Context<'a> {

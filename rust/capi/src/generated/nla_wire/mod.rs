@@ -256,7 +256,7 @@ pub use payload::{
 };
 pub use place::{Place, check_one, parse_one};
 pub use record::{PlainRecord, Record, RecordBuffer, measure_by_size};
-pub use text::{check_string, parse_string};
+pub use text::{borrow_string, check_string, parse_string};
 pub use values::{Bytes, CloneIn, List, Text};
 pub use write::{
     MOST_VALUE_LEN, add_len, at_most_value, finish, nla_align, padded_len, write_bytes, write_i32,

@@ -108,6 +108,15 @@ pub fn parse_string(alloc: Global, bytes: &[u8]) -> Result<Text, DecodeError> {
     }
 }
 
+/// The text that a payload is, in place: what `parse_string` reads, with no memory taken; else `NotUtf8`.
+#[inline(always)]
+pub fn borrow_string(bytes: &[u8]) -> Result<&str, DecodeError> {
+    match utf8(without_nul(bytes)) {
+        Some(text) => Ok(text),
+        None => Err(not_utf8()),
+    }
+}
+
 /// `Ok` where the payload is a text, else the fault; for the proof: its clause cites the reader alone, and those of
 /// `check_string` follow.
 fn check_utf8(bytes: &[u8]) -> Result<(), DecodeError> {

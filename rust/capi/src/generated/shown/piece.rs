@@ -282,6 +282,17 @@ fn add_escapes(bytes: &mut Vec<u8>, len: usize, text: &[u8]) -> Result<usize, Al
     Ok(last.0)
 }
 
+/// Adds a text of at most 256 bytes in quotes with the escapes that it needs, after a comma where one is due: room is
+/// made once.
+#[inline(always)]
+fn add_short(bytes: &mut Vec<u8>, len: usize, comma: bool, text: &[u8]) -> Result<usize, AllocError> {
+    reserve(bytes, len, (text.len() + 2) * 6 + 3)?;
+    let buf = bytes.as_mut_slice();
+    let start = put_quote(buf, len, comma);
+    let (end, _) = put_escaped(buf, start, text, 0, text.len());
+    Ok(put_byte(buf, end, b'"'))
+}
+
 /// Adds a text in quotes with the escapes that it needs, after a comma where one is due.
 #[cold]
 #[inline(never)]
@@ -291,6 +302,9 @@ fn add_escaped(
     comma: bool,
     text: &[u8],
 ) -> Result<usize, AllocError> {
+    if text.len() <= PART {
+        return add_short(bytes, len, comma, text);
+    }
     let start = add_byte(bytes, len, comma, b'"')?;
     let end = add_escapes(bytes, start, text)?;
     add_byte(bytes, end, false, b'"')
@@ -323,7 +337,7 @@ pub(crate) fn add_name(
     }
 }
 
-/// Adds a string, with the escapes that it needs.
+/// Adds a string, with the escapes that it needs: at once where room alone lacked.
 #[inline(always)]
 pub(crate) fn add_string(
     bytes: &mut Vec<u8>,
@@ -331,7 +345,14 @@ pub(crate) fn add_string(
     comma: bool,
     text: &str,
 ) -> Result<usize, AllocError> {
-    add_escaped(bytes, len, comma, text.as_bytes())
+    let text = text.as_bytes();
+    if text.len() + 3 > bytes.len() - len {
+        grow(bytes, len, text.len() + 3)?;
+        if let Some(end) = try_string(bytes, len, comma, text) {
+            return Ok(end);
+        }
+    }
+    add_escaped(bytes, len, comma, text)
 }
 
 /// Adds a number.
