@@ -98,7 +98,7 @@ if [ -e tests/second ] && [ -z "${TESTS:-}" ]; then
     # shellcheck disable=SC2086
     $CC -std=gnu11 $CFLAGS -Iinclude -o "$folder/lines" tests/second/lines.c out/liblinkwire.a $LDFLAGS
     answers=$top/tests/second/stored.txt
-    for set in all digits more; do
+    for set in all digits more mixed; do
         $RUN "$folder/lines" "$set" >"$folder/$set"
         for it in linkwire linkstate linkstate-lenient linkshow; do
             option=--lenient program=${it%-lenient}
@@ -108,7 +108,7 @@ if [ -e tests/second ] && [ -z "${TESTS:-}" ]; then
                 fails "$it answers otherwise than the second reader"
         done
     done
-    for set in all more; do
+    for set in all more mixed; do
         $RUN "$folder/lines" "$set" calls | $RUN "$folder/lines" "$set" compare calls "$answers" ||
             fails 'the library answers otherwise than the second reader'
     done
@@ -123,9 +123,10 @@ if [ -e tests/second ] && [ -z "${TESTS:-}" ]; then
         $RUN "$@" <"$folder/$set" | $RUN "$folder/lines" "$set" compare "$what" "$top/tests/second/held.txt" ||
             fails "$what: it answers otherwise than stored"
     }
-    $RUN "$folder/lines" news >"$folder/news"
-    $RUN "$folder/lines" changes >"$folder/changes"
-    for set in all more; do
+    for set in news changes turns hosts worded; do
+        $RUN "$folder/lines" "$set" >"$folder/$set"
+    done
+    for set in all more mixed; do
         holds linkshow-whole "$set" out/linkshow
         holds linkshow-whole-lenient "$set" out/linkshow --lenient --kernel 6.12.0
         holds held "$set" "$folder/lines" "$set" held
@@ -135,6 +136,16 @@ if [ -e tests/second ] && [ -z "${TESTS:-}" ]; then
     holds linkdiff-changes news out/linkdiff --changes-only
     holds linkdiff-more changes out/linkdiff
     holds linkdiff-more-counters changes out/linkdiff --counters --lenient
+    holds linkshow-whole-worded worded out/linkshow
+    holds linkshow-whole-worded-kernel worded out/linkshow --lenient --kernel 6.17
+    holds linkdiff-worded worded out/linkdiff
+    holds linkdiff-turns turns out/linkdiff
+    holds linkdiff-turns-counters turns out/linkdiff --counters --lenient
+    holds linkdiff-hosts hosts out/linkdiff
+    holds linkdiff-hosts-counters hosts out/linkdiff --counters --lenient
+    holds linkdiff-hosts-changes hosts out/linkdiff --changes-only
+    head -n 6000 "$folder/hosts" >"$folder/first"
+    holds linkdiff-files hosts out/linkdiff --lenient "$folder/first" - 2>"$folder/log"
     # words that no program has; and memory, reads and writes, where what is loaded before the C library sees them
     $RUN "$folder/lines" words >"$folder/words"
     watch=$folder/watch rows=''

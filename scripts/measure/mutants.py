@@ -193,7 +193,7 @@ def prepare(name, folder):
     """The lines, and the programs that call the library as one."""
     compiler = ["-std=gnu11", "-O2", f"-I{TOP}/include"]
     compiles(*compiler, "-DLINES_ALONE", "-o", f"{folder}/lines", TOP / "tests/second/lines.c")
-    for it in ("all", "digits", "news", "more", "changes", "words"):
+    for it in ("all", "digits", "news", "more", "changes", "words", "mixed", "turns", "hosts", "worded"):
         with open(f"{folder}/{it}", "wb") as to:
             subprocess.run([f"{folder}/lines", it], stdout=to, check=True, cwd=TOP)
     subprocess.run(["split", "-d", "-n", f"l/{PARTS}", f"{folder}/all", f"{folder}/all."], check=True)
@@ -204,6 +204,8 @@ def prepare(name, folder):
         lines = (TOP / "tests/second/streams.txt").read_bytes().splitlines(True)
         for it, part in ("old", lines[:450]), ("new", lines[450:]):
             Path(f"{folder}/{it}").write_bytes(b"".join(part))
+        lines = Path(f"{folder}/hosts").read_bytes().splitlines(True)
+        Path(f"{folder}/first").write_bytes(b"".join(lines[:6000]))
     if name == "link_c":
         Path(f"{folder}/driver.c").write_text(DRIVER % {"tests": "".join(f"TEST({it})\n" for it in TESTS)})
         compiles("-c", "-o", f"{folder}/test.driver.o", f"{folder}/driver.c")
@@ -221,17 +223,19 @@ TESTS = "calls", "lenient", "lists", "shown", "sizes", "state", "writer"
 def runs(name, folder):
     """What `make self-test` runs of a program, or of the library, the short ones first."""
     if name == "link_c":
-        return [Run(tuple(it.split())) for it in (*TESTS, "more calls", "more held", "all calls", "all held")]
+        sets = [f"{it} {what}" for it in ("more", "mixed", "all") for what in ("calls", "held")]
+        return [Run(tuple(it.split())) for it in (*TESTS, *sets)]
     said = [line.split(" ")[2:] for line in (TOP / "tests/program/said.txt").read_text().split("\n")
             if line.startswith(f"$ {name} ")]
     short = [Run((), str(TOP / f"crates/{name}/stdin")), Run(("--version",)), Run((), f"{folder}/digits", "/dev/full")]
-    parts = ["more", "digits", *(f"all.{it:02}" for it in range(PARTS))]
+    parts = ["more", "digits", "mixed", *(f"all.{it:02}" for it in range(PARTS))]
     long = {"linkwire": [("", it) for it in parts],
             "linkstate": [(given, it) for given in ("", "--lenient") for it in parts],
-            "linkshow": [*(("", it) for it in parts),
+            "linkshow": [("", "worded"), ("--lenient --kernel 6.17", "worded"), *(("", it) for it in parts),
                          *(("--lenient --kernel 6.12.0", it) for it in parts if it != "digits")],
-            "linkdiff": [*((given, it) for given in ("", "--counters --lenient") for it in ("changes", "news")),
-                         ("--changes-only", "news")]}
+            "linkdiff": [("", "worded"), ("--changes-only", "hosts"), (f"--lenient {folder}/first -", "hosts"),
+                         *((given, it) for given in ("", "--counters --lenient")
+                           for it in ("hosts", "turns", "changes", "news")), ("--changes-only", "news")]}
     if name == "linkdiff":
         streams, files = str(TOP / "tests/second/streams.txt"), (f"{folder}/old", f"{folder}/new")
         each = (), ("--lenient",), ("--counters",), ("--counters", "--lenient")

@@ -25,7 +25,7 @@ same() {
 of_programs() {
     local name other set
     "${CC:-cc}" -std=gnu11 -O2 -DLINES_ALONE -Iinclude -o "$folder/lines" tests/second/lines.c
-    for set in all digits news more changes; do
+    for set in all digits news more changes mixed turns hosts worded; do
         "$folder/lines" "$set" >"$folder/$set"
     done
     for name in linkwire linkstate linkshow linkdiff; do
@@ -40,16 +40,24 @@ of_programs() {
             same "$name" "$other" news --changes-only
             same "$name" "$other" changes
             same "$name" "$other" changes --counters --lenient
+            same "$name" "$other" turns
+            same "$name" "$other" turns --counters --lenient
+            same "$name" "$other" hosts
+            same "$name" "$other" hosts --counters --lenient
+            same "$name" "$other" worded
             continue
         fi
         same "$name" "$other" all
         same "$name" "$other" digits
         same "$name" "$other" more
+        same "$name" "$other" mixed
         [ "$name" = linkwire ] || same "$name" "$other" all --lenient
         if [ "$name" = linkshow ]; then
             same "$name" "$other" all --kernel 6.12.0
             same "$name" "$other" all --kernel 6.16.0 --lenient
             same "$name" "$other" more --kernel 6.16.0 --lenient
+            same "$name" "$other" mixed --kernel 6.16.0 --lenient
+            same "$name" "$other" worded
         fi
     done
 }

@@ -15,7 +15,8 @@ awk '/^test result: ok/ { sum += $4 } END { print "test: " sum " tests passed, w
 scripts/test/second.sh "$CARGO_TARGET_DIR/debug"
 # what no second reader says: builds by LLVM answer so too
 "${CC:-cc}" -std=gnu11 -O2 -DLINES_ALONE -Iinclude -o "$folder/lines" tests/second/lines.c
-for run in linkshow-whole:all linkshow-whole:more linkdiff:news linkdiff-more:changes; do
+for run in linkshow-whole:all linkshow-whole:more linkshow-whole:mixed linkshow-whole-worded:worded linkdiff:news \
+    linkdiff-more:changes linkdiff-turns:turns linkdiff-hosts:hosts linkdiff-worded:worded; do
     what=${run%:*} set=${run#*:}
     "$folder/lines" "$set" | "$CARGO_TARGET_DIR/debug/${what%%-*}" |
         "$folder/lines" "$set" compare "$what" tests/second/held.txt || fails "$what: rustc makes another one of it"

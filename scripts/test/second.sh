@@ -24,8 +24,8 @@ else
 fi
 python3 tests/second/check.py --jobs "$jobs" --set "$set" "${words[@]}" "$programs" "$folder/lines"
 if [ "$set" = all ]; then
-    for it in more digits; do
-        [ "$it" = more ] || words=(--only "linkwire,linkstate,linkstate-lenient,linkshow")
+    for it in more mixed digits; do
+        [ "$it" != digits ] || words=(--only "linkwire,linkstate,linkstate-lenient,linkshow")
         python3 tests/second/check.py --jobs "$jobs" --set "$it" "${words[@]}" "$programs" "$folder/lines" \
             >"$folder/told" || { cat "$folder/told"; exit 1; }
         head -n 1 "$folder/told"

@@ -15,6 +15,7 @@ import collections
 import itertools
 import json
 import multiprocessing
+import re
 import subprocess
 import sys
 import zlib
@@ -25,7 +26,7 @@ KEYS = {"wrong-length": ("got", "want"), "too-short": ("got", "need"), "frame-sh
         "frame-over": ("length", "left"), "frame-under": ("length",), "not-utf8": (), "empty-list": ()}
 CODES = {"too-short": -1, "frame-short": -2, "frame-over": -3, "frame-under": -4, "empty-list": -5, "wrong-length": -6,
          "not-utf8": -7, "unfit": -16, "empty-ports": -17}
-SETS = "all", "digits", "more"
+SETS = "all", "digits", "more", "mixed"
 ORDER = "got", "want", "need", "left", "length", "offset"
 
 
@@ -100,6 +101,60 @@ def print_places():
             kind, of = shape(row[3]) if row[3] is not None else ("k", 0)
             print(f"row {n} {kind} {table(of, inner(*of)) if kind == 'l' else of}")
     print(*places, sep="\n")
+    print("# Tables of link data, for lines.c alone: of kinds of links (k), of ports (p), of what a family has under a",
+          "# number (h), and of the ports of functions (v).", sep="\n")
+    print_data()
+
+
+SIZES = {"One": 1, "Two": 2, "Four": 4, "Eight": 8}
+BASIC = {"U8": 1, "U16": 2, "U32": 4, "U64": 8, "I32": 4, "BE16": 2, "BE32": 4, "BE64": 8, "MAC": 6, "IPV4": 4,
+         "IPV6": 16}
+HELD = ("-", 7, 12, "BridgePort"), ("-", 7, 26, "BridgeSpec"), ("-", 10, 12, "Inet6")
+
+
+def plain_size(text):
+    """How many bytes a value has that link_info spells so."""
+    if found := re.match(r"Plain::(?:Octets\((\d+)\)|\w+\(\s*Size::(\w+))", text):
+        return int(found[1]) if found[1] else SIZES[found[2]]
+    return BASIC[text.removeprefix("Plain::").upper()]
+
+
+def data_form(text, members, tables):
+    """The form of a style of link data, for lines.c: further ones are f for no bytes, a for values of one size one
+    after the other, and p for such values as attributes."""
+    if text in BASIC:
+        return f"{'n' if BASIC[text] in SIZES.values() else 'b'} {BASIC[text]}"
+    word, of = re.fullmatch(r"Style::(\w+)(?:\((.*)\))?", text, re.S).groups()
+    if word in ("Bytes", "Flag", "Text"):
+        return f"{ {'Bytes': 'b', 'Flag': 'f', 'Text': 't'}[word]} 0"
+    if word in ("Record", "Nest"):
+        return f"r {members[of]}" if word == "Record" else f"l {tables[of.removeprefix('Place::')]}"
+    return f"{ {'Plain': 'n', 'Array': 'a', 'List': 'p'}[word]} {plain_size(of)}"
+
+
+def print_data():
+    """The tables of link data, which no second reader knows, from number 100 on, and whose they are."""
+    folder = second.CRATES / "link_info/src"
+    text = "".join(path.read_text() for path in sorted(folder.glob("tables/*.rt")))
+    place = (folder / "place.rt").read_text()
+    tables, members = {}, {}
+    for name, _ in re.findall(r"Place::(\w+) => \w+::(\w+),", place):
+        tables[name] = 100 + len(tables)
+    for name, of in re.findall(r"const (\w+): &\[Member\] =\s*&\[(.*?)\];", text, re.S):
+        members[name] = sum(map(plain_size, re.findall(r'Member\(\s*"[^"]*",\s*(Plain::\w+(?:\([^)]*\))?)', of)))
+    inner = r"(?:[^()]|\((?:[^()]|\((?:[^()]|\([^()]*\))*\))*\))*?"
+    for name, rows in re.findall(r"Place::(\w+) => \w+::(\w+),", place):
+        print(f"table {tables[name]} 0")
+        rows = re.search(rf"const {rows}: &\[Row\] =\s*&\[(.*?)\n?\];", text, re.S)[1]
+        for number, form in re.findall(rf'Row\(\s*(\d+),\s*"[^"]*",\s*({inner}),?\s*\)', rows, re.S):
+            print(f"row {number} {data_form(form.strip(), members, tables)}")
+    for sort, constant in ("k", "KINDS"), ("p", "SLAVE_KINDS"):
+        rows = re.search(rf"pub const {constant}: .*?\];", place, re.S)[0]
+        for name, of in re.findall(r'KindRow\("(\w+)", Place::(\w+)\)', rows):
+            print(f"kind {sort} {name} 0 0 {tables[of]}")
+    for name, family, number, of in HELD:
+        print(f"kind h {name} {family} {number} {tables[of]}")
+    print(f"kind v - 0 0 {tables['Port']}")
 
 
 # ** what each has to answer

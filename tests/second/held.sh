@@ -8,7 +8,7 @@ programs=$1 library=${2:-}
 folder=$(mktemp -d)
 trap 'rm -rf "$folder"' EXIT
 "${CC:-cc}" -std=gnu11 -O2 -Iinclude -o "$folder/lines" tests/second/lines.c "${library:--DLINES_ALONE}"
-for set in all news more changes; do
+for set in all news more changes mixed turns hosts worded; do
     "$folder/lines" "$set" >"$folder/$set"
 done
 
@@ -27,6 +27,18 @@ sums linkshow-whole more "$programs/linkshow"
 sums linkshow-whole-lenient more "$programs/linkshow" --lenient --kernel 6.12.0
 sums linkdiff-more changes "$programs/linkdiff"
 sums linkdiff-more-counters changes "$programs/linkdiff" --counters --lenient
-for set in all more; do
+sums linkshow-whole mixed "$programs/linkshow"
+sums linkshow-whole-lenient mixed "$programs/linkshow" --lenient --kernel 6.12.0
+sums linkshow-whole-worded worded "$programs/linkshow"
+sums linkshow-whole-worded-kernel worded "$programs/linkshow" --lenient --kernel 6.17
+sums linkdiff-worded worded "$programs/linkdiff"
+sums linkdiff-turns turns "$programs/linkdiff"
+sums linkdiff-turns-counters turns "$programs/linkdiff" --counters --lenient
+sums linkdiff-hosts hosts "$programs/linkdiff"
+sums linkdiff-hosts-counters hosts "$programs/linkdiff" --counters --lenient
+sums linkdiff-hosts-changes hosts "$programs/linkdiff" --changes-only
+head -n 6000 "$folder/hosts" >"$folder/first"
+sums linkdiff-files hosts "$programs/linkdiff" --lenient "$folder/first" - 2>/dev/null
+for set in all more mixed; do
     [ -z "$library" ] || sums held "$set" "$folder/lines" "$set" held
 done

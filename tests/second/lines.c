@@ -14,7 +14,9 @@
  * many. `digits` has lines that are not all hexadecimal digits. `more` has each row and each other number behind two
  * of the first row, each row with each length and padding that is not zero, and texts and events that are long. `news`
  * has one of five of `all` as lines for linkdiff, of two interfaces and a host for each place, with ends of interfaces,
- * dumps and losses among them, and `changes` has all of `more` as such lines. `words` has options that no program has,
+ * dumps and losses among them, and `changes` has all of `more` as such lines. `mixed` has messages of all rows in no
+ * order, four versions of each, and others of mixed.c; `turns` has them as lines of one interface, `worded` with words
+ * in front, and `hosts` has lines of interfaces that come and go in no order. `words` has options that no program has,
  * of all characters but an LF, and some that are no UTF-8. The places and their rows are read of the file that
  * PLACES names, tests/second/places.txt, which check.py makes of the tables in crates/.
  *
@@ -29,7 +31,7 @@
 
 #include "linkwire.h"
 
-enum { MOST = 65531, ROOM = 1 << 18, TABLES = 128, ROWS = 128, PLACES = 512, DEEP = 8, EDGES = 640, KINDS = 64 };
+enum { MOST = 65531, ROOM = 1 << 18, TABLES = 160, ROWS = 128, PLACES = 512, DEEP = 8, EDGES = 640, KINDS = 64 };
 
 struct bytes {
     size_t len;
@@ -56,6 +58,13 @@ static struct {
     unsigned path[DEEP];
 } place[PLACES];
 static size_t places;
+
+/* Tables of link data: of a kind of link (k) or of ports (p), of what a family has under a number (h), others (v). */
+static struct {
+    char sort, name[16];
+    unsigned family, number, table;
+} kind[KINDS];
+static size_t kinds;
 
 static void fail(const char *what) {
     fprintf(stderr, "lines: %s\n", what);
@@ -89,6 +98,9 @@ static void read_places(void) {
             for (char *at = line + used; sscanf(at, "%u%n", &of, &used) == 1; at += used)
                 place[places].path[place[places].deep++] = of;
             places++;
+        } else if (sscanf(line, "kind %c %15s %u %u %u", &kind[kinds].sort, kind[kinds].name, &kind[kinds].family,
+                          &kind[kinds].number, &kind[kinds].table) == 5 && ++kinds == KINDS) {
+            fail("too many kinds");
         }
     }
     fclose(file);
@@ -603,13 +615,37 @@ static void tell_lengths(void) {
         }
 }
 
+static const char digit[] = "0123456789abcdef";
+static char spelled[4 * ROOM];
+
+static const char *hex(const uint8_t *bytes, size_t len) {
+    for (size_t i = 0; i < len; i++) {
+        spelled[2 * i] = digit[bytes[i] >> 4];
+        spelled[2 * i + 1] = digit[bytes[i] & 15];
+    }
+    spelled[2 * len] = 0;
+    return spelled;
+}
+
+static size_t put_character(char *to, uint32_t c) {
+    if (c < 0x80)
+        return to[0] = (char)c, 1;
+    size_t len = c < 0x800 ? 2 : c < 0x10000 ? 3 : 4;
+    for (size_t i = len; i-- > 1; c >>= 6)
+        to[i] = (char)(0x80 | (c & 63));
+    to[0] = (char)((0xf00 >> len & 0xff) | c);
+    return len;
+}
+
+/* A message with a name. */
+static void tell_name(const void *text, size_t len) {
+    tell_of(0, built, put(built, 3, text, len, 0));
+}
+
+#include "mixed.c"
+
 /* Texts of bytes and characters that JSON spells otherwise, and of others, in no order. */
 static void tell_mixed(void) {
-    static const char *const parts[] = {
-        "a", "b", "c", "0123456789abcdef", "\"", "\\", "\x1a", "\x1f", "\x7f", "\n", "\t", "\xc2\x85", "\xc2\x8a",
-        "\xc2\x9a", "\xc2\xa0", "\xc2\xad", "\xc3\xa9", "\xd8\x9c", "\xe2\x80\x8e", "\xe2\x80\xa8", "\xe2\x80\xaa",
-        "\xe2\x80\xae", "\xe2\x81\xa6", "\xe2\x82\xac", "\xef\xbb\xbf", "\xed\x9f\xbf", "\xf0\x9f\x98\x80",
-        "\xf3\xa0\x81\xa1"};
     static char text[2048];
     uint32_t state = 7;
     for (size_t i = 0; i < 4000; i++) {
@@ -617,7 +653,7 @@ static void tell_mixed(void) {
         for (size_t n = 1 + i % 61; n-- > 0;) {
             state = state * 1103515245 + 12345;
             size_t at = state >> 16;
-            strcat(text, parts[i % 3 && at % 4 ? at / 4 % 4 : at / 4 % (sizeof parts / sizeof *parts)]);
+            strcat(text, parts[i % 3 && at % 4 ? at / 4 % 4 : at / 4 % PARTS]);
         }
         tell_of(0, built, put(built, i % 2 ? 20 : 3, (const uint8_t *)text, strlen(text), 0));
     }
@@ -644,11 +680,6 @@ static void tell_long(void) {
             tell_of(0, built, put(built, 11, event.at, event.len, 0));
             free(event.at);
         }
-}
-
-/* A message with a name. */
-static void tell_name(const void *text, size_t len) {
-    tell_of(0, built, put(built, 3, text, len, 0));
 }
 
 /* Texts in which one byte is no character, at each place, and a byte behind it. */
@@ -801,22 +832,13 @@ static void tell_digits(void) {
         }
 }
 
-static size_t put_character(char *to, uint32_t c) {
-    if (c < 0x80)
-        return to[0] = (char)c, 1;
-    size_t len = c < 0x800 ? 2 : c < 0x10000 ? 3 : 4;
-    for (size_t i = len; i-- > 1; c >>= 6)
-        to[i] = (char)(0x80 | (c & 63));
-    to[0] = (char)((0xf00 >> len & 0xff) | c);
-    return len;
-}
-
 /* Options of so many characters, one behind the other, and others that are no UTF-8. */
 static void print_words(void) {
     enum { EACH = 24576 };
     static char word[4 * EACH + 8];
     static const char *const more[] = {"-", "--", "-\x80", "-\xc3", "-\xc0\x80", "-\xe2\x82", "-\xed\xa0\x80",
-                                       "-\xf0\x9f\x98", "-\xf4\x90\x80\x80", "-\xff", "--help\xff"};
+                                       "-\xf0\x9f\x98", "-\xf4\x90\x80\x80", "-\xff", "--help\xff",
+                                       "-\xfa\xab\xbc\x9d\xc9\x8e\xaf\xa0\x99\xaa\xba"};
     for (uint32_t c = 1; c < 0x110000;) {
         size_t len = 1;
         word[0] = '-';
@@ -861,6 +883,20 @@ static void tell_all(const char *set) {
             tell(counted, n);
         return;
     }
+    if (strcmp(set, "mixed") == 0) {
+        alone = places + 6;
+        tell_picked();
+        tell_addresses();
+        tell_spelled();
+        tell_functions();
+        tell_twice();
+        tell_turned();
+        tell_refused_behind();
+        tell_turned_data();
+        tell_ends();
+        tell_filled();
+        return;
+    }
     if (!is_wide && strcmp(set, "all") != 0)
         fail("no such set");
     for (here = 0; here < places; here++) {
@@ -884,18 +920,6 @@ static void tell_all(const char *set) {
 
 /* ** what becomes of them */
 
-static const char digit[] = "0123456789abcdef";
-static char spelled[4 * ROOM];
-
-static const char *hex(const uint8_t *bytes, size_t len) {
-    for (size_t i = 0; i < len; i++) {
-        spelled[2 * i] = digit[bytes[i] >> 4];
-        spelled[2 * i + 1] = digit[bytes[i] & 15];
-    }
-    spelled[2 * len] = 0;
-    return spelled;
-}
-
 static void print_line(size_t at, const uint8_t *line, size_t len, bool is_text) {
     (void)at;
     if (is_text)
@@ -910,16 +934,16 @@ enum { LONG = 1000 };
 
 static bool is_left_out(size_t len) {
     static size_t count;
-    return len > LONG || (!alone && (len < 16 || count++ % 5));
+    return len > (alone == places + 6 ? 10 * LONG : LONG) || (!alone && (len < 16 || count++ % 5));
 }
 
 static void print_news(size_t at, const uint8_t *line, size_t len, bool is_text) {
     static size_t count, dump;
-    static uint8_t made[LONG];
+    static uint8_t made[ROOM];
     if (is_text || is_left_out(len))
         return;
     memcpy(made, line, len);
-    memcpy(made + 4, (uint8_t[]){(uint8_t)(1 + count % 2), 0, 0, 0}, 4);
+    memcpy(made + 4, (uint8_t[]){(uint8_t)(alone == places + 6 ? 1 : 1 + count % 2), 0, 0, 0}, 4);
     if (count % 997 == 0)
         printf("host=%zu type=begin seq=%zu port=7\n", at, ++dump);
     if (count % 997 == 40)
@@ -946,6 +970,20 @@ static void print_many(void) {
         if (i % 1000 == 999)
             printf("host=many type=done seq=%u port=7 family=%u\n", i / 1000, i < 2000 ? 7 : i < 4000 ? 10 : 0);
     }
+}
+
+/* A line with words in front, and now and then with no digits, or wrong ones. */
+static void print_worded(size_t at, const uint8_t *line, size_t len, bool is_text) {
+    static uint32_t seed;
+    static char words[1 << 16];
+    (void)at;
+    if (is_text || len > LONG)
+        return;
+    if (seed == 0)
+        print_releases();
+    fwrite(words, 1, pick_words(words, ++seed), stdout);
+    const char *front = pick(seed, 2, 12) ? "" : (const char *[]){"ok ", "ok", "OK ", "0"}[pick(seed, 3, 4)];
+    printf("%s%.*s\n", front, pick(seed, 4, 16) ? (int)(2 * len) : 0, hex(line, len));
 }
 
 static void print_place(size_t at, const uint8_t *line, size_t len, bool is_text) {
@@ -1004,10 +1042,32 @@ static void print_json(ptrdiff_t len, const char *text) {
     printf(" %td %08x", len, len > 0 ? (unsigned)crc(0, text, (size_t)len) : 0);
 }
 
+/* What other calls say: of a release, of some attributes of a list, and where an answer has just the room or one byte
+ * less. */
+static void print_more(const uint8_t *line, size_t len, uint32_t order) {
+    static char out[4 * LINKWIRE_GROWTH * MOST];
+    static size_t turn;
+    const char *release = releases[turn++ % (sizeof releases / sizeof *releases)];
+    printf(" %u", linkwire_order(release, strlen(release)));
+    if (len < 16)
+        return;
+    struct linkwire_attribute found[] = {{3, 0, 0}, {18, 0, 0}, {26, 0, 0}, {4, 0, 0}, {79, 0, 0}};
+    printf(" %d", linkwire_pick(line + 16, len - 16, found, 1 + turn % 5));
+    for (size_t i = 0; i < 5; i++)
+        printf(" %u,%zu,%zu", found[i].kind, found[i].payload, found[i].payload_len);
+    ptrdiff_t room = linkwire_show(line, len, order, 0, out, 0);
+    for (ptrdiff_t less = room < 0 || room > 4096 ? 2 : 0; less < 2; less++)
+        print_json(linkwire_show(line, len, order, 0, out, (size_t)(room - less)), out);
+    ptrdiff_t length = linkwire_canonical_len(line, len);
+    for (ptrdiff_t less = length < 0 ? 2 : 0; less < 2; less++)
+        printf(" %td %td", linkwire_canonical(line, len, (uint8_t *)out, (size_t)(length - less)),
+               linkwire_state(line, len, (uint8_t *)out, (size_t)(length - less)));
+}
+
 /* What the calls that are no second reader's say: of a message, and of the one that was taken before it. */
 static void print_held(size_t at, const uint8_t *line, size_t len, bool is_text) {
-    static char out[4 * LINKWIRE_GROWTH * LONG];
-    static uint8_t before[LONG], list[2 * LONG];
+    static char out[4 * LINKWIRE_GROWTH * MOST];
+    static uint8_t before[ROOM], list[2 * ROOM];
     static size_t before_len;
     static uint32_t turn;
     (void)at;
@@ -1031,6 +1091,8 @@ static void print_held(size_t at, const uint8_t *line, size_t len, bool is_text)
     for (from = 0; linkwire_refusal_next(line, len, &from, &refusal) == 1;)
         printf(" %zu,%zu,%d,%u,%u,%zu,%zu", from, refusal.offset, refusal.fault, refusal.is_attribute,
                refusal.attribute.kind, refusal.attribute.payload_len, refusal.path.at);
+    if (alone == places + 6)
+        print_more(line, len, order);
     putchar('\n');
     memcpy(before, line, len);
     before_len = len;
@@ -1118,17 +1180,21 @@ static void add_answer(size_t at, const uint8_t *line, size_t len, bool is_text)
 /* Says where the sums are not those that a file has of WHAT, for the places of this set. */
 static int compare(const char *what, const char *name, const char *set) {
     static bool seen[sizeof sum / sizeof *sum];
-    char line[160], of[32], kind[24];
+    char line[160], name_of[32], kind[24];
     unsigned long count, slips = 0, same = 0;
     size_t at;
     unsigned number;
     FILE *file = fopen(name, "r");
-    size_t own = strcmp(set, "digits") == 0 ? places + 3 : strcmp(set, "more") == 0 ? places + 5 : 0;
+    static const char *const sets[] = {"digits", "more", "mixed"};
+    static const size_t of[] = {3, 5, 6};
+    size_t own = 0;
+    for (size_t i = 0; i < 3; i++)
+        own = strcmp(set, sets[i]) == 0 ? places + of[i] : own;
     if (!file)
         fail("no file of answers");
     while (fgets(line, sizeof line, file)) {
-        if (sscanf(line, "%31s %zu %23s %lu %x", of, &at, kind, &count, &number) != 5 || strcmp(of, what) != 0 ||
-            (own ? at != own : at == places + 3 || at == places + 5))
+        if (sscanf(line, "%31s %zu %23s %lu %x", name_of, &at, kind, &count, &number) != 5 ||
+            strcmp(name_of, what) != 0 || (own ? at != own : at == places + 3 || at == places + 5 || at == places + 6))
             continue;
         struct sum *found = NULL;
         for (size_t i = 0; i < sums; i++)
@@ -1157,10 +1223,13 @@ static int compare(const char *what, const char *name, const char *set) {
 
 int main(int count, char **words) {
     const char *set = count > 1 ? words[1] : "", *mode = count > 2 ? words[2] : "";
-    bool is_more = strcmp(set, "changes") == 0, is_news = is_more || strcmp(set, "news") == 0;
+    bool is_more = strcmp(set, "changes") == 0, is_worded = strcmp(set, "worded") == 0;
+    bool is_mixed = is_worded || strcmp(set, "turns") == 0, is_news = is_more || is_mixed || strcmp(set, "news") == 0;
     if (strcmp(set, "words") == 0)
         return print_words(), 0;
     read_places();
+    if (strcmp(set, "hosts") == 0 && count == 2)
+        return print_hosts(), 0;
     if (strcmp(mode, "places") == 0)
         take = print_place;
 #ifndef LINES_ALONE
@@ -1170,15 +1239,16 @@ int main(int count, char **words) {
         take = print_held;
 #endif
     else
-        take = count > 3 ? add_answer : is_news ? print_news : print_line;
+        take = count > 3 ? add_answer : is_worded ? print_worded : is_news ? print_news : print_line;
     const char *what = count > 3 ? words[3] : "";
     is_json = strncmp(what, "linkdiff", 8) == 0 || strncmp(what, "linkshow-whole", 14) == 0;
     is_show = !is_json && strncmp(what, "linkshow", 8) == 0;
     is_held = strcmp(what, "held") == 0;
-    for (here = places + 4; strncmp(what, "linkdiff", 8) == 0 && !is_over;)
+    bool is_alone = is_worded || strncmp(what, "linkdiff", 8) == 0;
+    for (here = places + 4; count > 3 && is_alone && !is_over;)
         add_answer(here, NULL, 0, false);
     if (!is_over)
-        tell_all(is_more ? "more" : is_news ? "all" : set);
+        tell_all(is_more ? "more" : is_mixed ? "mixed" : is_news ? "all" : set);
     if (is_more && count == 2)
         print_many();
     if (count > 4 && strcmp(mode, "compare") == 0)

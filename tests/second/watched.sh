@@ -9,7 +9,7 @@ if [ "$1" = --all ]; then
     trap 'rm -rf "$made"' EXIT
     "${CC:-cc}" -std=gnu11 -O2 -DLINES_ALONE -Iinclude -o "$made/lines" tests/second/lines.c
     "${CC:-cc}" -std=gnu11 -O2 -fPIC -shared -o "$made/watch" tests/second/watch.c -ldl
-    for it in digits more changes words; do
+    for it in digits more changes words mixed turns hosts; do
         "$made/lines" "$it" >"$made/$it"
     done
     cat <<'END'
@@ -25,7 +25,7 @@ fi
 name=$1 program=$(realpath "$2") sets=$(realpath "$3") watch=${4:+$(realpath "$4")}
 stored=crates/$name
 [ -e "$stored" ] || stored=tests/$name
-stored=$(realpath "$stored")
+stored=$(realpath "$stored") all_said=$(realpath tests/program/said.txt)
 streams=$(realpath tests/second/streams.txt)
 folder=$(mktemp -d)
 trap 'rm -rf "$folder"' EXIT
@@ -69,6 +69,16 @@ counts() {
     : >told
     watched "$@"
     echo "$name $what: $(cksum <said) $(cat told)"
+}
+
+# leaves WHAT INPUT WORD..: how many blocks of memory it does not give back
+leaves() {
+    what=$1
+    shift
+    : >said
+    : >told
+    watched "$@"
+    echo "$name $what, given back: $(cksum <said) $(sed 's/.*\(left [0-9]*\).*/\1/' told)"
 }
 
 # pieces WHAT INPUT WORD..: reads and writes take less than they could
@@ -145,6 +155,16 @@ for it in 'ok ' 'pk ' 'ol ' 'ok!' 'ok' ' ok ' 'OK ' 'ok  ' 'ok ok ' 'k=v ok ' 'k
     echo "$it$ok"
 done >>worded
 counts 'its help' /dev/null --help
+# all that it says of words, on standard error and not on standard output
+: >said
+: >told
+grep "^\$ $name " "$all_said" >words
+while IFS= read -r line; do
+    # shellcheck disable=SC2086
+    LD_PRELOAD=./watch WATCH_TOLD=told ./program ${line#*"$name "} <"$stored" 2>>said >out || :
+    cksum <out >>said
+done <words
+row 'of words'
 counts 'words in front' worded
 refuses 'its help' 1 4 /dev/null --help
 fails 'its help' /dev/null --help
@@ -163,6 +183,8 @@ linkdiff)
     counts stored "$input"
     counts streams "$streams" --lenient
     counts changes "$sets/changes"
+    leaves turns "$sets/turns" --counters --lenient
+    leaves hosts "$sets/hosts"
     counts files /dev/null old new
     pieces few few
     pieces files /dev/null --counters old new
@@ -184,6 +206,7 @@ linkdiff)
         counts 'full, leniently' full --lenient
         counts 'short, leniently' short --lenient
     fi
+    leaves mixed "$sets/mixed"
     pieces few few
     refuses few 1 80 few
     fails few few
