@@ -29,7 +29,10 @@ SAID = {(LINES + file, name) for file, name in (
     ("Changed", "IsChanged"), ("Alone", "IsAlone"), ("Alone", "member_line"), ("Faults", "IsFault"),
     ("Faults", "fault_line"), ("Compared", "HasTextBy"), ("Compared", "IsRefusalAloneBy"),
     ("Announced", "kind_in"), ("Announced", "without_event"), ("Announced", "is_wireless_alone"),
-    ("Said", "family_in"))} | {(FRAMES + "Differences", "both_told"), (FRAMES + "Members", "message_forest")}
+    ("Said", "family_in"), ("Known", "key_cmp"), ("Known", "is_key"), ("Known", "is_text"))} | {
+        (FRAMES + file, name) for file, name in (
+            ("Differences", "both_told"), ("Differences", "is_shown_same"), ("Members", "message_forest"),
+            ("Forests", "is_path"), ("Counters", "action_in"))}
 QUOTED = re.compile(r"^```antt\n([\s\S]*?)^```$", re.M)
 STREAM = re.compile(r"^```stream\n([\s\S]*?)^```$", re.M)
 LINK = re.compile(r"link\((?:(\d+):)?(\d+)((?: [^()]*)?)\)")
