@@ -23,6 +23,7 @@ gate() {
 
 libraries() {
     stage 'the text of link_c' scripts/make/dist.sh --compare link_c
+    stage 'link_c by another compiler' scripts/make/dist.sh --by-rattle link_c
     scripts/make/c_library.sh --built
     make -s -o out/library.o out/liblinkwire.a out/liblinkwire.so.0
     stage 'c_tests.sh, with state_live.sh' scripts/test/c_tests.sh out/liblinkwire.a crates/linkdiff/out out

@@ -3,6 +3,7 @@
 # at work, and standard output each verdict.
 #     dist.sh --compare NAME..    makes the texts of these in out/texts, over what the gate left, and compares
 #     dist.sh --against FOLDER NAME..   compares with those that were made
+#     dist.sh --by-rattle NAME    has the toolchain's own compiler make a library
 . "$(dirname "$0")/../common.sh"
 cd "$top"
 read -ra programs <<<"$(sed -n 's/^PROGRAMS = //p' dist/Makefile)"
@@ -48,16 +49,25 @@ is_built() {
     echo "dist: $1: $(wc -l <"$folder/built") instructions, those of the object file that the toolchain made"
 }
 
+# texts NAME TO: text.py in the crate's folder, in one process, as the gate's other scripts run beside it
+texts() {
+    (cd "crates/$1" && python3 "$top/scripts/make/text.py" "$2" 1) >"$folder/log" 2>&1 ||
+        { tail -n 40 "$folder/log" >&2; exit 1; }
+}
+
 case ${1:-} in
 --compare)
     for name in "${@:2}"; do
-        # in one process: the gate's other scripts run beside it
-        (cd "crates/$name" && python3 "$top/scripts/make/text.py" "$top/out/texts" 1) >"$folder/log" 2>&1 ||
-            { tail -n 40 "$folder/log" >&2; exit 1; }
+        texts "$name" "$top/out/texts"
         verdicts "$name"
         compares out/texts "$name"
         is_built "$name"
     done
+    exit
+    ;;
+--by-rattle)
+    texts "$2" --by-rattle
+    sed -n "s/^logic=proved .* target=/dist: $2 by the toolchain's compiler: &/p" "$folder/log"
     exit
     ;;
 --against)

@@ -2,6 +2,8 @@
 the assembly text that the compiler makes of it, as FOLDER/PROCESSOR/NAME.s: text.py FOLDER [JOBS]. What it built for
 x86-64 stays as out/NAME.o, and of a library as out/libNAME.a. JOBS is in how many processes it proves, which the
 toolchain else chooses: one takes the least of the processors, and where these have other work the least time too.
+With --by-rattle in the place of FOLDER it has the toolchain's own compiler make the static library, for x86-64, as
+out/libNAME.by-rattle.a: the gate makes programs a second time, and no library.
 
 It begins with what was kept here, as `rt check` does, and where the toolchain shares kept work between checkouts with
 what was kept there. It stands over the libraries that the gate left; where one lacks it takes them as `rt lib` built
@@ -128,6 +130,12 @@ def write_text(command, crate, arch, to, jobs):
     return 0
 
 
+def build_by_rattle(command, crate, jobs):
+    """Has the toolchain's own compiler make the library."""
+    words = [*crate.words(jobs), "--toolchain", f"{command.KIT}/toolchain", "--backend", "rattle", *command.rtlib.KEPT]
+    return crate.call(command.rtlib.RATTLE, "build", *words, "-o", f"out/lib{crate.name}.by-rattle.a")
+
+
 def shares(command):
     """Whether this toolchain shares what was kept between the checkouts of a machine."""
     return all(hasattr(command, it) for it in ("places_of", "take_rlib", "adopt", "offer"))
@@ -166,7 +174,10 @@ def main(to, *jobs):
     os.makedirs("out", exist_ok=True)
     stamp = crate.stamp()
     jobs = [word for it in jobs for word in ("--jobs", it)]
-    status = next(filter(None, (write_text(command, crate, arch, to, jobs) for arch in targets())), 0)
+    if to == "--by-rattle":
+        status = build_by_rattle(command, crate, jobs)
+    else:
+        status = next(filter(None, (write_text(command, crate, arch, to, jobs) for arch in targets())), 0)
     if shares(command):
         command.offer(crate, None if status else stamp)
     return status

@@ -1,9 +1,9 @@
 #!/usr/bin/env bash
 # Compares what other compilers make of the programs and of the library with what LLVM makes, byte for byte, on the
 # lines of tests/second with each option: compilers.sh [--library] MADE [FOLDER]. MADE has the programs, or the library.
-# The toolchain's own compiler made crates/NAME/out/NAME.by-rattle in the gate, or NAME.by-rattle in FOLDER; of the
-# library the gate has no such build, and one is liblink_c.by-rattle.a there. rustc makes the library that rust/capi
-# has, and scripts/test/erased_tests.sh the programs. What was not built is 'skipped'.
+# The toolchain's own compiler made crates/NAME/out/NAME.by-rattle in the gate, and scripts/make/dist.sh has it make
+# crates/link_c/out/liblink_c.by-rattle.a; with FOLDER both are there. rustc makes the library that rust/capi has, and
+# scripts/test/erased_tests.sh the programs. What was not built is 'skipped'.
 . "$(dirname "$0")/../common.sh"
 cd "$top"
 is_library=
