@@ -72,18 +72,33 @@ __attribute__((constructor)) static void keep(void) {
 WRITTEN = 8  # bytes in front of the marks
 
 
-# calls the program of a test by its name, or that of the lines
-DRIVER = """#include <string.h>
+# calls the program of a test by its name, or that of the lines; the library has the memory of `memory` in that alone
+DRIVER = """#include <stdlib.h>
+#include <string.h>
 int lines_main(int, char **);
 #define TEST(name) int name##_main(int, char **);
 %(tests)s
+static int is_memory;
+void *memory_malloc(size_t), *memory_realloc(void *, size_t);
+void memory_free(void *);
+void *heap_malloc(size_t size) {
+    return is_memory ? memory_malloc(size) : malloc(size);
+}
+void *heap_realloc(void *block, size_t size) {
+    return is_memory ? memory_realloc(block, size) : realloc(block, size);
+}
+void heap_free(void *block) {
+    (is_memory ? memory_free : free)(block);
+}
 #undef TEST
 #define TEST(name) if (strcmp(words[1], #name) == 0) return name##_main(1, words + 1);
 int main(int count, char **words) {
+    is_memory = strcmp(words[1], "memory") == 0;
 %(tests)s
     return lines_main(count, words);
 }
 """
+TAKES = "malloc", "calloc", "realloc", "free"
 
 
 class Run(NamedTuple):
@@ -151,7 +166,7 @@ def said(text, at, new, function):
 def around(name, text, at, new, function):
     """A place as patterns of tests/second/alike.txt have it: its text, its function without the sum behind the name,
     four instructions or labels in front, what becomes of which, and four behind; without names of labels and
-    registers."""
+    registers. The sum comes last, for what is so in one of several functions of a name."""
     def plain(line):
         line = re.sub(r"\.LBB\d+_\d+|\.LJTI\d+_\d+", ".L", " ".join(line.split()))
         return re.sub(r"%[a-z]\w*", "%", line)
@@ -163,8 +178,9 @@ def around(name, text, at, new, function):
                 found.append(plain(text[it]))
             it += step
         return found
-    function = re.sub(r"\.[0-9a-f]{16}(\.\d+)?$", "", function or "")
-    return "; ".join([f"{name} {function}: ", *near(-1)[::-1], f"[{plain(text[at])} -> {plain(new)}]", *near(1)])
+    function, *own = re.split(r"\.([0-9a-f]{16})(?:\.\d+)?$", function or "")
+    return "; ".join([f"{name} {function}: ", *near(-1)[::-1], f"[{plain(text[at])} -> {plain(new)}]", *near(1),
+                      *(f"of {it}" for it in own if it)])
 
 
 def alike():
@@ -184,9 +200,8 @@ def build(name, folder, text, to):
     """What is run of a text, at the path `to`; false where it does not assemble."""
     Path(f"{to}.s").write_text("\n".join(text))
     made = TOP / "out/dist"
-    more = (*Path(folder).glob("test.*.o"),) if name == "link_c" else (*WRAPS, made / "errno.o")
-    return compiles("-c", "-o", f"{to}.o", f"{to}.s") and compiles("-o", to, f"{to}.o", made / "heap.o",
-                                                                  f"{folder}/watch.o", *more)
+    more = (*Path(folder).glob("test.*.o"),) if name == "link_c" else (*WRAPS, made / "errno.o", made / "heap.o")
+    return compiles("-c", "-o", f"{to}.o", f"{to}.s") and compiles("-o", to, f"{to}.o", f"{folder}/watch.o", *more)
 
 
 def prepare(name, folder):
@@ -210,13 +225,15 @@ def prepare(name, folder):
         Path(f"{folder}/driver.c").write_text(DRIVER % {"tests": "".join(f"TEST({it})\n" for it in TESTS)})
         compiles("-c", "-o", f"{folder}/test.driver.o", f"{folder}/driver.c")
         for it in TESTS:
-            compiles(*compiler, f"-Dmain={it}_main", "-c", "-o", f"{folder}/test.{it}.o", TOP / f"tests/c/{it}.c")
+            own = [f"-D{word}=memory_{word}" for word in TAKES] if it == "memory" else []
+            compiles(*compiler, f"-Dmain={it}_main", *own, "-c", "-o", f"{folder}/test.{it}.o", TOP / f"tests/c/{it}.c")
+        other = [f"--redefine-sym={word}=heap_{word}" for word in TAKES]
+        subprocess.run(["objcopy", *other, TOP / "out/dist/heap.o", f"{folder}/test.heap.o"], check=True)
         compiles(*compiler, "-Dmain=lines_main", "-c", "-o", f"{folder}/test.lines.o", TOP / "tests/second/lines.c")
 
 
 PARTS = 8  # of the lines: a mutant runs those that come to it
-# without `memory`, whose malloc would be that of all tests
-TESTS = "calls", "lenient", "lists", "shown", "sizes", "state", "writer"
+TESTS = "calls", "lenient", "lists", "memory", "shown", "sizes", "state", "writer"
 
 
 @functools.lru_cache

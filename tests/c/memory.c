@@ -1,5 +1,6 @@
 /* Refuses each request of the four calls that take memory in turn, with all that come after it and alone: they return
- * LINKWIRE_OUT_OF_MEMORY, and nothing else, and write nothing, until memory is ample, and all memory is given back. The
+ * LINKWIRE_OUT_OF_MEMORY, and nothing else, and write nothing, until memory is ample, and all memory is given back.
+ * Memory is never zero when it is taken, nor kept when it is given back, and nothing is written behind a block. The
  * other functions take none. */
 #include <stdio.h>
 #include <string.h>
@@ -24,15 +25,17 @@ static const uint8_t message[480] = {
     0x64, 0x01, 0xff, 0x00,
 };
 
-/* malloc and its kin, over an arena that is never used twice: a block has its size in the 16 bytes before it. */
+/* malloc and its kin, over an arena that is never used twice: a block has its size in the 16 bytes before it, and
+ * behind it 16 bytes or more that nobody may write. */
+enum { BEHIND = 16, TAKEN = 0xa5, GIVEN = 0x5a };
 static _Alignas(16) unsigned char arena[1 << 20];
 static size_t used;
-static long taken, refused_from = -1, in_use;
+static long taken, refused_from = -1, in_use, spoiled;
 /* Whether the call for memory is refused alone, and those after it succeed. */
 static int alone;
 
 void *malloc(size_t size) {
-    size_t need = (size + 31) / 16 * 16;
+    size_t need = (size + 31) / 16 * 16 + BEHIND;
     int refused = refused_from >= 0 && (alone ? taken == refused_from : taken >= refused_from);
     if (refused || need > sizeof arena - used) {
         taken++;
@@ -43,11 +46,22 @@ void *malloc(size_t size) {
     unsigned char *block = arena + used + 16;
     used += need;
     memcpy(block - 16, &size, sizeof size);
+    memset(block, TAKEN, need - 16);
     return block;
 }
 
 void free(void *block) {
-    in_use -= block != NULL;
+    unsigned char *at = block;
+    size_t size;
+    if (block == NULL) {
+        return;
+    }
+    in_use--;
+    memcpy(&size, at - 16, sizeof size);
+    for (size_t i = 0; i < BEHIND; i++) {
+        spoiled += at[size + i] != TAKEN;
+    }
+    memset(at, GIVEN, size);
 }
 
 void *realloc(void *block, size_t size) {
@@ -105,11 +119,114 @@ static long diff_leniently(void) {
                          LINKWIRE_LENIENT | LINKWIRE_COUNTERS, out, sizeof out);
 }
 
+/* A message of many lists, most of them twice, whose values are other ones in each turn. */
+static uint8_t made[2][4096];
+static size_t made_len[2];
+
+/* Data of a kind, which has a list and a number twice. */
+static void put_data(struct linkwire_writer *to, uint16_t kind, uint32_t turn) {
+    size_t data = linkwire_nest_begin(to, kind), inner;
+    linkwire_put_u32(to, 1, turn);
+    linkwire_put_u32(to, 1, 7);
+    inner = linkwire_nest_begin(to, 47);
+    linkwire_put_u32(to, 1, turn);
+    linkwire_put_u32(to, 1, turn + 1);
+    linkwire_nest_end(to, inner);
+    linkwire_put_u8(to, 99, (uint8_t)turn);
+    linkwire_nest_end(to, data);
+}
+
+static void put_info(struct linkwire_writer *to, uint32_t turn) {
+    size_t info = linkwire_nest_begin(to, 18);
+    linkwire_put_text(to, 1, "bridge");
+    put_data(to, 2, turn);
+    put_data(to, 2, 5);
+    linkwire_put_text(to, 4, turn ? "bond" : "bridge");
+    put_data(to, 5, turn);
+    linkwire_nest_end(to, info);
+}
+
+/* A function of a link: its address, counters, and vlans. */
+static void put_function(struct linkwire_writer *to, uint8_t turn) {
+    uint8_t record[36] = {0, 0, 0, 0, turn};
+    size_t function = linkwire_nest_begin(to, 1), inner;
+    linkwire_put_bytes(to, 1, record, 36);
+    inner = linkwire_nest_begin(to, 8);
+    linkwire_put_u64(to, 0, turn);
+    linkwire_nest_end(to, inner);
+    inner = linkwire_nest_begin(to, 12);
+    for (record[8] = 0; record[8] <= turn; record[8]++) {
+        linkwire_put_bytes(to, 1, record, 16);
+    }
+    linkwire_nest_end(to, inner);
+    linkwire_nest_end(to, function);
+}
+
+/* What two families say; in the first turn some counters are none. */
+static void put_families(struct linkwire_writer *to, uint8_t turn) {
+    uint8_t counters[312];
+    size_t families = linkwire_nest_begin(to, 26), inner = linkwire_nest_begin(to, 10);
+    memset(counters, turn, sizeof counters);
+    linkwire_put_u32(to, 1, 0x80000000);
+    linkwire_put_bytes(to, 2, counters, 200);
+    linkwire_put_bytes(to, 3, counters, turn ? 312 : 0);
+    linkwire_put_bytes(to, 5, counters, 16);
+    linkwire_nest_end(to, inner);
+    inner = linkwire_nest_begin(to, 2);
+    linkwire_put_bytes(to, 1, counters, 132);
+    linkwire_nest_end(to, inner);
+    linkwire_nest_end(to, families);
+}
+
+/* With an alias that is refused in the first turn. */
+static void make(uint8_t turn) {
+    static const uint8_t header[16] = {0, 0, 1, 0, 7, 0, 0, 0, 0x43, 0x10, 1};
+    struct linkwire_writer to = linkwire_writer_at(made[turn], sizeof made[turn], 0);
+    linkwire_put_raw(&to, header, 16);
+    linkwire_put_text(&to, 3, turn ? "eth\"1" : "eth0");
+    put_info(&to, turn);
+    put_info(&to, 1);
+    size_t list = linkwire_nest_begin(&to, 22);
+    put_function(&to, turn);
+    put_function(&to, 3);
+    linkwire_nest_end(&to, list);
+    put_families(&to, turn);
+    list = linkwire_nest_begin(&to, 52);
+    linkwire_put_text(&to, 53, "office");
+    linkwire_put_text(&to, 53, turn ? "a\x1f" : "wlan");
+    linkwire_nest_end(&to, list);
+    linkwire_put_u32(&to, 0x8000 | 99, turn);
+    linkwire_put_text(&to, 20, turn ? "a" : "\xe9");
+    made_len[turn] = to.at;
+}
+
+static long show_made(void) {
+    return linkwire_show(made[1], made_len[1], LINKWIRE_ORDER_BEFORE, 0, out, sizeof out);
+}
+
+static uint32_t made_flags;
+
+/* Without the alias, which is refused, where nothing is read leniently. */
+static size_t old_len(void) {
+    return made_flags & LINKWIRE_LENIENT ? made_len[0] : made_len[0] - 8;
+}
+
+static long diff_made(void) {
+    return linkwire_diff(made[0], old_len(), made[1], made_len[1], LINKWIRE_ORDER_UNKNOWN, made_flags, out, sizeof out);
+}
+
+static long diff_back(void) {
+    return linkwire_diff(made[1], made_len[1], made[0], old_len(), LINKWIRE_ORDER_BEFORE, made_flags, out, sizeof out);
+}
+
 static void turn(void) {
     static const uint8_t more[] = {8, 0, 4, 0, 0xdc, 5, 0, 0, 6, 0, 20, 0, 'a', 0xe9, 0, 0};
     memcpy(turned, message, sizeof message);
     memcpy(turned + sizeof message, more, sizeof more);
 }
+
+/* What a call writes with ample memory. */
+static char wanted[sizeof out];
 
 /* Refuses the first call for memory, then the second, and so on, until no call is refused. */
 static int refuses_from(const char *what, long (*call)(void), long want) {
@@ -122,11 +239,11 @@ static int refuses_from(const char *what, long (*call)(void), long want) {
         if (found == LINKWIRE_OUT_OF_MEMORY && (out[0] != 0x55 || memcmp(out, out + 1, sizeof out - 1) != 0)) {
             return wrong("a call that wrote", at, found);
         }
-        if (in_use != 0) {
-            return wrong("a call that kept memory", at, found);
+        if (in_use != 0 || spoiled != 0) {
+            return wrong("a call that kept memory, or wrote behind it,", at, found);
         }
         if (taken <= at) {
-            return found == want ? 0 : wrong(what, at, found);
+            return found == want && memcmp(out, wanted, sizeof out) == 0 ? 0 : wrong(what, at, found);
         }
         if (found != LINKWIRE_OUT_OF_MEMORY) {
             return wrong(what, at, found);
@@ -135,12 +252,38 @@ static int refuses_from(const char *what, long (*call)(void), long want) {
 }
 
 static int refuses_each(const char *what, long (*call)(void), long want) {
+    used = 0;
+    refused_from = -1;
+    memset(out, 0x55, sizeof out);
+    (void)call();
+    memcpy(wanted, out, sizeof out);
     for (alone = 0; alone <= 1; alone++) {
         if (refuses_from(what, call, want)) {
             return 1;
         }
     }
     return 0;
+}
+
+/* The messages of many lists, by each flag. */
+static int refuses_made(void) {
+    make(0);
+    make(1);
+    refused_from = -1;
+    for (made_flags = 0; made_flags < 4; made_flags++) {
+        used = 0;
+        long there = diff_made(), back = diff_back();
+        if (there <= 1000 || back <= 1000) {
+            return wrong("linkwire_diff of lists", -1, there);
+        }
+        if (refuses_each("linkwire_diff of lists", diff_made, there) ||
+            refuses_each("linkwire_diff of lists, back", diff_back, back)) {
+            return 1;
+        }
+        refused_from = -1;
+    }
+    used = 0;
+    return refuses_each("linkwire_show of lists", show_made, show_made());
 }
 
 /* Calls each function that takes no memory where all memory is refused. */
@@ -205,5 +348,5 @@ int main(void) {
            refuses_each("linkwire_show of a fault", show_fault, fault) ||
            refuses_each("linkwire_show, leniently", show_leniently, kept) ||
            refuses_each("linkwire_diff", diff, changed) ||
-           refuses_each("linkwire_diff, leniently", diff_leniently, changed_kept);
+           refuses_each("linkwire_diff, leniently", diff_leniently, changed_kept) || refuses_made();
 }

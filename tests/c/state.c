@@ -41,9 +41,15 @@ static size_t open_list(struct text *text, unsigned kind) {
     return at;
 }
 
+/* So many of its last bytes are padding of its own, and not of its list. */
+static void close_before(struct text *text, size_t at, size_t padding) {
+    size_t len = text->len - at - padding;
+    text->bytes[at] = (uint8_t)len;
+    text->bytes[at + 1] = (uint8_t)(len >> 8);
+}
+
 static void close_list(struct text *text, size_t at) {
-    text->bytes[at] = (uint8_t)(text->len - at);
-    text->bytes[at + 1] = (uint8_t)((text->len - at) >> 8);
+    close_before(text, at, 0);
 }
 
 /* So many bytes, none of which is zero. */
@@ -153,6 +159,7 @@ struct making {
     const char *first, *first_slave; /* if not null, in front of these */
     size_t len;
     int is_kind_last, has_flags;
+    int is_last; /* nothing stands behind it in any list, and not its padding either */
     const struct text *list; /* if not null, in place of the innermost list */
 };
 
@@ -187,6 +194,10 @@ static void put_place(struct text *text, const unsigned *numbers, const struct m
         put_kinds(text, making);
     }
     put_place(text, numbers + 1, making);
+    if (making->is_last) {
+        close_before(text, at, (4 - making->len % 4) % 4);
+        return;
+    }
     put_other(text);
     if (numbers[0] == LINKINFO && making->is_kind_last) {
         put_kinds(text, making);
@@ -294,6 +305,24 @@ static void clears_lengths(void) {
             make(&text, place, &making);
             if (place->numbers[0] == LINKINFO) {
                 expect_count(place, &making, (long)lengths[i]);
+            } else if (linkwire_check(text.bytes, text.len) == 0) {
+                (void)cleared(__LINE__, &text);
+            }
+        }
+    }
+}
+
+/* So does one that ends its list, where that has no padding behind it. */
+static void clears_ends(void) {
+    for (const struct place *place = places; place < places + PLACES; place++) {
+        for (size_t len = 0; len < 14; len++) {
+            struct making making = as_it_is(place);
+            static struct text text;
+            making.len = len;
+            making.is_last = 1;
+            make(&text, place, &making);
+            if (place->numbers[0] == LINKINFO) {
+                expect_count(place, &making, (long)len);
             } else if (linkwire_check(text.bytes, text.len) == 0) {
                 (void)cleared(__LINE__, &text);
             }
@@ -459,6 +488,7 @@ int main(void) {
     asks_kinds();
     asks_first_kinds();
     clears_lengths();
+    clears_ends();
     stops_at_faults();
     keeps_numbers();
     compares();

@@ -15,10 +15,12 @@
  * of the first row, each row with each length and padding that is not zero, and texts and events that are long. `news`
  * has one of five of `all` as lines for linkdiff, of two interfaces and a host for each place, with ends of interfaces,
  * dumps and losses among them, and `changes` has all of `more` as such lines. `mixed` has messages of all rows in no
- * order, four versions of each, and others of mixed.c; `turns` has them as lines of one interface, `worded` with words
- * in front, and `hosts` has lines of interfaces that come and go in no order. `words` has options that no program has,
- * of all characters but an LF, and some that are no UTF-8. The places and their rows are read of the file that
- * PLACES names, tests/second/places.txt, which check.py makes of the tables in crates/.
+ * order, four versions of each, and others of mixed.c; `turns` has them, but for the last ones, as lines of one
+ * interface, `worded` with words in front, and behind them words that are no UTF-8, and `hosts` has lines of interfaces
+ * that come and go in no order. `words` has options that no program has, of all characters but an LF, and some that are
+ * no UTF-8. `beside` has messages for calls that compare two, of beside.c, and `mixed held` has them too. The places and
+ * their rows are read of the file that PLACES names, tests/second/places.txt, which check.py makes of the tables in
+ * crates/.
  *
  * With -DLINES_ALONE it is built without the library, and has no calls. A file of answers has for WHAT, each place and
  * each kind of answer their count and the CRC-32 of all of them.
@@ -28,6 +30,7 @@
 #include <stdio.h>
 #include <stdlib.h>
 #include <string.h>
+#include <sys/mman.h>
 
 #include "linkwire.h"
 
@@ -643,6 +646,7 @@ static void tell_name(const void *text, size_t len) {
 }
 
 #include "mixed.c"
+#include "beside.c"
 
 /* Texts of bytes and characters that JSON spells otherwise, and of others, in no order. */
 static void tell_mixed(void) {
@@ -852,6 +856,9 @@ static void print_words(void) {
         puts(more[i]);
 }
 
+/* Whether the lines of beside.c come behind those of `mixed`: where all that calls say is told. */
+static bool has_beside;
+
 static void tell_all(const char *set) {
     bool is_wide = strcmp(set, "wide") == 0;
     if (strcmp(set, "digits") == 0) {
@@ -883,7 +890,7 @@ static void tell_all(const char *set) {
             tell(counted, n);
         return;
     }
-    if (strcmp(set, "mixed") == 0) {
+    if (strcmp(set, "mixed") == 0 || strcmp(set, "turns") == 0) {
         alone = places + 6;
         tell_picked();
         tell_addresses();
@@ -895,6 +902,14 @@ static void tell_all(const char *set) {
         tell_turned_data();
         tell_ends();
         tell_filled();
+        if (strcmp(set, "mixed") == 0)
+            tell_more_mixed();
+        if (has_beside)
+            tell_beside();
+        return;
+    }
+    if (strcmp(set, "beside") == 0) {
+        tell_beside();
         return;
     }
     if (!is_wide && strcmp(set, "all") != 0)
@@ -934,7 +949,7 @@ enum { LONG = 1000 };
 
 static bool is_left_out(size_t len) {
     static size_t count;
-    return len > (alone == places + 6 ? 10 * LONG : LONG) || (!alone && (len < 16 || count++ % 5));
+    return len > (alone > places + 5 ? 10 * LONG : LONG) || (!alone && (len < 16 || count++ % 5));
 }
 
 static void print_news(size_t at, const uint8_t *line, size_t len, bool is_text) {
@@ -1064,6 +1079,47 @@ static void print_more(const uint8_t *line, size_t len, uint32_t order) {
                linkwire_state(line, len, (uint8_t *)out, (size_t)(length - less)));
 }
 
+/* One of three rooms for some bytes in front of memory that nobody may read: what goes on behind them fails. */
+static uint8_t *in_front(size_t len, size_t which) {
+    enum { LIMIT = 65536, MADE = 4 * ROOM };
+    static uint8_t *made[3];
+    uint8_t **at = made + which;
+    if (!*at) {
+        *at = mmap(NULL, MADE + LIMIT, PROT_READ | PROT_WRITE, MAP_PRIVATE | MAP_ANONYMOUS, -1, 0);
+        if (*at == MAP_FAILED || mprotect(*at + MADE, LIMIT, PROT_NONE) != 0)
+            fail("no memory");
+    }
+    return *at + MADE - len;
+}
+
+/* What changed from one message to another, by each flag, there and back; and in room for just that, or a byte less. */
+static void print_changes(struct bytes before, struct bytes line, uint32_t turn) {
+    static char out[4 * LINKWIRE_GROWTH * MOST];
+    uint32_t order = turn % 3, own = turn / 3 % 4;
+    ptrdiff_t room = 0;
+    for (uint32_t flags = 0; flags < 4; flags++) {
+        print_json(linkwire_diff(line.at, line.len, before.at, before.len, order, flags, out, sizeof out), out);
+        ptrdiff_t there = linkwire_diff(before.at, before.len, line.at, line.len, order, flags, out, sizeof out);
+        print_json(there, out);
+        room = flags == own ? there : room;
+    }
+    for (ptrdiff_t less = room > 0 && room < 4096 ? 0 : 2; less < 2; less++) {
+        size_t size = (size_t)(room - less);
+        char *just = memset(in_front(size, 2), 0, size);
+        printf(" %td", linkwire_diff(before.at, before.len, line.at, line.len, order, own, just, size));
+        printf(" %08x", (unsigned)crc(0, just, size));
+    }
+    ptrdiff_t length = linkwire_canonical_lenient_len(line.at, line.len);
+    for (ptrdiff_t less = length < 0 ? 2 : 0; less < 2; less++) {
+        size_t size = (size_t)(length - less);
+        uint8_t *just = memset(in_front(size, 2), 0x55, size);
+        printf(" %td", linkwire_canonical_lenient(line.at, line.len, just, size));
+        printf(" %08x", (unsigned)crc(0, (char *)just, size));
+        printf(" %td", linkwire_state_lenient(line.at, line.len, just, size));
+        printf(" %08x", (unsigned)crc(0, (char *)just, size));
+    }
+}
+
 /* What the calls that are no second reader's say: of a message, and of the one that was taken before it. */
 static void print_held(size_t at, const uint8_t *line, size_t len, bool is_text) {
     static char out[4 * LINKWIRE_GROWTH * MOST];
@@ -1093,6 +1149,9 @@ static void print_held(size_t at, const uint8_t *line, size_t len, bool is_text)
                refusal.attribute.kind, refusal.attribute.payload_len, refusal.path.at);
     if (alone == places + 6)
         print_more(line, len, order);
+    if (alone == places + 7)
+        print_changes((struct bytes){before_len, memcpy(in_front(before_len, 0), before, before_len)},
+                      (struct bytes){len, memcpy(in_front(len, 1), line, len)}, turn);
     putchar('\n');
     memcpy(before, line, len);
     before_len = len;
@@ -1177,6 +1236,13 @@ static void add_answer(size_t at, const uint8_t *line, size_t len, bool is_text)
     to->crc = crc(crc(to->crc, answer, length), "\n", 1);
 }
 
+/* Whether a set whose place is this one, or that has many, has lines of a place. `mixed` has those of beside.c. */
+static bool is_of(size_t own, size_t at) {
+    if (own)
+        return at == own || (own == places + 6 && at == places + 7);
+    return at != places + 3 && at < places + 5;
+}
+
 /* Says where the sums are not those that a file has of WHAT, for the places of this set. */
 static int compare(const char *what, const char *name, const char *set) {
     static bool seen[sizeof sum / sizeof *sum];
@@ -1194,7 +1260,7 @@ static int compare(const char *what, const char *name, const char *set) {
         fail("no file of answers");
     while (fgets(line, sizeof line, file)) {
         if (sscanf(line, "%31s %zu %23s %lu %x", name_of, &at, kind, &count, &number) != 5 ||
-            strcmp(name_of, what) != 0 || (own ? at != own : at == places + 3 || at == places + 5 || at == places + 6))
+            strcmp(name_of, what) != 0 || !is_of(own, at))
             continue;
         struct sum *found = NULL;
         for (size_t i = 0; i < sums; i++)
@@ -1244,13 +1310,16 @@ int main(int count, char **words) {
     is_json = strncmp(what, "linkdiff", 8) == 0 || strncmp(what, "linkshow-whole", 14) == 0;
     is_show = !is_json && strncmp(what, "linkshow", 8) == 0;
     is_held = strcmp(what, "held") == 0;
+    has_beside = is_held || strcmp(mode, "held") == 0;
     bool is_alone = is_worded || strncmp(what, "linkdiff", 8) == 0;
     for (here = places + 4; count > 3 && is_alone && !is_over;)
         add_answer(here, NULL, 0, false);
     if (!is_over)
-        tell_all(is_more ? "more" : is_mixed ? "mixed" : is_news ? "all" : set);
+        tell_all(is_more ? "more" : is_mixed ? "turns" : is_news ? "all" : set);
     if (is_more && count == 2)
         print_many();
+    if (is_worded && count == 2)
+        print_no_texts();
     if (count > 4 && strcmp(mode, "compare") == 0)
         return compare(words[3], words[4], set);
     for (size_t i = 0; i < sums; i++)

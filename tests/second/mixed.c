@@ -417,6 +417,138 @@ static void tell_filled(void) {
     }
 }
 
+/* Each row of a message with each length, behind a name that is not written as it is spelled, so that nothing is copied
+ * at once. */
+static void tell_behind_name(void) {
+    for (here = 0; here < places; here++)
+        for (size_t i = 0; !place[here].deep && is_first() && i < table[place[here].table].rows; i++) {
+            struct row row = table[place[here].table].row[i];
+            size_t most = row.form == 'l' ? 4 : row.of + 9;
+            for (size_t size = 0; size < most; size += size < 17 || size + 9 > row.of ? 1 : 8) {
+                struct bytes payload = pattern(size);
+                size_t len = put(built, 3, (const uint8_t *)"a", 1, 0);
+                tell_in(built, len + put(built + len, row.number, payload.at, size, 0), "", 0);
+                free(payload.at);
+            }
+        }
+}
+
+/* Names that do not fit, in front of an attribute that has no payload. */
+static void tell_unfit_in_front(void) {
+    enum { NAMES_OF_LINK = 16382 };
+    static uint8_t list[4 * NAMES_OF_LINK];
+    for (size_t i = 0; i < NAMES_OF_LINK; i++)
+        memcpy(list + 4 * i, (uint8_t[]){4, 0, 53, 0}, 4);
+    for (unsigned number = 3; number < 80; number += 76) {
+        size_t len = put(built, 52, list, sizeof list, 0);
+        tell_of(0, built, len + put(built + len, number, list, 0, 0));
+    }
+}
+
+/* The kinds of a link, each with data, counters and data of a port twice, of which the counters have the size of those
+ * of CAN, or another one. */
+static void tell_kinds_twice(void) {
+    static uint8_t info[1 << 15], list[1 << 14];
+    for (size_t own = 0; own < kinds; own++)
+        for (uint32_t n = 0; kind[own].sort == 'k' && n < 8; n++) {
+            size_t port = 0, at = 0;
+            for (size_t skips = own + n; kind[port].sort != 'p' || skips-- > 0;)
+                port = (port + 1) % kinds;
+            at += put(info, 1, (const uint8_t *)kind[own].name, strlen(kind[own].name), 0);
+            at += put(info + at, 4, (const uint8_t *)kind[port].name, strlen(kind[port].name), 0);
+            for (uint32_t i = 0; i < 2; i++) {
+                struct bytes counters = pattern(24 - (n >> i & 1));
+                at += put(info + at, 2, list, pick_list(list, seed_of(n, i), kind[own].table), 0);
+                at += put(info + at, 3, counters.at, counters.len, 0);
+                if (n & 4)
+                    at += put(info + at, 5, list, pick_list(list, seed_of(n, i), kind[port].table), 0);
+                free(counters.at);
+            }
+            tell_of(0, built, put(built, 18, info, at, 0));
+        }
+}
+
+/* Kinds of ports, and profiles of ports, in which one byte is no character, at each place; kinds once and twice. */
+static void tell_no_texts(void) {
+    static uint8_t list[512], text[128];
+    for (size_t len = 1; len < 70; len += len < 34 ? 1 : 15)
+        for (size_t at = 0; at < len; at++) {
+            memset(text, '0', sizeof text);
+            text[at] = 0x80;
+            size_t one = put(list, 4, text, len, 0), two = one + put(list + one, 4, text, len, 0);
+            tell_of(0, built, put(built, 18, list, one, 0));
+            tell_of(0, built, put(built, 18, list, two, 0));
+            tell_of(0, built, put(built, 25, list, put(list, 2, text, len, 0), 0));
+        }
+}
+
+/* A message of texts, as names that come again or in a list: its attributes, how many bytes of its answer there are,
+ * and where the room of a page ends, which begins with 8,192 bytes and grows by 512. */
+static struct edged {
+    uint8_t body[1 << 16];
+    size_t len, shown, edge;
+    bool is_list;
+} edged;
+
+enum { EDGE_FROM = 8192, EDGE_STEP = 512, EDGE_LAST = 57344 };
+
+/* Adds a text, which has so many bytes in an answer. */
+static void add_edged(const uint8_t *text, size_t len, size_t shown) {
+    edged.len += put(edged.body + edged.len, edged.is_list ? 53 : 3, text, len, 0);
+    edged.shown += shown + (edged.is_list ? 3 : 14);
+}
+
+/* Tells what was added, and begins again; in front of it what is longer than the room that is kept. */
+static void tell_edged(bool is_list) {
+    static uint8_t name[11000];
+    memset(name, 0x1a, sizeof name);
+    tell_name(name, sizeof name);
+    if (edged.is_list)
+        tell_of(0, built, put(built, 52, edged.body, edged.len, 0));
+    else
+        tell_of(0, edged.body, edged.len + put(edged.body + edged.len, 3, name, 0, 0));
+    /* what stands in front of a comma before the first text */
+    edged.len = 0, edged.shown = is_list ? 99 : 96, edged.edge = EDGE_FROM, edged.is_list = is_list;
+}
+
+/* Adds a text that has so many bytes of room, and in front of it one that fills the others. */
+static void add_at_edge(const uint8_t *text, size_t len, size_t shown, size_t left) {
+    static uint8_t filled[EDGE_FROM];
+    size_t fill = edged.edge - left - edged.shown - (edged.is_list ? 4 : 25);
+    memset(filled, 'a', fill);
+    add_edged(filled, fill, fill);
+    add_edged(text, len, shown);
+    edged.edge += EDGE_STEP;
+    if (edged.edge > EDGE_LAST)
+        tell_edged(edged.is_list);
+}
+
+/* Texts of each length, one byte of which is spelled otherwise, where the room ends in them. */
+static void tell_edges(void) {
+    static const struct { uint8_t byte; size_t shown; } bytes[] = {{'"', 2}, {'\\', 2}, {0x1f, 6}, {0x7f, 6}};
+    uint8_t text[64];
+    tell_edged(false);
+    for (int is_list = 0; is_list < 2; is_list++) {
+        for (size_t len = 1; len < 36; len += len < 18 ? 1 : 5)
+            for (size_t at = 0; at < len; at++)
+                for (size_t i = 0; i < 4; i++) {
+                    memset(text, 'b', len);
+                    text[at] = bytes[i].byte;
+                    add_at_edge(text, len, len - 1 + bytes[i].shown, 1 + (at + i) % (len + 1));
+                }
+        tell_edged(true);
+    }
+}
+
+/* What `mixed` has, and `turns` and `worded` have not. */
+static void tell_more_mixed(void) {
+    tell_behind_name();
+    tell_unfit_in_front();
+    tell_kinds_twice();
+    tell_no_texts();
+    tell_edges();
+}
+
 static const char *const releases[] = {
     "6.12.0", "6.13", "6.15.9", "6.16", "6.17", "5.99", "7.0", "60.1", "06.012", "6.120", "6.1", "6.", ".12", "6", "",
     "x", "6.x", "6x.12", "6.12x", "6.13x", "6.16-rc1", "06.16", "16.6", "5.16", "6.0", "6.9", "6.19", "6.99", "9.0",
@@ -466,6 +598,253 @@ static size_t pick_words(char *to, uint32_t seed) {
     return len;
 }
 
+/* ** lines of hosts that are made for what linkdiff compares and refuses */
+
+enum { WAYS = 7 };
+static const unsigned steps[] = {1, 3, 4, 6};  /* from one way to the one beside it */
+
+static void print_of_one(size_t at, const uint8_t *line, size_t len, bool is_text) {
+    (void)at, (void)is_text;
+    printf("host=one %s\n", hex(line, len));
+}
+
+/* A list with a row once, twice, empty behind it or in front of it, among others, or without it. */
+static size_t put_way(uint8_t *to, unsigned of, size_t i, unsigned way) {
+    struct row row = table[of].row[i], next = table[of].row[(i + 1) % table[of].rows];
+    size_t len = 0;
+    if (way == 3 || way == 5)
+        len += put(to, 79, counted, 3, 0);
+    if (way == 6)
+        len += put_picked(to, 2, next);
+    if (way == 2 || way == 4)
+        len += put_picked(to + len, 1, row);
+    if (way == 2)
+        len += put(to + len, row.number, counted, 0, 0);
+    if (way > 0)
+        len += put_picked(to + len, 2 + way % 2, row);
+    if (way == 1 || way == 4)
+        len += put(to + len, 79, counted, 5, 0);
+    if (way == 5)
+        len += put(to + len, row.number, counted, 0, 0);
+    if (way == 6)
+        len += put_picked(to + len, 1, next);
+    return len;
+}
+
+/* Attributes of a message with a list of link data: of a kind, of ports, or of a family. */
+static size_t put_data(uint8_t *to, size_t own, const uint8_t *list, size_t len) {
+    static uint8_t info[4096];
+    unsigned number = kind[own].sort == 'p' ? 4 : 1;
+    if (kind[own].sort == 'h')
+        return put(to, kind[own].number, list, len, 0);
+    if (kind[own].sort == 'v')
+        return put(to, 24, info, put(info, 1, list, len, 0), 0);
+    size_t at = put(info, number, (const uint8_t *)kind[own].name, strlen(kind[own].name), 0);
+    at += put(info + at, number + 1, list, len, 0);
+    return put(to, 18, info, at, 0);
+}
+
+/* Tells of attributes with a counter behind them, so that both encodings are shown as it goes; without it; and in front
+ * of one that is refused. */
+static void tell_thrice(unsigned family, uint8_t *body, size_t len) {
+    static const uint8_t carrier[] = {1, 0, 0, 0};
+    tell_of(family, body, len + put(body + len, 35, carrier, 4, 0));
+    tell_of(family, body, len);
+    tell_of(family, body, len + put(body + len, 4, carrier, 3, 0));
+}
+
+/* Each way of each row of a table of link data, also of the lists in it, beside four other ones. */
+static void tell_ways_of(size_t own, unsigned of, unsigned within) {
+    static uint8_t list[2048], body[8192];
+    for (size_t i = 0; i < table[of].rows; i++) {
+        for (unsigned step = 0; step < 4; step++)
+            for (unsigned n = 0; n < WAYS; n++) {
+                size_t len = put_way(list, of, i, n * steps[step] % WAYS);
+                if (within)
+                    len = put(list, within, list, len, 0);
+                len = put_data(body, own, list, len);
+                if (step == 0)
+                    tell_thrice(kind[own].family, body, len);
+                else
+                    tell_of(kind[own].family, body, len);
+            }
+        if (!within && table[of].row[i].form == 'l')
+            tell_ways_of(own, table[of].row[i].of, table[of].row[i].number);
+    }
+}
+
+/* The same of the tables of messages, those of the outermost lists for one family. */
+static void tell_ways(void) {
+    static uint8_t list[2048];
+    for (here = 0; here < places; here++)
+        for (size_t i = 0; is_first() && (place[here].deep || !here) && i < table[place[here].table].rows; i++)
+            for (unsigned step = 0; step < 4; step++)
+                for (unsigned n = 0; n < WAYS; n++) {
+                    size_t len = put_way(list, place[here].table, i, n * steps[step] % WAYS);
+                    if (step == 0)
+                        tell_in(list, len, "\x8\0\x23\0\1\0\0", 8);
+                    tell_in(list, len, "", 0);
+                    if (step == 0)
+                        tell_in(list, len, "\7\0\4\0abc", 8);
+                }
+    for (size_t own = 0; own < kinds; own++)
+        if (own == 0 || kind[own].table != kind[own - 1].table)
+            tell_ways_of(own, kind[own].table, 0);
+}
+
+/* Texts of ports, which nothing checks, with a byte in each place that is no character, or with a character of two. */
+static void tell_profiles(void) {
+    static const size_t sizes[] = {1, 2, 3, 4, 5, 7, 8, 9, 12, 15, 16, 17, 20, 24, 31, 32, 33, 47, 48, 64, 65, 95};
+    static uint8_t text[128], list[256], body[512];
+    for (size_t k = 0; k < sizeof sizes / sizeof *sizes; k++)
+        for (size_t at = 0; at < sizes[k]; at++)
+            for (int n = 0; n < 3; n++) {
+                memset(text, n ? 'a' : 'b', sizeof text);
+                memcpy(text + at, (const char *[]){"\xff", "\x80", "\xc3\xa9"}[n], n < 2 ? 1 : 2);
+                size_t len = put(list, 2, text, sizes[k], 0);
+                len = put(list, 1, list, len, 0);
+                tell_of(0, body, put(body, 24, list, len, 0));
+                if (n == 0)
+                    printf("time=%.*s type=lost\n", (int)sizes[k], (const char *)text);
+            }
+}
+
+/* Events whose length takes two bytes, in front of an attribute that is refused. */
+static void tell_events_before(void) {
+    static uint8_t body[1024];
+    for (unsigned n = 260; n < 272; n++)
+        for (unsigned over = 0; over < 3; over++) {
+            uint8_t event[300] = {0xff, 0xfe, 7, 0x8c, [8] = (uint8_t)(n - 8 - over), (uint8_t)((n - 8 - over) >> 8)};
+            size_t len = put(body, 11, event, n + 8, 0);
+            tell_of(0, body, len + put(body + len, 4, event, 3, 0));
+        }
+}
+
+/* Dumps with names of each length, and of ever more families of a host, of which interfaces come and go. */
+static void print_dumps_named(void) {
+    static char name[72];
+    memset(name, '1', sizeof name);
+    for (int n = 0; n < 72; n++)
+        for (int is_done = 0; is_done < 2; is_done++)
+            printf("host=q type=%s seq=%.*s port=%.*s\n", is_done ? "done family=0" : "begin", n, name, 71 - n, name);
+    for (unsigned n = 0; n < 70; n++) {
+        printf("host=w type=begin seq=1 port=1\nhost=w type=done seq=1 port=1 family=%u\n", 7 * n % 256);
+        for (unsigned i = 0; i < 4; i++) {
+            unsigned family = 7 * (unsigned[]){0, n / 2, n, n + 1}[i] % 256;
+            printf("host=w %02x000100040000000000000000000000\n", family);
+            printf("host=w type=del %02x000100040000000000000000000000\n", family);
+        }
+    }
+}
+
+/* Messages that are refused, and show in front of the fault more than a page has room for at first: the room ends in
+ * each of their addresses and numbers. */
+static void tell_filled_before(void) {
+    static const uint8_t octets[24] = {100, 10, 9, 99, 255, 1, 199, 101, [18] = 255, 255, 100, 10, 99, 0};
+    static uint8_t rest[1024], body[8192], list[256];
+    size_t gre = 0, ip6gre = 0, len = 0;
+    for (size_t own = 0; own < kinds; own++) {
+        gre = strcmp(kind[own].name, "gre") == 0 ? own : gre;
+        ip6gre = strcmp(kind[own].name, "ip6gre") == 0 ? own : ip6gre;
+    }
+    len += put(rest, 1, octets, 6, 0);
+    len += put(rest + len, 23, octets, 64, 0);
+    size_t at = put(list, 6, octets, 4, 0);
+    at += put(list + at, 7, octets + 4, 4, 0);
+    len += put_data(rest + len, gre, list, at);
+    at = put(list, 6, octets + 8, 16, 0);
+    at += put(list + at, 7, octets + 4, 16, 0);
+    len += put_data(rest + len, ip6gre, list, at);
+    len += put(rest + len, 4, octets, 3, 0);
+    for (size_t fill = 8192 - 1200; fill < 8192; fill += 7) {
+        memset(body + 4, 0x1a, fill / 6);
+        memset(body + 4 + fill / 6, 'a', fill % 6);
+        at = put(body, 3, body + 4, fill / 6 + fill % 6, 0);
+        memcpy(body + at, rest, len);
+        tell_of(0, body, at + len);
+    }
+}
+
+/* Each attribute that is refused, and behind it a name that does not fit: leniently the name alone is. */
+static void tell_unfit_behind(void) {
+    static uint8_t body[ROOM];
+    for (size_t i = 0; i < 3; i++) {
+        size_t len = put(body, (unsigned[]){4, 18, 26}[i], (const uint8_t *)"\3\0\1", 3, 0);
+        memset(counted, 'a', sizeof counted);
+        tell_of(0, body, len + put(body + len, 3, counted, MOST, 0));
+    }
+}
+
+/* Ends of dumps whose family is said by such a word: behind each an interface comes again, if one ended. */
+static void print_families(void) {
+    static const char *const families[] = {
+        "0", "00", "000", "0000", "00000", "0000000", "00000000", "000000000000", "000000000000000", "0000000000000000",
+        "00000000000000000", "0000000000000000000000000000000", "00000000000000000000000000000000",
+        "000000000000000000000000000000000000000000000000000000000000000000", "+0", "+", "-0", "-", "0x0", "256", "512",
+        "4294967296", "18446744073709551616", "0\xff", "\xff""0", "0\xc3\xa9", "\xc3\xa9", "00\xff""0", "0000\xff",
+        "\xff""0000000", "0000\xff""000", "00000000\xff", "0000000000\xff""00000", "\xc3\xa9""00000000000",
+        "00000000000000000000\xff", "0000000000000000000\xc3\xa9", "000000000000000000000000000000000000\xff",
+        "00000000000000000000000000000000000000000000000000000000000000000000\xff", "00000000007", "7", "07", "10"};
+    for (size_t i = 0; i < sizeof families / sizeof *families; i++) {
+        for (int family = 0; family < 3; family++)
+            printf("host=f %s000100050000000000000000000000\n", (const char *[]){"00", "07", "0a"}[family]);
+        printf("host=f type=begin seq=%zu port=\nhost=f type=done seq=%zu port= family=%s\n", i, i, families[i]);
+    }
+}
+
+/* Words that are told, of each character and of lengths at the edges, in front of what comes, is refused or lost. */
+static void print_told(void) {
+    static const size_t sizes[] = {1, 2, 3, 4, 7, 8, 9, 15, 16, 17, 31, 32, 33, 40, 63, 64, 65, 100, 300};
+    static const char *const keys[] = {"host", "time", "type"};
+    static const char *const says[] = {"00000100060000000000000000000000", "zz", "type=lost",
+                                       "07000100060000000000000000000000",
+                                       "0000010006000000000000000000000007000400616263"};
+    static char value[512];
+    for (uint32_t seed = 0; seed < 1200; seed++) {
+        size_t len = sizes[pick(seed, 0, sizeof sizes / sizeof *sizes)];
+        memset(value, 'a', sizeof value);
+        for (uint32_t n = pick(seed, 1, 3); n > 0; n--) {
+            const char *part = parts[pick(seed, 2 + n, PARTS)];
+            size_t more = strlen(part), at = pick(seed, 10 + n, (uint32_t)len);
+            memcpy(value + at, *part == '\n' || *part == '\t' ? "\xff" : part, more);
+        }
+        printf("%s=%.*s %s%.*s %s\n", keys[seed % 3], (int)len, value, seed & 4 ? "x= host=" : "x=", (int)len % 7,
+               value, says[pick(seed, 20, 5)]);
+    }
+}
+
+/* Lines of many hosts with names of many lengths, which come and are forgotten in no order. */
+static void print_many_hosts(void) {
+    static char name[160];
+    memset(name, 'a', sizeof name);
+    for (uint32_t seed = 0; seed < 5000; seed++) {
+        uint32_t of = pick(seed, 3000, seed < 3000 ? 400 : 60), what = pick(seed, 3001, 12);
+        printf("host=%.*s%u ", (int)(of * 7 % 150), name, of);
+        if (what == 0)
+            printf("type=begin seq=%u port=7\n", of);
+        else if (what == 1)
+            printf("type=%s\n", of % 8 ? "lost" : "done seq=1 port=7 family=0");
+        else if (what == 2)
+            puts("00");
+        else
+            printf("type=%s 0000010001000000000000000000000008000400%02x000000\n", what < 8 ? "del" : "new", what);
+    }
+}
+
+/* What is behind the lines of hosts in no order. */
+static void print_made(void) {
+    take = print_of_one;
+    print_many_hosts();
+    tell_profiles();
+    tell_events_before();
+    print_dumps_named();
+    tell_filled_before();
+    tell_unfit_behind();
+    print_families();
+    print_told();
+    tell_ways();
+}
+
 /* Counters of IPv6, whose order a word `kernel` decides. */
 static void print_releases(void) {
     struct bytes counters = pattern(312);
@@ -476,6 +855,17 @@ static void print_releases(void) {
     for (size_t i = 0; i < sizeof releases / sizeof *releases; i++)
         printf("kernel=%s %032d%s\n", releases[i], 0, hex(body, len));
     free(counters.at);
+}
+
+/* Words whose value, or whose key, has a byte that is no character, at each place. */
+static void print_no_texts(void) {
+    static char text[128];
+    for (int len = 1; len < 70; len += len < 34 ? 1 : 15)
+        for (int at = 0; at < len; at++) {
+            memset(text, '0', sizeof text);
+            text[at] = (char)0x80;
+            printf("k=%.*s\n%.*s=v k=v\n", len, text, len, text);
+        }
 }
 
 /* An interface in a dump whose line says this of it. */
@@ -544,4 +934,5 @@ static void print_hosts(void) {
             puts(hex(built, len));
         }
     }
+    print_made();
 }

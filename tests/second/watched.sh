@@ -129,10 +129,22 @@ fails() {
     row "$what, failing"
 }
 
+# one INPUT WORD..: a run of which standard output is summed apart from standard error
+one() {
+    from=$1 status=0
+    shift
+    LD_PRELOAD=./watch WATCH_TOLD=told ./program "$@" <"$from" 2>>said >out || status=$?
+    echo "status $status, $(cksum <out)" >>said
+}
+
 input=$stored/stdin
 [ -e "$input" ] || input=/dev/null
 if [ "$name" = linkdiff ]; then
     head -n 12 "$streams" >few
+    # an interface with a kind, without one, and with another
+    for it in 0c00120008000100766c616e 0500030061000000 0500030062000000 0c00120008000100626f6e64 0500030063000000; do
+        echo "host=k 00000100010000000000000000000000$it"
+    done >kinds
 else
     awk 'NR % 1500 == 1 && length($0) < 500' "$sets/more" | cat "$input" - >few
 fi
@@ -170,6 +182,26 @@ refuses 'its help' 1 4 /dev/null --help
 fails 'its help' /dev/null --help
 pieces 'its help' /dev/null --help
 fails 'its version' /dev/null --version
+# a word that is no UTF-8, and a line without an end, where a write fails by other errors or memory is refused
+printf 00 >open
+: >said
+: >told
+one /dev/null "$(printf '\377')"
+for error in 1 11 28 122 123 133; do
+    WATCH_FAILS="write 1 $error"
+    export WATCH_FAILS
+    one open
+    one open --lenient
+    one /dev/null --help
+done
+unset WATCH_FAILS
+for WATCH_REFUSES in 1 2 3 4 5 6 7 8 9 10; do
+    export WATCH_REFUSES
+    one open
+    one open --lenient
+done
+unset WATCH_REFUSES
+row 'of a line without an end'
 number_of=0
 while IFS= read -r line; do
     printf '%s\n' "$line" >one
@@ -191,6 +223,8 @@ linkdiff)
     refuses few 1 70 few
     refuses streams 131 4300 "$streams"
     refuses files 1 90 /dev/null few few
+    refuses kinds 1 60 kinds
+    refuses 'kinds in files' 1 50 /dev/null kinds kinds
     fails few few
     fails files /dev/null old new
     ;;
