@@ -18,8 +18,8 @@
  * order, four versions of each, and others of mixed.c; `turns` has them, but for the last ones, as lines of one
  * interface, `worded` with words in front, and behind them words that are no UTF-8, and `hosts` has lines of interfaces
  * that come and go in no order. `words` has options that no program has, of all characters but an LF, and some that are
- * no UTF-8. `beside` has messages for calls that compare two, of beside.c, and `mixed held` has them too. The places and
- * their rows are read of the file that PLACES names, tests/second/places.txt, which check.py makes of the tables in
+ * no UTF-8. `beside` has messages for calls that compare two, of beside.c, and `mixed held` has them too. The places
+ * and their rows are read of the file that PLACES names, tests/second/places.txt, which check.py makes of the tables in
  * crates/.
  *
  * With -DLINES_ALONE it is built without the library, and has no calls. A file of answers has for WHAT, each place and
