@@ -195,10 +195,12 @@ for error in 1 11 28 122 123 133; do
     one /dev/null --help
 done
 unset WATCH_FAILS
-for WATCH_REFUSES in 1 2 3 4 5 6 7 8 9 10; do
+WATCH_REFUSES=1
+while [ "$WATCH_REFUSES" -le 10 ]; do
     export WATCH_REFUSES
     one open
     one open --lenient
+    WATCH_REFUSES=$((WATCH_REFUSES + 1))
 done
 unset WATCH_REFUSES
 row 'of a line without an end'
