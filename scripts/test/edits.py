@@ -17,8 +17,9 @@ to each other.
 --fit says which edits of the lists (of all lists and of the gate's, in must-fail/, where none is named) do not fit
 their crate's files any more; where none is named, also whether the table of edits/README.md is as --table makes it,
 and which edit has no goal there.
---table makes the table of edits/README.md anew: a row for each edit of must-fail/ and tests/edits/, with the function
-in which its text stands. The goal of an edit is written into its row by hand, and stays there.
+--table makes the table of edits/README.md anew: a row for each edit of must-fail/ and tests/edits/ and of the groups
+'== the first to try', with the function in which its text stands. The goal of an edit is written into its row by hand,
+and stays there.
 --apply makes one edit in the files of a crate's folder.
 """
 
@@ -33,6 +34,7 @@ MADE = re.compile(r"(?<=<!-- made by scripts/test/edits.py --table -->\n).*?(?=<
 TABLE = "| edit | stands in | goal that stays open | tried in |\n|---|---|---|---|\n"
 NO_GOAL = "?"
 GROUP = re.compile(r"== \S.*\n")
+FIRST = re.compile(r"(?<=\n== the first to try\n\n).*?(?=\n== |\Z)", re.S)
 EDIT = re.compile(r"(?!file:|old:|new:|[#=])(?=.*[a-zA-Z0-9]).{1,120}\n"
                   r"(file: (src|specs|proofs)/\S+\n(old: .*\S.*\nnew:( .*)?\n)+)+")
 FORM = "an edit below a group is its headline, and then lines 'file: PATH' with pairs of lines 'old: TEXT', 'new: TEXT'"
@@ -154,11 +156,17 @@ def places(lines, crate):
     return ", ".join(f"`{it}`" for it in sorted(found) if it)
 
 
-def edits_of_gate():
-    """Yields the edits that the gate and `make check` try: where, name, and the functions that hold their texts."""
+def edits_to_list():
+    """Yields the edits that the gate and `make check` try, and those that lists have to be tried first: where, name,
+    and the functions that hold their texts."""
     for path in sorted(glob.glob(f"{TOP}/crates/*/must-fail/*.edit")):
         crate = os.path.dirname(os.path.dirname(path))
         yield os.path.basename(crate), f"`{os.path.basename(path)[: -len('.edit')]}`", places(lines_of(path), crate)
+    for path in sorted(glob.glob(f"{TOP}/edits/*.txt")):
+        for paragraph in "".join(FIRST.findall(text_of(path))).split("\n\n"):
+            headline, *lines = paragraph.strip("\n").split("\n")
+            if lines:
+                yield f"edits/{crate_name(path)}", headline, places(lines, crate_of(path))
     for path in sorted(glob.glob(f"{TOP}/tests/edits/*.txt")):
         for headline, lines in read(path):
             yield "tests/edits", headline, places(lines, crate_of(path))
@@ -170,14 +178,18 @@ def page_as_made():
     rows = [[it.strip() for it in row.strip("|").split(" | ")] for row in page.split("\n") if row.count(" | ") == 3]
     goals = {(where.strip("`"), edit): goal for edit, _, goal, where in rows}
     table = TABLE + "".join(f"| {edit} | {names} | {goals.get((where, edit), NO_GOAL)} | `{where}` |\n"
-                            for where, edit, names in edits_of_gate())
+                            for where, edit, names in edits_to_list())
     return page, MADE.sub(lambda _: table, page)
 
 
 # ** what fits
 
+def crate_name(path):
+    return os.path.basename(path).removesuffix(".txt")
+
+
 def crate_of(path):
-    return f"{TOP}/crates/{os.path.basename(path).removesuffix('.txt')}"
+    return f"{TOP}/crates/{crate_name(path)}"
 
 
 def unfit(title, crate, edits):
