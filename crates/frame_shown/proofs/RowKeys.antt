@@ -1,7 +1,7 @@
 -- The names of this crate's rows are keys.
 use Rattle.std.proofs.Common.{◌≡◌, ℕ, zero, suc, Bool, true, false, List, [], ◌∷◌, refl, map, ◌==◌, ◌&&◌, get_or}
-use Rattle.std.proofs.Common.{subst, sym}
-use Rattle.std.specs.Prelude.{Option, None, Some, cond, nat_lt, codes}
+use Rattle.std.proofs.Common.{ap, subst, sym}
+use Rattle.std.specs.Prelude.{Option, None, Some, IfSome, cond, nat_lt, codes}
 use Rattle.std.specs.List.{find}
 use Rattle.shown.specs.Keys.{IsKey, AreKeys, is_key, are_keys}
 use Rattle.link_info.specs.Tables.{row_at}
@@ -22,7 +22,7 @@ use Rattle.frame_shown.specs.declared.form.Way.TheVariants as Ways
 use Rattle.frame_shown.specs.declared.tables.TheConstants.{KERNEL_NAMES, MESSAGE}
 use Rattle.frame_shown.specs.Tables.{Known, Rows, no_row, rows_in, row_by, row_found, row_of_list, styled, is_own}
 use Rattle.frame_shown.specs.Tables.{place_row, proto_inet6_row, nest_row, xstats_row, info_row, message_row}
-use Rattle.frame_shown.specs.Tables.{af_spec_form, proto_info_form, listed_row, refused_row, row_in}
+use Rattle.frame_shown.specs.Tables.{af_spec_form, proto_info_form, listed_row, own_rows, refused_row, row_in}
 
 both : (a b : Bool) → a && b ≡ true → (a ≡ true) × (b ≡ true)
 both true true h = (refl, refl)
@@ -144,3 +144,33 @@ listed_key cx Shapes.Refused n = refused_key n
 
 pub row_key : (cx : Around) (list : Shape) (n : ℕ) → is_own (row_in cx list n).1 ≡ true → IsKey (row_in cx list n).0
 row_key cx list n = either (nat_lt n 256) (listed_row cx list n) no_row (listed_key cx list n) (λ own. refl)
+
+-- ** a list that goes by a table of this crate
+
+own_row : (cx : Around) (list : Shape) (n : ℕ) → IfSome (own_rows list) (λ rows. listed_row cx list n ≡ row_by rows n)
+own_row cx (Shapes.Message family) n = tt
+own_row cx (Shapes.Own table) n = refl
+own_row cx (Shapes.Listed group table) n = refl
+own_row cx (Shapes.Entries group) n = tt
+own_row cx (Shapes.Of place) n = tt
+own_row cx Shapes.ProtoInet6 n = tt
+own_row cx (Shapes.Info link port) n = tt
+own_row cx Shapes.Refused n = tt
+
+pub row_among : (cx : Around) (list : Shape) (rows : Rows) (n : ℕ) → own_rows list ≡ Some rows
+    → row_in cx list n ≡ cond (nat_lt n 256) (row_by rows n) no_row
+row_among cx list rows n is = ap (λ row. cond (nat_lt n 256) row no_row)
+    (subst (λ o. IfSome o (λ r. listed_row cx list n ≡ row_by r n)) is (own_row cx list n))
+
+own_key : (list : Shape) (n : ℕ) → IfSome (own_rows list) (λ rows. HasKey (row_by rows n))
+own_key (Shapes.Message family) n = tt
+own_key (Shapes.Own table) n = table_key table n
+own_key (Shapes.Listed group table) n = table_key table n
+own_key (Shapes.Entries group) n = tt
+own_key (Shapes.Of place) n = tt
+own_key Shapes.ProtoInet6 n = tt
+own_key (Shapes.Info link port) n = tt
+own_key Shapes.Refused n = tt
+
+pub key_among : (list : Shape) (rows : Rows) (n : ℕ) → own_rows list ≡ Some rows → HasKey (row_by rows n)
+key_among list rows n is = subst (λ o. IfSome o (λ r. HasKey (row_by r n))) is (own_key list n)

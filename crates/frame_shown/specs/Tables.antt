@@ -1,6 +1,6 @@
 -- The row of a number in a list of attributes: its name, and how its payload is shown.
-use Rattle.std.specs.Prelude.{ℕ, suc, ◌==◌, ◌&&◌, List, [], ◌∷◌, Option, None, Some, Bool, true, false, bit_and, codes}
-use Rattle.std.specs.Prelude.{cond, get_or}
+use Rattle.std.specs.Prelude.{◌≡◌, ℕ, suc, ◌==◌, ◌&&◌, List, [], ◌∷◌, Option, None, Some, Bool, true, false, codes}
+use Rattle.std.specs.Prelude.{IfSome, MatchOption, bit_and, cond, get_or}
 use Rattle.std.specs.Prelude.{length}
 use Rattle.std.specs.Prelude.{map, nat_lt, not}
 use Rattle.std.specs.List.{find}
@@ -21,6 +21,7 @@ use Rattle.frame_shown.specs.declared.form.List.{List as Shape}
 use Rattle.frame_shown.specs.declared.form.List.TheVariants as Shapes
 use Rattle.frame_shown.specs.declared.form.Manner.{Manner}
 use Rattle.frame_shown.specs.declared.form.Manner.TheVariants as Manners
+use Rattle.frame_shown.specs.declared.form.Rows.{Rows as Standing}
 use Rattle.frame_shown.specs.declared.form.Table.{Table}
 use Rattle.frame_shown.specs.declared.form.Table.TheVariants as Tables
 use Rattle.frame_shown.specs.declared.form.Way.{Way}
@@ -74,6 +75,11 @@ row_by rows n = row_found (find (λ row. row.0 == n) rows)
 abbrev pub are_from : ℕ → Rows → Bool
 are_from first [] = true
 are_from first (row ∷ rows) = (row.0 == first) && are_from (suc first) rows
+
+-- the number that is said of rows is that of the first, and they have all from it on
+abbrev pub AreInOrder : Standing → Type 0
+AreInOrder rows = IfSome rows.first (λ first.
+    are_from first (map (λ row. (row.0, (row.1.now, row.2))) rows.rows.now) ≡ true)
 
 -- of a table in which each row stands at the place of its number
 abbrev pub row_of_list : List (List ℕ × Form) → ℕ → Known
@@ -155,6 +161,16 @@ listed_row cx (Shapes.Of place) n = place_row cx place n
 listed_row cx Shapes.ProtoInet6 n = proto_inet6_row cx n
 listed_row cx (Shapes.Info link port) n = info_row cx link port n
 listed_row cx Shapes.Refused n = refused_row n
+
+-- the rows of a list that goes by a table of this crate
+abbrev pub own_rows : Shape → Option Rows
+own_rows (Shapes.Own table) = Some (rows_in table)
+own_rows (Shapes.Listed group table) = Some (rows_in table)
+own_rows list = None
+
+abbrev pub AreOf : Option Standing → Shape → Type 0
+AreOf rows list = MatchOption rows (own_rows list ≡ None)
+    (λ r. AreInOrder r × (own_rows list ≡ Some (map (λ row. (row.0, (row.1.now, row.2))) r.rows.now)))
 
 -- only numbers below 256 have one
 abbrev pub row_in : Around → Shape → ℕ → Known

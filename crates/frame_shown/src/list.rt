@@ -11,14 +11,15 @@ ghost use Rattle.frame_shown.specs.Items.{values_of};
 ghost use Rattle.frame_shown.specs.Items.{objects_under};
 ghost use Rattle.frame_shown.specs.Frames.{are_twice, by_number, entries_in, frame_item, items_in, list_shown};
 ghost use Rattle.frame_shown.specs.Frames.{way_shown};
-ghost use Rattle.frame_shown.specs.Tables.{entry_list, group_name, is_own, manner_way};
+ghost use Rattle.frame_shown.specs.Tables.{AreOf, entry_list, group_name, is_own, manner_way};
 ghost use Rattle.frame_shown.specs.Values.{form_shown, style_shown};
 ghost use Rattle.link_info.specs.declared.style.Style.TheVariants as S;
 ghost use Rattle.shown.specs.Keys.{IsKey};
 
 use crate::depth::Depth;
 use crate::form::{
-    Around, Form, Group, List, Manner, NUMBERS, Way, found_in, is_kept_by, kind_shown,
+    Around, Form, Group, List, Manner, NUMBERS, Rows, Way, found_by, found_in, is_kept_by,
+    kind_shown, own_rows,
 };
 use crate::kept::show_kept;
 use crate::value::{number_at, show_form, show_style, show_text};
@@ -118,21 +119,24 @@ fn show_manner<D: Depth>(
     }
 }
 
-/// Adds what an attribute says under its name, and returns whether it is kept as it is: then it says nothing here.
+/// Adds what an attribute says under its name, and returns whether it is kept as it is: then it says nothing here. The
+/// rows are those of the list, if it goes by a table of this crate.
 #[inline(always)]
 #[tactic(auto, using(crate::proofs::Items::kept_frame, crate::proofs::Items::named_frame))]
 fn show_frame<D: Depth>(
     cx: &Around<'_>,
     page: &mut Page,
     list: &List,
+    rows: Option<Rows>,
     frame: &NlaBuffer<'_>,
 ) -> Result<bool, AllocError>
+    requires { AreOf rows list.now }
     ensures shown { OnOk result (page.new ≡ with_members
         (shown_as (frame_item (D.nest cx.now) cx.now list.now frame.now)) page.old) }
     ensures kept { IfOk result (λ kept. kept
         ≡ are_any (kept_ones (frame_item (D.nest cx.now) cx.now list.now frame.now ∷ []))) }
 {
-    let (name, manner) = found_in(cx, list, frame.kind());
+    let (name, manner) = found_by(cx, list, rows, frame.kind());
     if is_kept_by(manner, frame.value()) {
         return Ok(true);
     }
@@ -232,12 +236,13 @@ fn show_named<D: Depth>(
     ensures kept { IfOk result (λ kept. kept
         ≡ are_any (kept_ones (items_in (D.nest cx.now) cx.now list.now (items bytes.now)))) }
 {
+    let rows = own_rows(list);
     let mut is_any_kept = false;
     for item in NlasIterator::new(bytes) {
         let Ok(frame) = item else {
             break;
         };
-        let is_kept = show_frame::<D>(cx, page, list, &frame)?;
+        let is_kept = show_frame::<D>(cx, page, list, rows, &frame)?;
         is_any_kept |= is_kept;
     }
     Ok(is_any_kept)
@@ -357,6 +362,7 @@ fn show_last<D: Depth>(
     ensures { OnOk result (page.new ≡ with_members
         (last_ones (items_in (D.nest cx.now) cx.now list.now (items bytes.now))) page.old) }
 {
+    let rows = own_rows(list);
     let mut left = *counts;
     for item in NlasIterator::new(bytes) {
         let Ok(frame) = item else {
@@ -365,7 +371,7 @@ fn show_last<D: Depth>(
         if let Some(number) = number_in::<D>(cx, list, &frame) {
             left[number] -= 1;
             if left[number] == 0 {
-                show_frame::<D>(cx, page, list, &frame)?;
+                show_frame::<D>(cx, page, list, rows, &frame)?;
             }
         }
     }
@@ -387,6 +393,7 @@ fn show_earlier<D: Depth>(
     ensures { OnOk result (page.new ≡ with_members (objects
         (earlier_ones (items_in (D.nest cx.now) cx.now list.now (items bytes.now)))) page.old) }
 {
+    let rows = own_rows(list);
     let mut left = *counts;
     for item in NlasIterator::new(bytes) {
         let Ok(frame) = item else {
@@ -396,7 +403,7 @@ fn show_earlier<D: Depth>(
             left[number] -= 1;
             if left[number] != 0 {
                 page.begin("", Nest::Object)?;
-                show_frame::<D>(cx, page, list, &frame)?;
+                show_frame::<D>(cx, page, list, rows, &frame)?;
                 page.end()?;
             }
         }

@@ -2,7 +2,8 @@
 use Rattle.std.proofs.Common.{◌≡◌, ℕ, ◌+◌, ◌-◌, ◌<◌, ◌≤◌, ◌⊎◌, inl, inr, Bool, true, false, ◌&&◌, List, length, take}
 use Rattle.std.proofs.Common.{drop, get_or}
 use Rattle.std.proofs.Common.{zero, suc, ◌*◌, ◌==◌, ◌||◌, not, cond, [], ◌∷◌, map, Fits, w8, refl, ◌%◌, ◌^◌}
-use Rattle.std.proofs.Common.{ap, sym, ◌∙◌, arith, get_or-drop, length-drop, take-add, take-append-drop}
+use Rattle.std.proofs.Common.{ap, sym, ◌∙◌, arith, get_or-drop, get_or-take, length-drop, length-take-le, take-add}
+use Rattle.std.proofs.Common.{take-append-drop}
 use Rattle.std.proofs.lemmas.Bool.{agree_below, agree_below_at, cases_lt, eqb-true}
 use Rattle.std.proofs.lemmas.List.{length-map}
 use Rattle.std.proofs.lemmas.Simd.{chunk-fits, get_or-chunk, length-chunk, mask_l-mod}
@@ -63,7 +64,7 @@ plain_lanes f p same so d i n room few fits z is =
 -- ** parts of texts
 
 -- two parts that meet or overlap
-joined : (d : List ℕ) (i j m n : ℕ) → j ≤ m → PlainBetween d i m → PlainBetween d j n → PlainBetween d i n
+pub joined : (d : List ℕ) (i j m n : ℕ) → j ≤ m → PlainBetween d i m → PlainBetween d j n → PlainBetween d i n
 joined d i j m n meet front back k from to = go (cases_lt k m)
   where
     go : (k < m) ⊎ (m ≤ k) → not (may_escape (get_or d k 0)) ≡ true
@@ -85,6 +86,16 @@ rest_plain d done true within h = λ k from to.
     let back : done + (k - done) ≡ k = omega arith in
     ap (λ x. not (may_escape x)) (ap (λ j. get_or d j 0) (sym back) ∙ sym (get_or-drop done d (k - done) 0))
     ∙ h (k - done) (omega arith) (omega (arith, length-drop done d))
+
+-- the plain bytes of a part of a text
+pub part_plain : (d : List ℕ) (from n : ℕ) → from + n ≤ length d
+    → PlainBetween (take n (drop from d)) 0 (length (take n (drop from d))) → PlainBetween d from (from + n)
+part_plain d from n within h = λ k low high.
+    let back : from + (k - from) ≡ k = omega arith in
+    let long : length (take n (drop from d)) ≡ n = length-take-le n (drop from d) (omega (arith, length-drop from d)) in
+    ap (λ x. not (may_escape x)) (ap (λ j. get_or d j 0) (sym back) ∙ sym (get_or-drop from d (k - from) 0)
+    ∙ sym (get_or-take n (drop from d) (k - from) 0 (omega arith)))
+    ∙ h (k - from) (omega arith) (omega (arith, long))
 
 -- n bytes more of a text behind its first ones
 pub stored_more : {a b c : List ℕ} (text : List ℕ) (done n at : ℕ) → done + n ≤ length text

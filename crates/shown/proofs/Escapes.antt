@@ -1,17 +1,18 @@
 -- Texts with their escapes that were stored part after part.
-use Rattle.std.proofs.Common.{◌≡◌, ℕ, zero, suc, ◌+◌, ◌<◌, ◌≤◌, true, false, not, ◌==◌}
+use Rattle.std.proofs.Common.{◌≡◌, ℕ, zero, suc, ◌+◌, ◌-◌, ◌<◌, ◌≤◌, true, false, not, ◌==◌}
 use Rattle.std.proofs.Common.{List, [], ◌∷◌, ◌++◌}
 use Rattle.std.proofs.Common.{length, take, drop, get_or, nat_lt, refl, ap, sym, ◌∙◌, subst, arith, length-drop}
-use Rattle.std.proofs.Common.{append_assoc, append-nil, get_or-drop, length-take-le, set, Bool}
+use Rattle.std.proofs.Common.{append_assoc, append-nil, get_or-drop, length-take-le, Bool, ◌||◌, ◌⊎◌, inl, inr}
 use Rattle.std.specs.Bool.{OnTrue}
-use Rattle.std.proofs.lemmas.Bool.{agree_below_at, eqb-false, eqb-true, ltb-false, not-true, or_parts}
-use Rattle.std.proofs.lemmas.List.{drop_all, drop_more, drop-drop, length-set, take_all, take_more_set}
+use Rattle.std.proofs.lemmas.Bool.{agree_below_at, eqb-false, eqb-true, ltb-false, not-true, or_cases, or_parts}
+use Rattle.std.proofs.lemmas.List.{drop_all, drop_more, drop-drop, take_all}
 use Rattle.json.specs.Filled.{Placed}
 use Rattle.json.proofs.Printed.Places.{Placed-then}
 use Rattle.json.proofs.Printed.Strings.{escape_byte_plain}
 use Rattle.shown.specs.Escapes.{AddsEscaped, Escaped, PlainBetween, may_escape}
 use Rattle.shown.specs.Print.{bytes_behind, escape, escape_byte, escape_first, escape_from, unseen, unseen_in}
 use Rattle.shown.specs.Sheets.{Adds, Keeps}
+use Rattle.shown.proofs.Blocks.{part_plain}
 use Rattle.shown.proofs.Pieces.{adds_behind, placed_added, placed_keeps}
 
 -- ** one character
@@ -138,38 +139,87 @@ plain_stored {a} {b} {at} text from n within plain placed = record {
   room = omega arith;
 }
 
+-- a part without bytes that may need an escape
+pub part_stored : {a b : List ℕ} {at : ℕ} (text : List ℕ) (from to : ℕ) → from ≤ to → to ≤ length text
+    → PlainBetween (take (to - from) (drop from text)) 0 (length (take (to - from) (drop from text)))
+    → Placed a b at (take (to - from) (drop from text)) (at + length (take (to - from) (drop from text)))
+    → Escaped a b at (at + (to - from)) text from to
+part_stored {a} {b} {at} text from to onwards within plain placed =
+    let last : from + (to - from) ≡ to = omega arith in
+    let long : length (take (to - from) (drop from text)) ≡ to - from =
+    length-take-le (to - from) (drop from text) (omega (arith, length-drop from text)) in
+    subst (λ n. Escaped a b at (at + (to - from)) text from n) last
+    (plain_stored text from (to - from) (omega arith) (part_plain text from (to - from) (omega arith) plain)
+    (subst (λ n. Placed a b at (take (to - from) (drop from text)) (at + n)) long placed))
+
+-- a quote or a backslash has a backslash before it
+slashed : (x : ℕ) → (x == 34) || (x == 92) ≡ true → escape_byte x ≡ 92 ∷ x ∷ []
+unfolding escape_byte
+slashed x h = go (or_cases (x == 34) (x == 92) h)
+  where
+    go : (x == 34 ≡ true) ⊎ (x == 92 ≡ true) → escape_byte x ≡ 92 ∷ x ∷ []
+    go (inl is) = subst (λ y. escape_byte y ≡ 92 ∷ y ∷ []) (sym (eqb-true x 34 is)) refl
+    go (inr is) = subst (λ y. escape_byte y ≡ 92 ∷ y ∷ []) (sym (eqb-true x 92 is)) refl
+
+pub slashed_stored : {a b : List ℕ} {at end : ℕ} (text : List ℕ) (from : ℕ) → from < length text
+    → (get_or text from 0 == 34) || (get_or text from 0 == 92) ≡ true
+    → Placed a b at (92 ∷ get_or text from 0 ∷ []) end → Escaped a b at end text from (from + 1)
+slashed_stored text from within is placed =
+    let x = get_or text from 0 in
+    let none : unseen_in (drop from text) ≡ 0 = none_low text from (below x is) in
+    let one : from + 1 + 0 ≡ from + 1 = omega arith in
+    record {
+      piece = 92 ∷ x ∷ [];
+      placed = placed;
+      is = at_place text from within
+          ∙ (λ i. escape_first (none i) x ++ escape (drop (from + 1 + bytes_behind (none i)) text))
+          ∙ (λ i. slashed x is i ++ escape (drop (one i) text));
+      onwards = omega arith;
+      room = omega (arith, placed.moved);
+    }
+  where
+    below : (x : ℕ) → (x == 34) || (x == 92) ≡ true → x < 0x7f
+    below x h = go (or_cases (x == 34) (x == 92) h)
+      where
+        go : (x == 34 ≡ true) ⊎ (x == 92 ≡ true) → x < 0x7f
+        go (inl is) = omega (arith, eqb-true x 34 is)
+        go (inr is) = omega (arith, eqb-true x 92 is)
+
 pub one_plain : (text : List ℕ) (from : ℕ) → may_escape (get_or text from 0) ≡ false → PlainBetween text from (from + 1)
 one_plain text from h k low high =
     let same : from ≡ k = omega arith in
     subst (λ j. not (may_escape (get_or text j 0)) ≡ true) same (ap not h)
 
-pub byte_stored : (a text : List ℕ) (at from : ℕ) → at < length a → from < length text
-    → may_escape (get_or text from 0) ≡ false
-    → Escaped a (set a at (get_or text from 0)) at (at + 1) text from (from + 1)
-byte_stored a text at from room within h =
-    let one = length-take-le 1 (drop from text) (omega (arith, length-drop from text)) in
-    plain_stored text from 1 (omega arith) (one_plain text from h)
-    (record {
-      bytes = take_more_set a at (get_or text from 0) room
-          ∙ ap (λ l. take at a ++ l) (sym (ap (take 1) (drop_more text from 0 within)));
-      moved = omega (arith, one);
-      len = length-set a at (get_or text from 0);
-    })
+pub byte_stored : {a b : List ℕ} {at end : ℕ} (text : List ℕ) (from : ℕ) → from < length text
+    → may_escape (get_or text from 0) ≡ false → Placed a b at (get_or text from 0 ∷ []) end
+    → Escaped a b at end text from (from + 1)
+byte_stored text from within h placed = record {
+  piece = get_or text from 0 ∷ [];
+  placed = placed;
+  is = plain_part text from 1 (omega arith) (one_plain text from h)
+      ∙ ap (λ l. l ++ escape (drop (from + 1) text)) (ap (take 1) (drop_more text from 0 within));
+  onwards = omega arith;
+  room = omega (arith, placed.moved);
+}
 
 -- what was stored before at the same place is stored over
-pub stored_over : {a b c text xs : List ℕ} {at last end from to : ℕ} → at ≤ length a → Placed a b at xs last
+pub stored_anew : {a b c text : List ℕ} {at end from to : ℕ} → take at b ≡ take at a → length b ≡ length a
     → Escaped b c at end text from to → Escaped a c at end text from to
-stored_over within p q = record {
+stored_anew kept len q = record {
   piece = q.piece;
   placed = record {
-    bytes = q.placed.bytes ∙ ap (λ l. l ++ q.piece) (placed_keeps within p);
+    bytes = q.placed.bytes ∙ ap (λ l. l ++ q.piece) kept;
     moved = q.placed.moved;
-    len = q.placed.len ∙ p.len;
+    len = q.placed.len ∙ len;
   };
   is = q.is;
   onwards = q.onwards;
   room = q.room;
 }
+
+pub stored_over : {a b c text xs : List ℕ} {at last end from to : ℕ} → at ≤ length a → Placed a b at xs last
+    → Escaped b c at end text from to → Escaped a c at end text from to
+stored_over within p = stored_anew (placed_keeps within p) p.len
 
 -- ** what was added
 

@@ -1,7 +1,6 @@
 -- A key is its own escape.
 use Rattle.std.proofs.Common.{◌≡◌, ℕ, zero, suc, Bool, true, false, not, ◌&&◌, List, [], ◌∷◌, length, refl, arith}
-use Rattle.std.proofs.Common.{◌||◌, get_or, Bor, map}
-use Rattle.std.specs.Bool.{OnTrue}
+use Rattle.std.proofs.Common.{get_or, Bor, map}
 use Rattle.shown.specs.Print.{escape}
 use Rattle.shown.specs.Escapes.{PlainBetween, may_escape}
 use Rattle.shown.specs.Keys.{IsKey, is_key, AreKeys, are_keys}
@@ -28,10 +27,3 @@ key_at [] i d none h = none
 key_at (x ∷ xs) zero d none h = (both (is_key x.now) (are_keys (map (λ name. name.now) xs)) h).0
 key_at (x ∷ xs) (suc i) d none h =
     key_at xs i d none (both (is_key x.now) (are_keys (map (λ name. name.now) xs)) h).1
-
--- a name that is a key, or of which no byte that was looked at may need an escape
-pub name_stands : (is_key is_plain : Bool) (name : List ℕ) → (is_key ≡ true → IsKey name)
-    → OnTrue is_plain (PlainBetween name 0 (length name)) → is_key || is_plain ≡ true → escape name ≡ name
-name_stands true is_plain name key plain h = key_escape name (key refl)
-name_stands false true name key plain h = plain_text name plain
-name_stands false false name key plain h = absurd cc

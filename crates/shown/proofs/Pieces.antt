@@ -3,6 +3,7 @@ use Rattle.std.proofs.Common.{◌≡◌, ℕ, ◌+◌, ◌/◌, ◌%◌, ◌<◌
 use Rattle.std.proofs.Common.{length, take, ap, sym, arith}
 use Rattle.std.proofs.Common.{append_assoc, append-nil, length-append, length-take-le, take-take, subst}
 use Rattle.std.proofs.lemmas.List.{take_at}
+use Rattle.std.specs.Bool.{OnTrue}
 use Rattle.std.specs.Prelude.{Result, Ok, Err, decimal}
 use Rattle.std.proofs.lemmas.Fmt.{decimal_step}
 use Rattle.json.specs.Filled.{Placed}
@@ -16,6 +17,10 @@ pub placed_keeps : {a b xs : List ℕ} {at end : ℕ} → at ≤ length a → Pl
 placed_keeps {a} {b} {xs} {at} {end} within p =
     sym (take-take at end b (omega (arith, p.moved))) ∙ ap (take at) p.bytes
     ∙ take_at (take at a) xs at (length-take-le at a within)
+
+pub kept_before : (a b : List ℕ) (at start : ℕ) → at ≤ start → take start b ≡ take start a → take at b ≡ take at a
+kept_before a b at start before kept =
+    sym (take-take at start b before) ∙ ap (take at) kept ∙ take-take at start a before
 
 -- the digits of a number in front of its last one, and this
 pub digit_behind : (n : ℕ) (a b c : List ℕ) (at middle end : ℕ) → 10 ≤ n → n < 1000
@@ -35,6 +40,11 @@ quoted_placed {a} {b} {c} {d} {i} {j} {k} {l} comma text p q r =
 pub plain_placed : {a b text : List ℕ} {at end : ℕ} → escape text ≡ text → Placed a b at text end
     → Placed a b at (escape text) end
 plain_placed {a} {b} {text} {at} {end} plain p = subst (λ s. Placed a b at s end) (sym plain) p
+
+pub placed_on : (a b text : List ℕ) (at end : ℕ) (is : Bool) → OnTrue is (escape text ≡ text)
+    → OnTrue is (Placed a b at text end) → OnTrue is (Placed a b at (escape text) end)
+placed_on a b text at end true plain p = plain_placed plain p
+placed_on a b text at end false plain p = tt
 
 pub quote_short : (comma : Bool) → length (comma_if comma ++ 34 ∷ []) ≤ 2
 quote_short true = omega arith

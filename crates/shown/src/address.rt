@@ -6,7 +6,8 @@ ghost use Rattle.hex.specs.Hex.{encode_lower};
 ghost use Rattle.json.specs.Filled.{Placed};
 ghost use Rattle.shown.specs.Values.{hardware_address, octet_text};
 
-use crate::piece::{put_byte, put_number};
+use crate::block::put_byte;
+use crate::piece::put_number;
 use std::alloc::{AllocError, Global};
 
 const DIGITS: [char; 16] = [

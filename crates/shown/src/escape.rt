@@ -3,13 +3,14 @@
 //! An escape is made in six bytes, of which some count, as by the writer of the toolchain's crate `json`. Here all six
 //! are stored. Characters have escapes too that show nothing, or that turn what stands beside them.
 
-ghost use Rattle.std.specs.Prelude.{◌≡◌, ◌+◌, ◌-◌, ◌<◌, ◌≤◌, ◌*◌, length, take, drop, not, true, slice_index};
+ghost use Rattle.std.specs.Prelude.{◌≡◌, ◌+◌, ◌-◌, ◌<◌, ◌≤◌, ◌*◌, ◌==◌, ◌||◌, length, take, drop, not, true};
+ghost use Rattle.std.specs.Prelude.{slice_index};
 ghost use Rattle.std.specs.Char.{digit_char};
 ghost use Rattle.shown.specs.Print.{escape_byte, escape_letter};
 ghost use Rattle.shown.specs.Escapes.{Escaped, may_escape};
 ghost use Rattle.shown.specs.Print.{bytes_behind, escape_first, unicode_escape, unseen, unseen_in};
 
-use crate::block::put_exactly;
+use crate::block::{put_byte, put_exactly, put_plain};
 
 /// What stands behind the backslash where a byte has an escape of two bytes; else 0.
 #[inline(always)]
@@ -155,6 +156,14 @@ fn may_escape(byte: u8) -> bool
     matches!(byte, 0..=0x1f | b'"' | b'\\' | 0x7f | 0xc2 | 0xd8 | 0xe2)
 }
 
+/// Whether the escape of a byte is a backslash and the byte itself.
+#[inline(always)]
+fn is_slashed(byte: u8) -> bool
+    ensures { result ≡ (byte == 34) || (byte == 92) }
+{
+    byte == b'"' || byte == b'\\'
+}
+
 /// Stores a byte of a text, or what begins there and has an escape; where it ends in both.
 #[inline(always)]
 fn put_next(buf: &mut [u8], at: usize, text: &[u8], from: usize) -> (usize, usize)
@@ -164,11 +173,14 @@ fn put_next(buf: &mut [u8], at: usize, text: &[u8], from: usize) -> (usize, usiz
     ensures onwards { (from < result.1) × (result.1 ≤ from + 3) }
 {
     let byte = text[from];
+    if is_slashed(byte) {
+        let second = put_byte(buf, at, b'\\');
+        return (put_byte(buf, second, byte), from + 1);
+    }
     if may_escape(byte) {
         return put_escape(buf, at, text, from);
     }
-    buf[at] = byte;
-    (at + 1, from + 1)
+    (put_byte(buf, at, byte), from + 1)
 }
 
 /// Stores a few bytes of a text, one by one, up to a place, or up to the end of a character that stands there.
@@ -226,4 +238,24 @@ pub(crate) fn put_escaped(
         done = step.1;
     }
     put_few(buf, end, text, done, to)
+}
+
+/// Stores the same: at once, where none of these bytes may need an escape.
+#[inline(always)]
+pub(crate) fn put_between(
+    buf: &mut [u8],
+    at: usize,
+    text: &[u8],
+    from: usize,
+    to: usize,
+) -> (usize, usize)
+    requires within { (to ≤ length text.now) × (from ≤ to + 2) }
+    requires room { at + (to - from + 2) * 6 ≤ length buf.old }
+    ensures escaped { Escaped buf.old buf.new at result.0 text.now from result.1 }
+    ensures reached { (to ≤ result.1) × (result.1 ≤ to + 2) }
+{
+    if from <= to && put_plain(buf, at, &text[from..to]) {
+        return (at + (to - from), to);
+    }
+    put_escaped(buf, at, text, from, to)
 }

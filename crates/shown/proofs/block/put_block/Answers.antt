@@ -17,7 +17,7 @@ returns-clause-placed g c =
     }
 
 abbrev is_other : ℕ → Bool
-is_other x = not (is_in_range 0x23 0x7e x) || (x == 0x5c)
+is_other x = not (is_in_range 0x20 0x7e x) || (x == 0x22) || (x == 0x5c)
 
 pub returns-clause-plain : goal.returns-clause-plain
 returns-clause-plain g c =
@@ -26,5 +26,6 @@ returns-clause-plain g c =
     plain_lanes _ is_other refl refl c.args.text.now c.args.from g.row.N c.requires.from c.requires.few c.type_inv.text
     _
     (zip2_of_maps _ _ _ v
-    (zip2_of_maps _ (λ _. 91) _ v (splat_is_map v g.row.N 91 long) (zip2_splat _ v g.row.N 35 long))
-    (zip2_splat _ v g.row.N 92 long))
+    (zip2_of_maps _ _ _ v
+    (zip2_of_maps _ (λ _. 94) _ v (splat_is_map v g.row.N 94 long) (zip2_splat _ v g.row.N 32 long))
+    (zip2_splat _ v g.row.N 34 long)) (zip2_splat _ v g.row.N 92 long))

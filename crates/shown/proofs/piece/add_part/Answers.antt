@@ -5,8 +5,8 @@ use Rattle.shown.proofs.piece.add_part.Goals as goal
 
 pub returns : goal.returns
 returns c =
-    let put = c.put_escaped.ensures in
-    let buf = c.put_escaped.new.buf in
+    let put = c.put_between.ensures in
+    let buf = c.put_between.new.buf in
     let bytes = c.reserve.new.bytes in
     let same : take bytes.len (buf ++ drop (length buf) bytes.items) ≡ buf =
     take_at buf (drop (length buf) bytes.items) bytes.len (put.escaped.placed.len ∙ c.as_mut_slice.ensures.len) in
