@@ -14,14 +14,11 @@ _SETS = {"ifi-flags", "prop-list.alt-ifname", "port.vlan"}
 _TEXTS = {"lost": "messages of the kernel: all links are asked for again",
           "again": "all is known: what changed meanwhile is told above"}
 _QUOTED = set(' ",()[]→;')
-_COLOUR = re.compile("\x1b\\[[0-9;]*m")
 
 
 def escaped(text: str, encoding: str = "utf-8") -> str:
-    """The text with an escape for each backslash, and for each character that is not printable or not encodable.
-
-    Not printable are the categories C and Z of Unicode, but for the blank; controls of writing direction are in C.
-    """
+    """The text with an escape for each backslash, and for each character that is not encodable or not printable: of the
+    categories C and Z of Unicode, but for the blank. Controls of writing direction are in C."""
     text = text.replace("\\", "\\\\")
     if text.isascii() and text.isprintable():
         return text
@@ -34,7 +31,7 @@ def width(text: str) -> int:
     if text.isascii() and "\x1b" not in text:
         return len(text)
     return sum(0 if unicodedata.category(it) in ("Mn", "Me") else 2 if unicodedata.east_asian_width(it) in "WF" else 1
-               for it in _COLOUR.sub("", text))
+               for it in re.sub("\x1b\\[[0-9;]*m", "", text))
 
 
 def _ranges(vlans: Iterable[Tuple[int, str]]) -> Iterator[str]:
@@ -68,9 +65,8 @@ class Words:
             return "none" if value is None else escaped(str(value), self._encoding)
         is_cut = not self._is_whole and len(value) > 64
         text = escaped(f"{value[:60]}...{len(value)}" if is_cut else value, self._encoding)
-        if text in ("", "none") or self._arrow in text or _QUOTED & set(text):
-            return '"' + text.replace('"', '\\"') + '"'
-        return text
+        is_bare = text not in ("", "none") and self._arrow not in text and not _QUOTED & set(text)
+        return text if is_bare else '"' + text.replace('"', '\\"') + '"'
 
     def change(self, it: Change, is_new: bool = False) -> str:
         """`member old → new`; of a set what came and went, as `flags +up`; where the link is new `member value`."""
