@@ -1,16 +1,15 @@
 """What the command does with events of the running kernel, of a recording, or of the ends of two of them."""
 
 import json
-import os
+import select
 import sys
 import time
-from math import inf
-from typing import Any, Dict, Iterator, List, Set, Tuple
+from typing import Iterator, List, Optional, Set, Tuple
 
 from linkwire import Event, Links, Settling, Watch, __version__, flat, number, read_line, show
 
 from .options import HELP, Options
-from .printing import Output, aligned, is_read, says
+from .printing import Output, says
 from .rates import watch_rates
 
 AT_ONCE = .02  # seconds for which what comes is read before anything is written
@@ -18,14 +17,13 @@ TABLE = {"NAME": "ifname", "INDEX": "ifi-index", "KIND": "linkinfo.kind", "MASTE
          "MTU": "mtu", "ADDRESS": "address"}
 
 
-def live(options: Options, output: Output) -> int:
+def live(options: Options, output: Output) -> None:
     """Tells what the kernel announces, until --for is over or nobody reads standard output."""
-    end, settling, waited_for = time.monotonic() + (options.end or inf), output.settling, options.names
+    end, settling, waited_for = time.monotonic() + options.end, output.settling, options.names
     with Links(options.netns) as links, links.watch(every=options.every, lenient=True, dumps=True) as stream:
+        output.poll.register(stream, select.POLLIN)
         while time.monotonic() < end:
-            waits = [it for it in (stream.due(), settling.due(), end - time.monotonic()) if it is not None]
-            if not is_read(min(waits), stream):
-                return 0
+            output.wait(options.every, stream.due(), settling.due(), end - time.monotonic())
             for event in stream.ready(AT_ONCE):
                 output.tell(event)
                 if event.change == "done" and waited_for:
@@ -35,14 +33,11 @@ def live(options: Options, output: Output) -> int:
             if settling.due() == 0:
                 output.lines(settling.release())
             sys.stdout.flush()
-    output.lines(settling.release())
-    return 0
 
 
 def lines_of(path: str, watch: Watch, is_strict: bool) -> Iterator[Tuple[List[Event], str]]:
     """The events of each line of a file, or of standard input, and the line; of others a message, or ValueError."""
-    with open(path if path != "-" else 0, encoding="utf-8", errors="surrogateescape", newline="\n",
-              closefd=path != "-") as source:
+    with open(path if path != "-" else 0, encoding="utf-8", errors="surrogateescape", newline="\n") as source:
         for row, line in enumerate(source, 1):
             try:
                 yield watch.line(line), line
@@ -52,21 +47,13 @@ def lines_of(path: str, watch: Watch, is_strict: bool) -> Iterator[Tuple[List[Ev
                 says(f"line {row}: {error}")
 
 
-def looked_for(output: Output, status: int, missed: int) -> int:
-    """Says which of the names no link has or had. Returns the one status, or the other if there is such a name."""
-    for name in output.view.missing(ever=True):
-        says(f"no link {name}")
-    return missed if output.view.missing(ever=True) else status
-
-
 def recorded(options: Options, output: Output) -> int:
-    """Tells what lines of linkdump(1) say, as they come. Returns 1 if one of the names is of no link in them."""
-    for events, line in lines_of(options.read or "", Watch(lenient=True, dumps=True), False):
+    """Tells what lines of linkdump(1) say, as they come."""
+    for events, line in lines_of(options.read, Watch(lenient=True, dumps=True), False):
         for event in events:
             output.tell(event, line)
         sys.stdout.flush()
-    output.lines(output.settling.release())
-    return looked_for(output, 0, 1)
+    return 0
 
 
 def ended(path: str) -> Tuple[Watch, Set[str]]:
@@ -78,66 +65,60 @@ def ended(path: str) -> Tuple[Watch, Set[str]]:
 
 
 def compared(options: Options, output: Output) -> int:
-    """Tells how the ends of two recordings differ. Returns 1 if they do, and 2 if that cannot be told, as of a name
-    that no link has in either."""
+    """Tells how the ends of two recordings differ. Returns 1 if they do, and 2 if that cannot be told."""
     (old, all_old), (new, all_new) = map(ended, options.diff)
-    output.time, output.settling, status = "none", Settling(0), 0
+    options.time, output.settling, status = "none", Settling(0), 0
     for host in sorted({*old.hosts(), *new.hosts()}):
-        for path, whole, what in (options.diff[0], all_old, "came"), (options.diff[1], all_new, "went"):
+        for path, whole, what in zip(options.diff, (all_old, all_new), ("came", "went")):
             if host not in whole:
                 says(f"{path}: no whole dump{f' of {host}' if host else ''}: what {what} is not told")
                 status = 2
         output.view.learn(old.links(host), host)
-        told = [output.tell(it) for it in old.compared(new, host, host in all_old, host in all_new)]
-        status = status or int(any(told))
-        if output.view.missing(ever=True):  # of a link in the new file nothing is told if what came is not
-            output.view.learn(new.links(host), host)
-    return looked_for(output, status, 2)
-
-
-def row(link: Dict[str, Any], output: Output) -> List[str]:
-    """A link as a row: what it is stacked on stands behind its name, unless that is in another namespace."""
-    it, named, below = flat(link), output.view.name, link.get("link", 0)
-    if below not in (0, link["ifi-index"]):
-        it["ifname"] = it.get("ifname", "-") + "@" + (f"if{below}" if "link-netnsid" in it else named(below))
-    it["master"] = named(link["master"]) if link.get("master") else "-"
-    it["operstate"] = it.get("operstate", "-") if "up" in it["ifi-flags"] else "off"
-    return [output.words.name(str(it.get(path, "-"))) for path in TABLE.values()]
+        for event in old.compared(new, host, host in all_old, host in all_new):
+            output.tell(event)
+    return status or min(1, output.written)
 
 
 def once(options: Options, output: Output) -> int:
-    """Writes the links that are there, and returns 1 if one of the names is none of them."""
+    """Writes the links that are there. What one is stacked on stands behind its name."""
     with Links(options.netns) as links:
-        there = {(0, number(it[4:8])): it for it in links.dump()}
-    output.view.learn(there)
-    chosen = [show(it, "running", True) for (_, index), it in there.items() if output.view.selects(index)]
+        there = [Event("new", "", 0, number(it[4:8]), message=it, is_first=True) for it in links.dump()]
+    chosen = [show(it.message, "running", True) for it in there if output.view.told(it) is not None]
     for it in chosen if options.json else ():
         output.write(json.dumps(it, separators=(",", ":")))
-    rows = [] if options.json else [list(TABLE), *(row(it, output) for it in chosen)]
-    for at, cells in enumerate(aligned(rows)):
-        cells[0] = output.paint("name", cells[0]) if at else cells[0]
-        cells[4] = output.paint(rows[at][4], cells[4])
+    rows, named = [list(TABLE)], output.view.name
+    for it in map(flat, chosen):
+        below = it.get("link", 0)
+        if below not in (0, it["ifi-index"]):  # which is not of this namespace if it has a link-netnsid
+            it["ifname"] = it.get("ifname", "-") + "@" + (f"if{below}" if "link-netnsid" in it else named(below))
+        it["master"] = named(it["master"]) if it.get("master") else "-"
+        it["operstate"] = it.get("operstate", "-") if "up" in it["ifi-flags"] else "off"
+        rows.append([output.words.name(str(it.get(path, "-"))) for path in TABLE.values()])
+    for cells in () if options.json else output.aligned(rows):
+        cells[4] = output.paint(cells[4].rstrip(), cells[4])
         output.write("  ".join(cells).rstrip())
-    return looked_for(output, 0, 1)
+    return 0
 
 
-def run(arguments: List[str]) -> int:
+def run(arguments: Optional[List[str]] = None) -> int:
     """Runs the command, and returns its exit status: linkwatch(1) says which there are."""
     try:
         if sys.stdout is None:
             raise ValueError("standard output is closed")
-        options, status = Options(arguments), 0
-        task = live if options.read is None else recorded
-        task = once if options.once else watch_rates if options.rates else compared if options.diff else task
-        if options.help or options.version:
-            sys.stdout.write(HELP if options.help else f"linkwatch {__version__}\n")
-        else:
-            status = task(options, Output(options, sys.stdout))
+        options = Options(sys.argv[1:] if arguments is None else arguments)
+        output = Output(options, sys.stdout)
+        tasks = {"live": live, "once": once, "read": recorded, "diff": compared, "rates": watch_rates}
+        text = HELP if options.help else f"linkwatch {__version__}\n" if options.version else ""
+        sys.stdout.write(text)
+        status = None if text else tasks[options.task](options, output)  # None: names are not looked for
+        output.lines(output.settling.release())
+        for name in [] if status is None else output.view.missing(ever=True):
+            says(f"no link {name}")
+            status = 2 if options.task == "diff" else 1
         sys.stdout.flush()
-        return status
-    except OSError as error:
-        says(f"{error.filename}: {error.strerror}" if error.filename is not None else error.strerror or str(error))
-    except ValueError as error:
-        says(str(error))
-    sys.stdout = open(os.devnull, "w", encoding="utf-8")  # what could not be written is not tried again at the end
+        return status or 0
+    except (OSError, ValueError) as error:
+        file, why = (getattr(error, it, None) for it in ("filename", "strerror"))
+        says(f"{file}: {why}" if file is not None else why or str(error))
+    sys.stdout = open("/dev/null", "w", encoding="utf-8")  # what could not be written is not tried again at the end
     return 2

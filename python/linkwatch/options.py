@@ -1,6 +1,7 @@
 """The arguments of the command."""
 
 import re
+from contextlib import suppress
 from typing import Any, Callable, Dict, List, Optional, Tuple
 
 HELP = """usage: linkwatch [OPTION ..] [NAME ..]
@@ -48,15 +49,12 @@ KEPT_AS = {"-h": "help", "--for": "end"}
 class Options:
     """What the arguments ask for. Options and names come in any order; after `--` all are names. Raises ValueError."""
 
-    once = json = details = help = version = False
-    read: Optional[str] = None
-    netns: Optional[str] = None
-    every, end, settle, rates, count = 60.0, 0.0, 0.0, 0.0, 0  # 0 is none
-    time, color = "clock", "auto"
+    json = details = help = version = False
+    every, end, settle, rates, count = 60.0, float("inf"), 0.0, 0.0, float("inf")
+    time, color, read, netns, diff = "clock", "auto", "", None, ("", "")
 
     def __init__(self, words: List[str]) -> None:
         self.names: List[str] = []
-        self.diff: List[str] = []
         rest = words[::-1]
         while rest:
             word = rest.pop()
@@ -67,26 +65,23 @@ class Options:
             elif word not in OPTIONS:
                 raise ValueError(f"there is no option {word}")
             elif word == "--diff":
-                self.diff = [_value(word, rest), _value(word, rest)]
+                self.diff = _value(word, rest), _value(word, rest)
             elif word == "--rates" and not "".join(rest[-1:]).replace(".", "", 1).isdecimal():
                 self.rates = 1.0
             else:
                 setattr(self, KEPT_AS.get(word, word[2:]), not OPTIONS[word] or _value(word, rest))
-        if [self.once, bool(self.diff), self.read is not None, self.rates > 0].count(True) > 1:
+        self.task, *others = [it for it in ("once", "read", "diff", "rates") if it in vars(self)] or ["live"]
+        if others:
             raise ValueError("only one of --once, --read, --diff and --rates")
-        if self.diff == ["-", "-"]:
+        if self.diff == ("-", "-"):
             raise ValueError("--diff: only one of the files can be standard input")
 
 
 def _value(word: str, rest: List[str]) -> Any:
     """What an option has for its value, taken from the end of the arguments that are left."""
     make, fits, what = VALUES[OPTIONS[word]]
-    if not rest:
-        raise ValueError(f"{word}: {what} is missing")
-    text = rest.pop()
-    try:
-        if fits is None or fits(make(text)):
+    text = rest.pop() if rest else None
+    with suppress(ValueError):
+        if text is not None and (fits is None or fits(make(text))):
             return make(text)
-    except ValueError:
-        pass
-    raise ValueError(f"{word}: {what}, not {text}")
+    raise ValueError(f"{word}: {what}" + (" is missing" if text is None else f", not {text}"))

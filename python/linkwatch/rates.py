@@ -1,17 +1,17 @@
 """The table of --rates: bytes, packets and errors a second, by link."""
 
 import json
+import os
 import struct
 import time
 from datetime import datetime, timezone
-from math import inf
 from typing import Dict, List, NamedTuple, Optional, Sequence, Tuple
 
 from linkwire import Links, attributes, number, pick
 from linkwire.numbers import IFLA_ALT_IFNAME, IFLA_IFNAME, IFLA_PROP_LIST, IFLA_STATS64
 
 from .options import Options
-from .printing import UTC, Output, aligned, is_read
+from .printing import UTC, Output
 
 # the first of struct rtnl_link_stats64, and the columns of the table
 COUNTERS = "rx-packets", "tx-packets", "rx-bytes", "tx-bytes", "rx-errors", "tx-errors"
@@ -66,10 +66,8 @@ def table(found: Dict[int, Link], output: Output, rows: Optional[int]) -> List[s
     busiest = set(sorted(found, key=lambda it: -sum(found[it].values[2:4]))[:rows])
     cells = [[output.words.name(it.names[0]), *(short(it.values[at]) for at in COLUMNS)]
              for index, it in found.items() if index in busiest]
-    lines = []
-    for at, row in enumerate(aligned([HEAD, *cells])):
-        numbers = [it.rstrip().rjust(max(len(it), NARROWEST)) for it in row[1:]]
-        lines.append("  ".join([output.paint("name", row[0]) if at else row[0], *numbers]))
+    cells = [[name, *(it.rjust(NARROWEST) for it in numbers)] for name, *numbers in [HEAD, *cells]]
+    lines = ["  ".join(it) for it in output.aligned(cells)]
     more = len(found) - len(busiest)
     return lines + ([f"and {more} more"] if more else [])
 
@@ -90,7 +88,8 @@ def show(found: Dict[int, Link], seconds: float, options: Options, output: Outpu
     if options.json:
         lines = json_lines(found, now.strftime(UTC), seconds)
     elif output.is_terminal:
-        lines = [f"{it}{TO_END_OF_LINE}" for it in table(found, output, max(1, output.size()[1] - 3))]
+        rows = max(1, (os.get_terminal_size().lines or 24) - 3)
+        lines = [f"{it}{TO_END_OF_LINE}" for it in table(found, output, rows)]
     else:
         lines = [*filter(None, [output.stamp(now)]), *table(found, output, None), ""]
     is_drawn = output.is_terminal and not options.json
@@ -98,21 +97,19 @@ def show(found: Dict[int, Link], seconds: float, options: Options, output: Outpu
     output.out.flush()
 
 
-def watch_rates(options: Options, output: Output) -> int:
+def watch_rates(options: Options, output: Output) -> None:
     """Shows rates each so many seconds, until --for or --count is over or nobody reads standard output."""
-    left = options.count or inf
+    left = options.count
     with Links(options.netns) as links:
         old, last = counted(links.dump()), time.monotonic()
-        due, end = last, last + (options.end or inf)
+        due, end = last, last + options.end
         if output.is_terminal and not options.json:
             output.out.write(HOME + TO_END)
         while left > 0 and due < end:
             due += options.rates
             while time.monotonic() < due:
-                if not is_read(due - time.monotonic()):
-                    return 0
+                output.wait(due - time.monotonic())
             new, now = counted(links.dump()), time.monotonic()
             found = rates(old, {at: it for at, it in new.items() if output.view.matches(it.names)}, now - last)
             show(found, now - last, options, output)
             old, last, due, left = new, now, max(due, now - options.rates), left - 1
-    return 0
