@@ -1,5 +1,6 @@
 """What the command does with events of the running kernel, of a recording, or of the ends of two of them."""
 
+import io
 import json
 import select
 import sys
@@ -12,7 +13,6 @@ from .options import HELP, Options
 from .printing import Output, says
 from .rates import watch_rates
 
-AT_ONCE = .02  # seconds for which what comes is read before anything is written
 TABLE = {"NAME": "ifname", "INDEX": "ifi-index", "KIND": "linkinfo.kind", "MASTER": "master", "STATE": "operstate",
          "MTU": "mtu", "ADDRESS": "address"}
 
@@ -24,7 +24,7 @@ def live(options: Options, output: Output) -> None:
         output.poll.register(stream, select.POLLIN)
         while time.monotonic() < end:
             output.wait(options.every, stream.due(), settling.due(), end - time.monotonic())
-            for event in stream.ready(AT_ONCE):
+            for event in stream.ready(.02):  # seconds, after which what came is written, though there be more
                 output.tell(event)
                 if event.change == "done" and waited_for:
                     waited_for = []
@@ -32,7 +32,6 @@ def live(options: Options, output: Output) -> None:
                         says(f"no link {name} now: it is waited for")
             if settling.due() == 0:
                 output.lines(settling.release())
-            sys.stdout.flush()
 
 
 def lines_of(path: str, watch: Watch, is_strict: bool) -> Iterator[Tuple[List[Event], str]]:
@@ -52,7 +51,6 @@ def recorded(options: Options, output: Output) -> int:
     for events, line in lines_of(options.read, Watch(lenient=True, dumps=True), False):
         for event in events:
             output.tell(event, line)
-        sys.stdout.flush()
     return 0
 
 
@@ -103,8 +101,9 @@ def once(options: Options, output: Output) -> int:
 def run(arguments: Optional[List[str]] = None) -> int:
     """Runs the command, and returns its exit status: linkwatch(1) says which there are."""
     try:
-        if sys.stdout is None:
+        if not isinstance(sys.stdout, io.TextIOWrapper):
             raise ValueError("standard output is closed")
+        sys.stdout.reconfigure(line_buffering=True)
         options = Options(sys.argv[1:] if arguments is None else arguments)
         output = Output(options, sys.stdout)
         tasks = {"live": live, "once": once, "read": recorded, "diff": compared, "rates": watch_rates}
@@ -115,7 +114,6 @@ def run(arguments: Optional[List[str]] = None) -> int:
         for name in [] if status is None else output.view.missing(ever=True):
             says(f"no link {name}")
             status = 2 if options.task == "diff" else 1
-        sys.stdout.flush()
         return status or 0
     except (OSError, ValueError) as error:
         file, why = (getattr(error, it, None) for it in ("filename", "strerror"))

@@ -56,7 +56,6 @@ class Output:
         self.out.write(line + "\n")
         self.written += 1
         if self.written >= self.options.count:
-            self.out.flush()
             sys.exit()
 
     def wait(self, *seconds: Optional[float]) -> None:

@@ -94,7 +94,6 @@ def show(found: Dict[int, Link], seconds: float, options: Options, output: Outpu
         lines = [*filter(None, [output.stamp(now)]), *table(found, output, None), ""]
     is_drawn = output.is_terminal and not options.json
     output.out.write(HOME * is_drawn + "".join(f"{it}\n" for it in lines) + TO_END * is_drawn)
-    output.out.flush()
 
 
 def watch_rates(options: Options, output: Output) -> None:
