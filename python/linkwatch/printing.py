@@ -83,7 +83,7 @@ class Output:
             head = "".join(self.paint(kind, text) + blanks for kind, text, blanks in parts if text)
             room = (os.get_terminal_size().columns or 80) - width(head) if self.is_terminal else 0
             rows: List[str] = []
-            for part in ",\n".join(self.words.told(told)).split("\n"):
+            for part in ",\n".join(self.words.told(told)).split("\n"):  # each but the last has its comma
                 if rows and (not self.is_terminal or width(f"{rows[-1]} {part}") <= room):
                     rows[-1] += " " + part
                 else:
