@@ -61,7 +61,7 @@ class Output:
     def wait(self, *seconds: Optional[float]) -> None:
         """Waits the shortest of these times, or until `poll` has something; ends the command if nobody reads it."""
         ready = dict(self.poll.poll(1000 * max(0.0, min(it for it in seconds if it is not None))))
-        if ready.get(1, 0) & (select.POLLERR | select.POLLNVAL):
+        if ready.get(1, 0) & (select.POLLERR | select.POLLHUP | select.POLLNVAL):
             sys.exit()
 
     def tell(self, event: Event, line: str = "") -> None:

@@ -54,7 +54,7 @@ def rates(old: Dict[int, Link], new: Dict[int, Link], seconds: float) -> Dict[in
 
 def short(value: float) -> str:
     """A number in at most five characters: 1500 is 1.5k."""
-    for unit in "", "k", "M", "G", "T":
+    for unit in "", "k", "M", "G", "T", "P", "E":
         if value < 999.5:
             break
         value /= 1000
