@@ -18,16 +18,14 @@ import sys
 import tempfile
 
 import borrowed
-import contracts
 import derives
 import examples
 import keys
 import memory
 import older
-import order
 import owed
 import paths
-import runtime
+import rules
 import surface
 import typed
 import words
@@ -92,75 +90,55 @@ class Mode:
         return self.is_crate and crate == "nla_wire" and base in STANDS_FOR
 
 
-def states(s, mode, crate):
-    """What states and proves goes."""
-    contracts.drop_ghosts(s)
-    contracts.drop_attributes(s)
-    contracts.export_macros(s)
-    contracts.drop_clauses(s)
-    contracts.drop_models(s)
-    contracts.drop_final(s)
-    contracts.drop_bounds(s, "Drop")
-    contracts.drop_comments(s)
-
-
-def crate_only(s, mode, crate):
+def hides(s, crate, mode):
     """What a Rust user does not want, and the modules that are Rust's own."""
-    surface.hide_calls(s)
     surface.other_names(s)
     if crate in TOPS:
         surface.hide_names(s)
-        surface.hide_modules(s)
-    contracts.drop_modules(s, LAWS | (STANDS_FOR if crate == "nla_wire" else set()))
-    contracts.drop_impls_of(s, "Exact")
-    contracts.inline_optimized(s)
-    derives.drop_structural(s)
+    for name in STANDS_FOR if crate == "nla_wire" else ():
+        s.put(f"@ mod {name} ;")
+    rules.apply(s, rules.CRATE)
 
 
 def erase(path, text, crate, mode):
     s = Source(path, text)
     is_program = crate in mode.programs
+    if mode.is_crate:
+        surface.hide_calls(s)
     found = owed.conditions(s, mode.public) if mode.is_crate else {}
-    states(s, mode, crate)
+    for mark, comment in list(s.held.items()):
+        if comment.startswith(("// for the proof", "// SAFETY")):
+            s.put(f"/{mark}/")
+    rules.apply(s, rules.STATES)
+    paths.drop_names(s, lambda name, _: name in ("Model", "Error"))
     if mode.is_crate:
-        crate_only(s, mode, crate)
-        owed.check(s, found)
-        mode.conditions += [f"{name}: where {row[1]}" for name, rows in found.values() for row in rows]
-    runtime.copies(s)
-    runtime.formatters(s)
-    runtime.mains(s)
-    runtime.expects(s)
-    runtime.safe(s)
-    imported = ""
-    root = paths.PACKAGE if is_program else "crate"
-    if not mode.is_crate and runtime.to_vecs(s):
-        imported += f"use {root}::rattle::vec::ToVecBy;\n"
-    casts = runtime.newer(s)
+        hides(s, crate, mode)
+        mode.conditions += [f"{name}: where {where}" for name, rows in found.items() for where, _ in rows]
+    before = paths.spoken(s)
+    rules.apply(s, rules.RUNTIME)
+    if not mode.is_crate:
+        rules.apply(s, rules.TO_VECS)
     if not mode.is_tests:
-        casts += order.host(s) + order.lengths(s)
+        rules.apply(s, rules.HOST)
     if mode.is_crate:
-        casts += owed.narrowing(s) + ["room"] * owed.stores(s)
-    if casts:
-        imported += f"use {root}::rattle::number::{paths.group(casts)};\n"
-    if mode.is_crate and memory.reserved(s):
-        imported += "use crate::rattle::list::vacant;\n"
-    before = s.references()
-    if mode.is_crate:
-        owed.never(s)
-        said = owed.told(s, found, mode.public)
-        examples.add(s, said, mode)
+        rules.apply(s, rules.NARROWING + rules.STORES + rules.RESERVED)
         memory.memory(s, mode.memory_names)
-        words.docs(s, said)
-    derives.derives(s, mode.is_crate)
-    s.drop_unused(before)
-    imported += paths.prelude(s, paths.NAMES_OF_OURS - ({"Vec", "String"} if mode.is_crate else set()), is_program)
-    if mode.is_crate:
-        imported += paths.of_alloc(s)
     paths.paths(s, crate, mode.libraries, is_program, mode.is_crate)
-    text = with_imports(s.rust(), imported)
+    derives.derives(s, mode.is_crate)
+    rules.apply(s, rules.BOUNDS)
+    paths.drop_unused(s, before)
+    imported = [*paths.ours(s, is_program, mode.is_crate), *paths.prelude(s, is_program, mode.is_crate)]
     if mode.is_crate:
-        text = surface.must_use(text, path, mode)
-    return text if mode.is_tests else older.ranges(older.let_else(path, text))
+        rules.apply(s, rules.NEVER)
+        owed.check(s, found, mode.public)
+        words.docs(s, lambda name, call: owed.told(
+            call, found.get(name, []), mode.memory_names, examples.of(name, mode)), mode.public)
+        surface.must_use(s, mode.public)
+        imported += paths.of_alloc(s)
+    if not mode.is_tests:
+        older.let_else(s)
+        older.ranges(s)
+    return with_imports(s.rust(), "".join(f"use {path};\n" for path in imported))
 
 
 def with_imports(text, imported):

@@ -2,8 +2,6 @@
 import os
 import re
 
-import surface
-
 PAGE = os.path.join(os.path.dirname(os.path.abspath(__file__)), "examples.md")
 PART = re.compile(r"^## (\S+)\n\n(?:Besides: ([^`]+)\.\n\n)?```rust\n(.*?)\n```$", re.M | re.S)
 
@@ -32,13 +30,10 @@ def short(name):
     return name.removeprefix("info::")
 
 
-def add(s, said, mode):
-    """Puts them below what is said of calls, by the place of their `fn`."""
-    for fn in s.live("fn"):
-        name = surface.public_name(s, fn, mode.public)
-        if name in mode.examples:
-            said.setdefault(fn, []).append(mode.examples[name])
-            mode.shown.add(name)
+def of(name, mode):
+    """The paragraphs of a call's own."""
+    mode.shown.add(name)
+    return [mode.examples[name]] if name in mode.examples else []
 
 
 def unused(mode):

@@ -2,54 +2,23 @@
 without their end."""
 import re
 
-from source import Source
 
-OPEN_RANGE = re.compile(r"^( +\w+)\.\.(\w+) =>", re.M)
-
-
-def ranges(text):
+def ranges(s):
     """Arms of a `match` as `0..10 =>`, with the last number of the range."""
     def closed(arm):
-        base = hex if arm[2].startswith("0x") else str
-        return f"{arm[1]}..={base(int(arm[2], 0) - 1)} =>"
-    return OPEN_RANGE.sub(closed, text)
+        base = hex if arm["end"].startswith("0x") else str
+        return f"{arm['front']}..={base(int(arm['end'], 0) - 1)} =>"
+    s.put(r"/(?P<front>\n +\w+)\.\.(?P<end>\w+) =>/", closed)
 
 
-def let_else(path, text):
-    """A made source without it."""
-    s = Source(path, text)
-    for i in s.live("let"):
-        equals = s.skip_to(i, {"=", ";"})
-        word = s.skip_to(equals, {"else", ";"})
-        # `if let`, and `let x = if .. {} else {}`
-        if s.text[s.prev(i)] in ("if", "while") or s.text[word] != "else" or s.text[s.prev(word)] == "}":
-            continue
-        pattern = "".join(s.text[i + 1:equals]).strip()
-        value = "".join(s.text[equals + 1:word]).strip()
-        names = bound(s, i, equals)
-        indent = " " * (len(s.text[i - 1]) - s.text[i - 1].rfind("\n") - 1)
-        open_ = s.next(word)
-        close = s.match[open_]
-        end = s.next(close)
-        s.drop(i, end)
-        s.dead[i] = False
-        given = f"let {names} = " if names != "()" else ""
-        s.new[i] = "\n".join([f"{given}match {value} {{", f"{indent}    {pattern} => {names},",
-                              f"{indent}    _ => {body(s, open_, close)}", f"{indent}}};"])
-    return s.rust()
-
-
-def bound(s, first, end):
-    """The names that a pattern binds, but for those that are not used."""
-    names = [s.text[k] for k in range(first + 1, end) if k in s.rank and s.kind[k] == "id"
-             and s.text[k][0].islower() and s.text[s.next(k)] not in ("(", "{", ":")]
-    return names[0] if len(names) == 1 else f"({', '.join(names)})"
-
-
-def body(s, open_, close):
-    """What stands for it as the value of an arm."""
-    inner = "".join(s.text[open_ + 1:close])
-    line = inner.strip().removesuffix(";")
-    if "\n" not in line and ";" not in line:
-        return line + ","
-    return "{" + inner.replace("\n", "\n    ") + "}"
+def let_else(s):
+    """A source without it; not `if let`, and `let x = if .. {} else {}`."""
+    def put(found):
+        pattern, indent = found["x"].strip(), re.search(r" *$", s.text[:found.start()])[0]
+        names = re.findall(r"(?<![.\w])(?<!::)([a-z]\w*)(?!\w|\s*[({:])", pattern)
+        bound = names[0] if len(names) == 1 else f"({', '.join(names)})"
+        line = found["body"].strip().removesuffix(";")
+        body = "{" + found["body"].replace("\n", "\n    ") + "}" if re.search(r"[\n;]", line) else line + ","
+        return "\n".join([f"let {bound} = " * (bound != "()") + f"match {found['y'].strip()} {{",
+                          f"{indent}    {pattern} => {bound},", f"{indent}    _ => {body}", f"{indent}}};"])
+    s.put(r"/(?<!if )(?<!while )\blet\b/ $x.. /=(?!=)/ $y.. /(?<!\}.)\s\belse\b/ {$body..} ;", put)

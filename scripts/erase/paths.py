@@ -1,80 +1,121 @@
 """Crates become modules of one package, and parts of Rattle's std are ours."""
 import re
 
-NAME = re.compile(r"\b(?:String|Vec)\b")
+from source import PAIR
+
 PACKAGE = "linkwire"
 STD_OF_OURS = {"alloc", "str", "test"}              # modules of std of which a file of ours stands
 OF_CRATE = {"net"}                                  # and those of which one stands for the crate alone,
 OF_TESTS = {"collections", "env", "fs", "simd"}     # or for the tests alone
 CRATES_OF_OURS = {"bitflags", "hex", "memchr", "json", "itoa"}
-NAMES_OF_OURS = {"Box", "Vec", "String", "HostRuntime", "Print"}     # of Rattle's prelude, where they differ
+NAMES_OF_OURS = {"Box", "HostRuntime", "Print"}      # of Rattle's prelude, where they differ, and in all but the crate
+OF_ALLOC = {"String": "string::String", "Vec": "vec::Vec"}
+ITEMS_OF_OURS = {"process::Abort", "fmt::InlineText"}
 IN_CORE = {"fmt", "marker", "ops", "slice", "str"}
+# What stands where names of `rattle::number` are needed, with the names; and what the crate alone has of these.
+NUMBERS = {r"\.to_unsigned": "Signed as _", r"\.to_signed": "Unsigned as _", r"\blowest\(": "lowest",
+           r"\bMOST_LEN": "MOST_LEN"}
+OF_CRATE_ALONE = {r"\bnarrow\(": "narrow", r"\bnarrow_signed::": "narrow_signed", r"(?<!fn )\broom\(": "room"}
+USE = "@ use /(?P<tree>[^;]*)/ ;"
+# The names that an import brings.
+NAME = re.compile(r"\b\w+(?=\s*(?:[,}]|$))")
+# The first name of a path, with the next one or a group of them.
+HEAD = (rf"/(?<!::)(?<!\.)\b(?P<head>[a-z]\w*)(?=\s*::\s*(?:(?P<item>(?P<part>\w+)(?P<more>::\w+)?)"
+        rf"|\{{{PAIR}(?P<group>[^{{}}]*)\}})?)/")
 MACROS_OF_OURS = {"vec", "format", "print", "println", "eprintln", "assert", "assert_eq", "assert_ne", "panic"}
+
+
+
+
+def imports(s):
+    """The imports: the word `pub` of each, and its names."""
+    for found in s.find(USE):
+        yield "".join(re.findall(r"\bpub\b\S*", found["item"])), NAME.findall(found["tree"])
+
+
+def drop_names(s, is_gone):
+    """Names of imports of which a function says so, by the name and the word `pub`; and an import without any."""
+    def put(found):
+        item, tree = found["item"], found["tree"]
+        names = NAME.findall(tree)
+        gone = [name for name in names if is_gone(name, "".join(re.findall(r"\bpub\b\S*", item)))]
+        if gone == names:
+            return "" if names else None
+        for name in gone:
+            tree, count = re.subn(rf"\b{name}\b\s*,[^\S\n]*|,\s*\b{name}\b(?=\s*\}})", "", tree)
+            if not count:
+                s.fail(found.end("item"), "a name of an import that cannot be dropped")
+        return f"{item}use {tree};" if gone else None
+    s.put(USE, put)
+
+
+def spoken(s):
+    """The names that are spoken of outside imports."""
+    return set(re.findall(r"\b[^\W\d]\w*", re.sub(r"\buse [^;]*;", "", s.text)))
+
+
+def drop_unused(s, before):
+    """Imported names that were spoken of before, and are not any more."""
+    gone = before - spoken(s)
+    drop_names(s, lambda name, pub: not pub and name in gone)
 
 
 def paths(s, crate, crates, is_program, is_crate):
     """`crate::`, the names of the other crates, and the parts of std that are ours."""
     root = PACKAGE if is_program else "crate"
-    crates = set(crates) - {s.text[s.next(i)] for i in s.live("mod")}      # a module of its own has the name first
-    for i in s.sig:
-        if s.dead[i] or s.kind[i] != "id" or not s.is_path(i) or s.follows_path(i) or s.at(s.prev(i), "."):
-            continue
-        text = s.text[i]
-        if text == "crate":
-            own_path(s, i, crate, is_program)
-        elif text in crates:
-            s.new[i] = f"{root}::{text}"
-        elif text in CRATES_OF_OURS:
-            s.new[i] = f"{root}::rattle::{text}"
-        elif text == "std":
-            std_path(s, i, root, is_crate)
-
-
-def own_path(s, i, crate, is_program):
-    if s.at(s.prev(i), "in") and s.at(s.prev(i, 2), "("):
-        s.fail(i, "pub(in ..)")
-    if not is_program:
-        s.new[i] = f"crate::{crate}"
-
-
-def std_path(s, i, root, is_crate):
-    part = s.next(i, 3)
+    # a module of its own has the name first
+    crates = set(crates) - {found["x"] for found in s.find("mod $x")}
     ours = STD_OF_OURS | (OF_CRATE if is_crate else OF_TESTS)
-    is_group = s.text[part] == "{"
-    if is_group and not ours.issuperset(s.words(part, s.match[part])[1:-1:2]):
-        s.fail(i, "a group of parts of std: write one `use` for each")
-    is_method = s.text[part] == "str" and s.is_path(part)
-    is_item = s.at(part, "process", ":", ":", "Abort") or s.at(part, "fmt", ":", ":", "InlineText")
-    if is_item or is_group or (s.text[part] in ours and not is_method):
-        s.new[i] = f"{root}::rattle"
-    elif is_crate:
-        if s.text[part] not in IN_CORE:
-            s.fail(i, "a part of std that core has not")
-        s.new[i] = "core"
+    s.refuse("( in crate", "pub(in ..)")
+
+    def put(found):
+        head, part = found["head"], found["part"]
+        if head == "crate":
+            return None if is_program or part == "rattle" else f"crate::{crate}"
+        if head in crates:
+            return f"{root}::{head}"
+        if head in CRATES_OF_OURS:
+            return f"{root}::rattle::{head}"
+        if head != "std":
+            return None
+        if found["group"] and not ours.issuperset(re.split(r",\s*", found["group"].strip())):
+            s.fail(found.start(), "a group of parts of std: write one `use` for each")
+        is_method = part == "str" and found["more"]
+        if found["group"] or found["item"] in ITEMS_OF_OURS or part in ours and not is_method:
+            return f"{root}::rattle"
+        if is_crate and part not in IN_CORE:
+            s.fail(found.start(), "a part of std that core has not")
+        return "core" if is_crate else None
+    s.put(HEAD, put)
 
 
-def prelude(s, names, is_program):
-    """Names of Rattle's prelude that Rust's prelude has otherwise, in the order of their letters."""
-    used = {"HostRuntime"} if any("HostRuntime" in new for new in s.after.values()) else set()
-    for i in s.sig:
-        if s.dead[i] or s.kind[i] != "id":
-            continue
-        if s.text[i] in names and not s.follows_path(i):
-            used.add(s.text[i])
-        elif s.text[i] in MACROS_OF_OURS and s.at(s.next(i), "!"):
-            used.add(s.text[i])
-    if not used:
-        return ""
+def ours(s, is_program, is_crate):
+    """The imports of what casts, makes room and copies."""
     root = PACKAGE if is_program else "crate"
-    return f"use {root}::rattle::prelude::{group(sorted(used))};\n"
+    if s.has(r"/\.to_vec_by\(/"):
+        yield f"{root}::rattle::vec::ToVecBy"
+    numbers = NUMBERS | OF_CRATE_ALONE if is_crate else NUMBERS
+    used = [name for there, name in numbers.items() if s.has(f"/{there}/")]
+    if used:
+        yield f"{root}::rattle::number::{group(used)}"
+    if s.has(r"/(?<!::)\bvacant\(/"):
+        yield f"{root}::rattle::list::vacant"
+
+
+def prelude(s, is_program, is_crate):
+    """The imports of names that are ours, where Rust's prelude or std has them otherwise, or not."""
+    root = PACKAGE if is_program else "crate"
+    names = NAMES_OF_OURS if is_crate else {*NAMES_OF_OURS, *OF_ALLOC}
+    used = {name for name in names if s.has(rf"/(?<!::)\b{name}\b/")}
+    used |= {name for name in MACROS_OF_OURS if s.has(f"{name} !")}
+    if used:
+        yield f"{root}::rattle::prelude::{group(sorted(used))}"
 
 
 def of_alloc(s):
-    """The imports of `Vec` and `String`, where a file speaks of them, which Rust's core has not."""
-    used = {s.text[i] for i in s.sig if not s.dead[i] and s.kind[i] == "id"}
-    used |= {word for new in s.new.values() for word in NAME.findall(new)}
-    found = [text for name, text in (("String", "string::String"), ("Vec", "vec::Vec")) if name in used]
-    return "".join(f"use alloc::{one};\n" for one in found)
+    """The imports of what Rust's core has not, where a file or its docs speak of it."""
+    text = s.plain(s.text)
+    yield from (f"alloc::{path}" for name, path in OF_ALLOC.items() if re.search(rf"\b{name}\b", text))
 
 
 def group(names):

@@ -1,256 +1,200 @@
-"""A source as tokens, each of which is kept, dropped or replaced; nothing is reordered."""
-import collections
+"""A source as text in which forms are found and replaced. Each comment and each text is one letter in it, and behind
+each bracket stands a letter that it shares with its partner alone, so that an expression finds what a bracket encloses.
 
-from tokens import COMMENTS, tokens
+Where something is dropped a mark stays, and for each of its lines another: so a line of a source keeps its number.
+"""
+import functools
+import re
+import sys
 
-OPEN, CLOSE = {"(": ")", "[": "]", "{": "}"}, {")", "]", "}"}
+TOKEN = re.compile(r"""
+    (?P<ws>\s+)
+    | (?P<innerdoc>//![^\n]*) | (?P<doc>///(?!/)[^\n]*) | (?P<line>//[^\n]*) | (?P<block>/\*.*?\*/)
+    | (?P<abi>"C")
+    | (?P<str>[bc]?"(?:\\.|[^"\\])*" | (?:br|cr|r)(?P<marks>\#*)".*?"(?P=marks))
+    | (?P<char>b?'(?:\\.[^']*|.)') | (?P<life>'\w+)
+    | (?P<num>\d(?:\w|(?<!\.)\.(?=\d))*) | (?P<id>[^\W\d]\w*)
+    | (?P<pair>[()\[\]{}][\U000a0000-\U000affff]?)
+    | (?P<p>.)
+    """, re.X | re.S)
+# The first letter of each kind: these stand for nothing else.
+FIRST = {"doc": 0x40000, "innerdoc": 0x50000, "line": 0x60000, "block": 0x70000, "str": 0x80000, "char": 0x90000,
+         "pair": 0xa0000}
+CLOSE = {"(": ")", "[": "]", "{": "}"}
+DROPPED, LINE = "\f", "\v"
+EMPTY = re.compile(r"\n[^\S\n]*\f[^\S\n]*(?=\n)")
+
+
+def letters(*kinds):
+    return "".join(f"{chr(FIRST[kind])}-{chr(FIRST[kind] + 0xffff)}" for kind in kinds)
+
+
+DOC, PAIR = f"[{letters('doc')}]", f"[{letters('pair')}]"
+BALANCED = r"[(\[{](?P<r%s>PAIR)(?:.*?)[)\]}](?P=r%s)".replace("PAIR", PAIR)
+RUN = rf"(?:[^()\[\]{{}};]|(?>{BALANCED}))*?"
+# Space without a blank line, but for one that stood in the place of something.
+NEAR = r"(?:[^\S\n]|\n(?![^\S\n\f\v]*\n))*"
+ITEM = (rf"(?P<item>(?:(?:{DOC}|#\[(?P<r%s>{PAIR}).*?\](?P=r%s)"
+        rf"|pub\b(?:\({PAIR}\w+\){PAIR})?|unsafe\b|const\b){NEAR})*)")
+PART = re.compile(r"/.+?/|\$\w+\.\.|\$\w+|\.\.|\w+|\S")
 
 
 class Unknown(Exception):
     """A form that no rewrite knows, with its file and line."""
 
 
+@functools.lru_cache(maxsize=None)
+def form(text):
+    """The expression of a form: words and signs, with any space between. `..` is anything, `$x` a name and `$x..`
+    anything by a name, whose brackets are closed and, but for all that a bracket encloses, without a semicolon; `@` is
+    what belongs to an item in front of it: docs, attributes and words; and `/../` is an expression as it stands."""
+    made, open_, known = [], [], set()
+    parts = PART.findall(text)
+    for at, part in enumerate(parts):
+        is_run = part.endswith("..")
+        if made and not is_run and not parts[at - 1].endswith(("..", "@")) and not part.startswith(("/(?=", "/(?!")):
+            made.append(r"\s*")
+        if part.startswith("/") and part != "/":
+            made.append(part[1:-1])
+        elif part == "@":
+            made.append(ITEM.replace("%s", str(at)))
+        elif is_run:
+            is_all = parts[at - 1] in CLOSE and parts[at + 1] in CLOSE.values()
+            run = ".*?" if is_all else RUN.replace("%s", str(at))
+            made.append(f"(?P<{part[1:-2]}>{run})" if part != ".." else run)
+        elif part[0] == "$" and part != "$":
+            made.append(f"(?P={part[1:]})" if part in known else rf"\b(?P<{part[1:]}>\w+)\b")
+            known.add(part)
+        elif part in CLOSE:
+            made.append(f"{re.escape(part)}(?P<b{at}>{PAIR})")
+            open_.append(at)
+        elif part in CLOSE.values():
+            made.append(f"{re.escape(part)}(?P=b{open_.pop()})" if open_ else f"{re.escape(part)}{PAIR}")
+        else:
+            made.append(rf"\b{part}\b" if re.fullmatch(r"\w+", part) else re.escape(part))
+    return re.compile("".join(made), re.S)
+
+
+@functools.lru_cache(maxsize=None)
+def words(text):
+    """The words of a form, without which it stands nowhere."""
+    return [part for part in PART.findall(text) if re.fullmatch(r"\w{2,}", part)]
+
+
+def lines(text):
+    return text.count("\n") + text.count(LINE)
+
+
+@functools.lru_cache(maxsize=8)
+def blocks(text):
+    """Each `impl` and `trait` of a text, the last first: the words in front of its brace, and where the braces are."""
+    found = re.finditer(rf"\b((?:impl|trait)\b[^{{}};]*)\{{({PAIR})", text)
+    return [(it[1], it.end(), text.index("}" + it[2], it.end())) for it in found][::-1]
+
+
+def named(head):
+    """What is named behind an `impl` or `trait`."""
+    return re.match(r"\w+\s*(?:<(?:[^<>]|<[^<>]*>)*>)?\s*(\w+)", head)[1]
+
+
+def filled(text, found):
+    """A text with the parts of a form in the place of their names."""
+    names = "|".join(sorted(found.re.groupindex, reverse=True))
+    return re.sub(rf"\$({names})", lambda it: found[it[1]] or "", text) if names else text
+
+
 class Source:
-    """A source as tokens, each of which is kept, dropped or replaced."""
+    """A source in which forms are replaced, one after the other."""
 
     def __init__(self, path, text):
-        self.path = path
-        pairs = list(tokens(text))
-        self.kind = [k for k, _ in pairs]
-        self.text = [t for _, t in pairs]
-        self.dead = [False] * len(pairs)
-        self.new = {}
-        self.after = {}
-        self.before = {}
-        self.sig = [i for i, k in enumerate(self.kind) if k != "ws" and k not in COMMENTS]
-        self.rank = {i: r for r, i in enumerate(self.sig)}
-        self.match = self.matches()
+        self.path, self.held, self.pairs, self.text = path, {}, 0, ""
+        self.text = self.take(text)
 
-    def fail(self, i, why):
-        line = sum(t.count("\n") for t in self.text[:i]) + 1
-        raise Unknown(f"{self.path}:{line}: {why}")
+    def take(self, text):
+        """Rust or Rattle as the text of a source has it; what stands so already stays."""
+        made, open_ = [], []
+        for found in TOKEN.finditer(text):
+            kind, part = found.lastgroup, found.group()
+            if kind == "pair" and len(part) == 1:
+                if part in CLOSE:
+                    open_.append((part, self.pairs))
+                    self.pairs += 1
+                elif not open_ or CLOSE[open_[-1][0]] != part:
+                    self.text = text
+                    self.fail(found.start(), "brackets do not match")
+                part += chr(FIRST[kind] + (open_[-1] if part in CLOSE else open_.pop())[1])
+            elif kind in FIRST and kind != "pair":
+                self.held[chr(FIRST[kind] + len(self.held))] = part
+                part = chr(FIRST[kind] + len(self.held) - 1)
+            made.append(part)
+        return "".join(made)
 
-    def matches(self):
-        found, open_ = {}, []
-        for i in self.sig:
-            if self.text[i] in OPEN:
-                open_.append(i)
-            elif self.text[i] in CLOSE:
-                j = open_.pop() if open_ else None
-                if j is None or OPEN[self.text[j]] != self.text[i]:
-                    self.fail(i, "brackets do not match")
-                found[j], found[i] = i, j
-        return found
+    def fail(self, at, why):
+        raise Unknown(f"{self.path}:{lines(self.text[:at]) + 1}: {why}")
 
-    def next(self, i, by=1):
-        """The token that counts after this one, or None."""
-        if i is None:
-            return None
-        r = self.rank[i] + by
-        return self.sig[r] if 0 <= r < len(self.sig) else None
+    def plain(self, text):
+        """What stands in a source for a part of this text."""
+        text = re.sub(PAIR, "", text)
+        return re.sub(f"[{letters('doc', 'innerdoc', 'line', 'block', 'str', 'char')}]",
+                      lambda it: self.held[it[0]], text)
 
-    def prev(self, i, by=1):
-        return self.next(i, -by)
+    def find(self, what, end=sys.maxsize):
+        return form(what).finditer(self.text, 0, end) if all(word in self.text for word in words(what)) else ()
 
-    def at(self, i, *words):
-        """Whether the tokens that count, from this one on, are these."""
-        for word in words:
-            if i is None or self.text[i] != word:
-                return False
-            i = self.next(i)
-        return True
+    def has(self, what):
+        return any(True for _ in self.find(what))
 
-    def is_path(self, i):
-        """Whether `::` stands after this token."""
-        return self.at(self.next(i), ":", ":")
+    def replaced(self, text, what, new=""):
+        """A text with something in the place of each such form, until none is left: a text in which `$x` is the part of
+        that name, or what a function says of it, None to leave it as it is."""
+        def put(found):
+            made = new(found) if callable(new) else filled(new, found)
+            if made is None:
+                return found[0]
+            made = self.take(made)
+            return made + DROPPED * (not made.strip()) + LINE * (lines(found[0]) - lines(made))
+        while all(word in text for word in words(what)):
+            text, before = form(what).sub(put, text), text
+            if text == before or callable(new):
+                return before if text == before else text
+        return text
 
-    def follows_path(self, i):
-        j = self.prev(i)
-        return j is not None and self.text[j] == ":" and self.text[self.prev(j)] == ":"
+    def put(self, what, new=""):
+        text = self.replaced(self.text, what, new)
+        if text is not self.text:
+            self.text = EMPTY.sub(lambda it: LINE * lines(it[0]), text)
 
-    def drop(self, i, j):
-        """Drops the tokens from i to j, both."""
-        for k in range(i, j + 1):
-            self.dead[k] = True
+    def refuse(self, what, why):
+        """Refuses each such form; `$x` in the words is its part of that name."""
+        for found in self.find(what):
+            at = found.end("item") if "item" in found.groupdict() else found.start()
+            self.fail(at, self.plain(filled(why, found)))
 
-    def drop_word(self, i):
-        """Drops a token and the space after it."""
-        self.drop(i, i)
-        self.dead[i + 1] = self.kind[i + 1] == "ws"
+    def outer(self, at):
+        """The innermost bracket around a place, or None."""
+        open_ = []
+        for it in re.finditer(r"[()\[\]{}]", self.text[:at]):
+            open_ = open_ + [it[0]] if it[0] in CLOSE else open_[:-1]
+        return open_[-1] if open_ else None
 
-    def join(self, i, j, between=" "):
-        """Leaves this alone between two tokens between which all has been dropped."""
-        self.drop(i + 1, j - 1)
-        self.dead[j - 1] = False
-        self.new[j - 1] = between
+    def around(self, at):
+        """The innermost `impl` or `trait` around a place: what stands between that word and its brace; or None."""
+        return next((head for head, start, end in blocks(self.text) if start < at < end), None)
 
-    def live(self, *texts):
-        """The places of the tokens that are kept up to now and are one of these."""
-        for i in self.sig:
-            if self.text[i] in texts and not self.dead[i] and self.kind[i] in ("id", "p"):
-                yield i
-
-    def words(self, i, j):
-        """The tokens that count, from i to j, both."""
-        return tuple(self.text[k] for k in range(i, j + 1) if k in self.rank)
-
-    def parts(self, open_):
-        """The parts of a bracket, which commas split: of each the first and the last token, and its comma or None."""
-        found, first, k = [], self.next(open_), self.next(open_)
-        while True:
-            comma = self.skip_to(k, {",", self.text[self.match[open_]]})
-            last = self.prev(comma)
-            if first <= last and first != comma:
-                found.append((first, last, comma if self.text[comma] == "," else None))
-            if self.text[comma] != ",":
-                return found
-            first = k = self.next(comma)
-
-    def angle(self, i, way=1):
-        """The `>` that closes the `<` at a place; backwards the `<` that a `>` closes."""
-        depth = 0
-        while True:
-            depth += (self.text[i] == "<") - (self.text[i] == ">" and self.text[self.prev(i)] not in ("-", "="))
-            if depth == 0:
-                return i
-            i = self.next(i, way)
-
-    def angle_start(self, i):
-        return self.angle(i, -1)
-
-    def outer(self, i):
-        """The innermost open bracket around a token, or None."""
-        i = self.prev(i)
-        while i is not None and self.text[i] not in OPEN:
-            i = self.prev(self.match[i] if self.text[i] in CLOSE else i)
-        return i
-
-    def implements(self, i, body):
-        """The trait of an `impl` whose brace is at `body`, without its path and parameters; None where it has none."""
-        k, name, depth = self.next(i), None, 0
-        while k != body:
-            text = self.text[k]
-            depth += (text == "<") - (text == ">" and self.text[self.prev(k)] != "-")
-            if text == "for" and depth == 0:
-                return name
-            if depth == 0 and self.kind[k] == "id":
-                name = text
-            k = self.next(k)
-        return None
-
-    def in_use(self, i):
-        """Whether a token is a part of a `use`."""
-        while i is not None and self.text[i] not in (";", "}", ")", "]"):
-            if self.text[i] == "use":
-                return True
-            i = self.prev(i)
-        return False
-
-    def imports(self):
-        """The places of the words `use` that are kept, and of the semicolon of each."""
-        for i in self.live("use"):
-            yield i, self.skip_to(i, {";"})
-
-    def drop_import(self, path, name):
-        """A name of an import, and the import where it was the only one."""
-        for i, end in self.imports():
-            if not "".join(self.words(self.next(i), end)).startswith(path + "::"):
-                continue
-            for k in self.names(i, end):
-                if self.text[k] == name:
-                    self.drop_name(i, end, k)
-
-    def names(self, i, end):
-        """The names that an import brings, those that are kept."""
-        return [k for k in range(i, end) if k in self.rank and not self.dead[k] and self.kind[k] == "id"
-                and self.text[self.next(k)] in (",", "}", ";")]
-
-    def drop_name(self, i, end, k):
-        """One name of an import; the import too if nothing is left."""
-        if len(self.names(i, end)) == 1:
-            return self.drop(self.item_start(i), end)
-        after, before = self.next(k), self.prev(k)
-        while self.dead[before]:
-            before = self.prev(before)
-        if self.text[after] == ",":
-            self.drop(k, after)
-            self.dead[after + 1] = self.kind[after + 1] == "ws" and "\n" not in self.text[after + 1]
-        elif self.text[before] == ",":
-            self.drop(before, k)
-        else:
-            self.fail(k, "a name of an import that cannot be dropped")
-        return None
-
-    def references(self):
-        """How often each name is spoken of outside imports, in what is kept up to now."""
-        of_imports = {k for i, end in self.imports() for k in range(i, end)}
-        return collections.Counter(self.text[i] for i in self.sig
-                                   if self.kind[i] == "id" and not self.dead[i] and i not in of_imports)
-
-    def drop_unused(self, before):
-        """Imported names that were spoken of before, and are not any more."""
-        now = self.references()
-        for i, end in self.imports():
-            if self.text[self.prev(i) or 0] in ("pub", ")"):
-                continue
-            for k in self.names(i, end):
-                if before[self.text[k]] and not now[self.text[k]] and not self.dead[i]:
-                    self.drop_name(i, end, k)
-
-    def skip_to(self, i, ends):
-        """The first token from i on, outside brackets and not dropped, that is one of these."""
-        while i is not None and (self.dead[i] or self.text[i] not in ends):
-            i = self.next(self.match[i]) if self.text[i] in OPEN else self.next(i)
-        return i
-
-    def item_start(self, i):
-        """Where the item begins that this token is a part of: with its docs, attributes and visibility."""
-        while True:
-            j = i - 1
-            while j >= 0 and self.kind[j] in ("ws", "doc", "line") and not (
-                    self.kind[j] == "ws" and self.text[j].count("\n") > 1):
-                j -= 1
-            if j < 0:
-                break
-            if self.text[j] in ("pub", "unsafe", "const", "final"):
-                i = j
-            elif self.text[j] == ")" and self.text[self.prev(self.match[j])] == "pub":
-                i = self.prev(self.match[j])
-            elif self.text[j] == "]" and self.text[self.prev(self.match[j])] == "#":
-                i = self.prev(self.match[j])
-            else:
-                break
-        j = i - 1
-        while j >= 0 and self.kind[j] in ("ws", "doc") and self.text[j].count("\n") < 2:
-            if self.kind[j] == "doc":
-                i = j
-            j -= 1
-        return i
-
-    def first_of(self, fn):
-        """The first token of a function that is kept: of its attributes, or of its visibility."""
-        i = self.item_start(fn)
-        while i not in self.rank or self.dead[i]:
-            i += 1
-        return i
+    def owner(self, at):
+        """The type of the inherent impl around a place, or None."""
+        head = self.around(at)
+        return None if head is None or head.startswith("trait") or re.search(r"\bfor\b", head) else named(head)
 
     def rust(self):
-        """The text with what is dropped left out; a line of which nothing is left goes too."""
-        out = []
-        for i, text in enumerate(self.text):
-            out.append(self.before.get(i, ""))
-            out.append("\0" if self.dead[i] else self.new.get(i, text))
-            out.append(self.after.get(i, ""))
-        lines = []
-        for line in "".join(out).split("\n"):
-            bare = line.replace("\0", "")
-            if "\0" in line:
-                if not bare.strip():
-                    continue
-                bare = bare.rstrip()
-            if not bare.strip() and (not lines or not lines[-1].strip() or lines[-1].endswith("{")):
+        """The text; no blank line stands beside another, or beside the brace of a block."""
+        made = []
+        for line in self.text.split("\n"):
+            is_marked = DROPPED in line
+            line = line.replace(DROPPED, "").replace(LINE, "").rstrip()
+            if not line.strip() and (is_marked or not made or not made[-1].strip() or re.search(r"\{.$", made[-1])):
                 continue
-            if bare.strip().startswith("}") and lines and not lines[-1].strip():
-                lines.pop()
-            lines.append(bare)
-        return "\n".join(lines).strip("\n") + "\n"
+            if line.strip().startswith("}") and made and not made[-1].strip():
+                made.pop()
+            made.append(line)
+        return self.plain("\n".join(made).strip("\n") + "\n")

@@ -1,5 +1,8 @@
 """What of the crates a Rust user sees: the names that the top crates give again, and their calls."""
-from source import Source
+import re
+
+from paths import drop_names, imports
+from source import PAIR
 
 # Names that a top crate gives again and the crate has otherwise, or not: they serve the crates below.
 HIDDEN_NAMES = {
@@ -34,112 +37,51 @@ OF_TRAITS = {"buffer_len": "encoded_len", "emit": "encode_into"}
 OF_TYPES = {("DefaultNla", "parse"): "of_frame", ("LinkAttribute", "parse_with_param"): "of_frame_with_param"}
 
 
+# A function that is public, what it is given, and what it returns.
+CALL = rf"/\bpub fn (?P<name>\w+)(?=[^(]*\((?P<pair>{PAIR})(?P<given>.*?)\)(?P=pair)\s*(?P<to>(?:->\s*[^\s{{]+)?))/"
+TRAITS = "|".join(OF_TRAITS)
+
+
 def given_again(s):
     """The names that a top crate gives again."""
-    return {s.text[k] for i, end in s.imports() if s.at(s.prev(i), "pub") for k in s.names(i, end)} - HIDDEN_NAMES
+    return {name for pub, names in imports(s) if pub == "pub" for name in names} - HIDDEN_NAMES
 
 
 def hide_names(s):
-    for i, end in s.imports():
-        for k in s.names(i, end):
-            if s.at(s.prev(i), "pub") and s.text[k] in HIDDEN_NAMES and not s.dead[i]:
-                s.drop_name(i, end, k)
-
-
-def hide_modules(s):
-    """`pub mod` of a top crate is `pub(crate) mod`: a user has its names without them."""
-    for i in s.live("mod"):
-        if s.at(s.prev(i), "pub"):
-            s.new[s.prev(i)] = "pub(crate)"
-
-
-def is_hidden(s, i):
-    """Whether the function that this `fn` begins, of an impl, is for the crates alone."""
-    name, open_ = s.next(i), s.skip_to(i, {"("})
-    takes_frame = any(s.text[k] == "NlaBuffer" for k in range(open_, s.match[open_]))
-    is_for_crates = s.text[name] in HIDDEN_CALLS or (owner(s, i), s.text[name]) in HIDDEN_OF
-    return is_for_crates or takes_frame or by_hand(s, i) is not None
+    """The names that serve the crates below are not given again, and those that are need no path."""
+    drop_names(s, lambda name, pub: pub == "pub" and name in HIDDEN_NAMES)
+    s.put("pub mod", "pub(crate) mod")
 
 
 def hide_calls(s):
     """`pub fn` of those calls is `pub(crate) fn`."""
-    for i in s.live("fn"):
-        if s.at(s.prev(i), "pub") and owner(s, i) and is_hidden(s, i):
-            s.new[s.prev(i)] = "pub(crate)"
-            if by_hand(s, i):
-                s.new[s.next(i)] = by_hand(s, i)
+    def hidden(found):
+        type_, name = s.owner(found.start()), found["name"]
+        is_hidden = name in HIDDEN_CALLS or (type_, name) in {*HIDDEN_OF, *BY_HAND} or "NlaBuffer" in found["given"]
+        return f"pub(crate) fn {BY_HAND.get((type_, name), name)}" if type_ and is_hidden else None
+    s.put(CALL, hidden)
 
 
 def other_names(s):
     """Other names for the calls that would hide those of the crate's traits, where they are declared and called."""
-    for i in s.sig:
-        if s.kind[i] != "id" or s.dead[i]:
-            continue
-        before = s.prev(i)
-        if s.text[i] in OF_TRAITS and (s.at(before, "fn") or s.at(before, ".") or s.follows_path(i)):
-            s.new[i] = OF_TRAITS[s.text[i]]
-        type_ = owner(s, before) if s.at(before, "fn") else s.text[s.prev(i, 3)] if s.follows_path(i) else None
-        if (type_, s.text[i]) in OF_TYPES:
-            s.new[i] = OF_TYPES[type_, s.text[i]]
+    s.put(rf"/(?:(?<=\bfn )|(?<=\.)|(?<=::))(?P<name>{TRAITS})\b/", lambda found: OF_TRAITS[found["name"]])
+    for (type_, name), other in OF_TYPES.items():
+        s.put(rf"/\b{type_}::{name}\b/", f"{type_}::{other}")
+        s.put(f"fn {name}", lambda found: f"fn {other}" if s.owner(found.start()) == type_ else None)
 
 
-def by_hand(s, i):
-    """Another name of the function that this `fn` begins, where the crate has one of its name by hand."""
-    return BY_HAND.get((owner(s, i), s.text[s.next(i)]))
-
-
-def owner(s, i):
-    """The type of the inherent impl around this `fn`; None elsewhere."""
-    open_, k = around(s, i)
-    return None if k is None or s.text[k] != "impl" or s.implements(k, open_) is not None else named(s, k)
-
-
-def around(s, i):
-    """The brace around this `fn`, and the word `impl` or `trait` in front of it, or what else stands there."""
-    open_ = k = s.outer(i)
-    while k is not None and s.text[k] not in (";", "}", "impl", "trait"):
-        k = s.prev(s.angle_start(k) if s.text[k] == ">" else k)
-    return open_, k
-
-
-def named(s, k):
-    """What is named behind an `impl` or `trait`."""
-    k = s.next(k)
-    return s.text[s.next(s.angle(k)) if s.text[k] == "<" else k]
-
-
-def public_name(s, i, public):
-    """The name of the call that this `fn` begins, as a user writes it, where a user sees it; else None."""
-    name = s.text[s.next(i)]
-    if not s.at(s.prev(i), "pub"):
-        return None
-    type_ = owner(s, i)
+def public_name(s, found, public):
+    """The name of a call, as a user writes it, where a user sees it; else None."""
+    type_, name = s.owner(found.start()), found["name"]
     if type_ is not None:
-        return f"{type_}::{name}" if type_ in public and not is_hidden(s, i) else None
-    return name if s.outer(i) is None and name in public else None
+        return f"{type_}::{name}" if type_ in public else None
+    return name if s.around(found.start()) is None and name in public else None
 
 
-def holder(s, fn):
-    """The type of the impl, or the trait, around this `fn`."""
-    return named(s, around(s, fn)[1])
-
-
-def must_use(text, path, mode):
-    """The made text, where calls that a user sees and that only return something are `#[must_use]`."""
-    s = Source(path, text)
-    for i in s.live("fn"):
-        if public_name(s, i, mode.public) and only_returns(s, i):
-            start = s.prev(i)
-            front = s.text[start - 1] if start and s.kind[start - 1] == "ws" else ""
-            s.before[start] = "#[must_use]\n" + front[front.rfind("\n") + 1:]
-    return s.rust()
-
-
-def only_returns(s, i):
-    """Whether the function that this `fn` begins returns something that rustc does not warn of by itself, and changes
-    nothing that it is given."""
-    open_ = s.skip_to(i, {"("})
-    takes_mut = any(s.at(k, "mut") and (s.at(s.prev(k), "&") or s.kind[s.prev(k)] == "life")
-                    for k in range(open_, s.match[open_]) if k in s.rank)
-    arrow = s.next(s.match[open_])
-    return s.at(arrow, "-", ">") and not takes_mut and not s.at(s.next(arrow, 2), "Result")
+def must_use(s, public):
+    """Calls that a user sees are `#[must_use]` where they only return something that rustc does not warn of by itself,
+    and change nothing that they are given."""
+    def only_returns(found):
+        is_told = re.search(r"(?:&\s*|'\w+\s+)mut\b", found["given"]) or re.match(r"->\s*Result\b|$", found["to"])
+        return None if is_told or not public_name(s, found, public) else f"#[must_use]\n{found[0]}"
+    s.put(CALL, only_returns)

@@ -8,14 +8,13 @@ import re
 import sys
 from collections import Counter
 
-import contracts
 import derives
 import erase
 import keys
 import memory
 import older
-import owed
 import paths
+import rules
 import surface
 import typed
 from source import Source, Unknown
@@ -41,14 +40,18 @@ def by(rewrite):
     return made
 
 
+def by_rules(table):
+    return by(lambda s: rules.apply(s, table))
+
+
 MAKES = {
     "refused": lambda text: refused(text, "link_msg", erase.Mode("crate")),
     "refused in tests": lambda text: refused(text, "message_diff", erase.Mode("tests")),
     "made in tests": lambda text: erase.erase("a.rt", text, "message_diff", erase.Mode("tests")),
-    "let_else": lambda text: older.let_else("a.rs", text),
-    "reserved": by(memory.reserved), "narrowing": by(owed.narrowing), "hide_calls": by(surface.hide_calls),
+    "let_else": by(older.let_else),
+    "reserved": by_rules(rules.RESERVED), "narrowing": by_rules(rules.NARROWING), "hide_calls": by(surface.hide_calls),
     "other_names": by(surface.other_names),
-    "inline_optimized": by(contracts.inline_optimized), "unwrap_functions": by(memory.unwrap_functions),
+    "inline_optimized": by_rules(rules.CRATE), "unwrap_functions": by(memory.unwrap_functions),
     "without memory": by(lambda s: memory.memory(s, set())),
     "derives": by(lambda s: derives.derives(s, is_crate=True)),
     "paths": by(lambda s: paths.paths(s, "line_filter", [], is_program=False, is_crate=False)),

@@ -2,6 +2,9 @@
 import re
 import textwrap
 
+from source import PAIR, letters
+from surface import CALL, public_name
+
 WIDTH = 120
 ORDER = "Nor are those of machines with different byte orders, which `BYTE_ORDER` names: numbers are in host order."
 # Sentences about what only Rattle has, as the joined text of a paragraph has them, and what the crate says there.
@@ -30,21 +33,13 @@ SAID = [(re.compile(pattern), text) for pattern, text in [
     (r"`small_enough`", "839"),
 ]]
 LEFT = re.compile(r"OutOfMemory|for the proof|\bclause\b|growth_per_byte|small_enough")
-KINDS = ("doc", "innerdoc")
+DOCS = "|".join(rf"[{marks}](?:[^\S\n]*\n[^\S\n]*[{marks}])*" for marks in map(letters, ("doc", "innerdoc")))
+# The lines of docs, and the call that stands behind them and its attributes.
+BLOCK = rf"/(?P<docs>{DOCS})(?=\s*(?:#\[(?P<q>{PAIR}).*?\](?P=q)\s*)*{CALL[1:-1]}|)/"
 
 
-def blocks(s):
-    """The docs that are kept: the places of the lines of each."""
-    block = []
-    for i, kind in enumerate(s.kind):
-        if kind in KINDS and not s.dead[i]:
-            block.append(i)
-        elif kind != "ws" or s.text[i].count("\n") > 1:
-            if block:
-                yield block
-            block = []
-    if block:
-        yield block
+def lines_of(s, block):
+    return [s.held[it][3:].removeprefix(" ") for it in block if it in s.held]
 
 
 def paragraphs(lines):
@@ -74,48 +69,45 @@ def wrapped(paragraph, width):
     return textwrap.wrap(paragraph[0], width, break_long_words=False, break_on_hyphens=False)
 
 
-def put(s, block, found):
-    """Writes the docs anew, in place of the first of their lines."""
-    mark = "//!" if s.kind[block[0]] == "innerdoc" else "///"
-    front = s.text[block[0] - 1] if block[0] and s.kind[block[0] - 1] == "ws" else "\n"
-    indent = front[front.rfind("\n") + 1:]
-    lines = []
-    for paragraph in found:
-        lines += ([""] if lines else []) + wrapped(paragraph, WIDTH - len(indent) - 4)
-    s.drop(block[0], block[-1])
-    if lines:
-        s.dead[block[0]] = False
-        s.new[block[0]] = f"\n{indent}".join(f"{mark} {line}".rstrip() for line in lines)
+def docs(s, told, public):
+    """The docs in the crate's words. `told` says paragraphs for a call that a user sees, by its name."""
+    seen = set()
 
-
-def docs(s, told):
-    """The docs in the crate's words. `told` are paragraphs for functions, by the place of their `fn`."""
-    of = {s.first_of(fn): paragraphs_of for fn, paragraphs_of in told.items()}
-    for block in blocks(s):
-        lines = [s.text[i][3:].removeprefix(" ") for i in block]
-        before = paragraphs(lines)
-        found = [one for one in map(said, before) if one]
-        item = next((k for k in range(block[-1] + 1, len(s.kind)) if k in s.rank and not s.dead[k]), None)
-        found = with_told(found, of.pop(item, []))
-        left = LEFT.search(" ".join(" ".join(one) for one in found))
+    def put(found):
+        name = found["name"] and public_name(s, found, public)
+        seen.add(name)
+        before = paragraphs(lines_of(s, found["docs"]))
+        made = [one for one in map(said, before) if one]
+        made = with_told(made, told(name, found)) if name else made
+        left = LEFT.search(" ".join(" ".join(one) for one in made))
         if left:
-            s.fail(block[0], f"words of Rattle in docs: {left.group()}")
-        if found != before:
-            put(s, block, found)
-    for item in of:
-        s.fail(item, "a call that a user sees has no docs")
+            s.fail(found.start(), f"words of Rattle in docs: {left.group()}")
+        return None if made == before else written(s, found, made)
+    s.put(BLOCK, put)
+    for found in s.find(CALL):
+        name = public_name(s, found, public)
+        if name and name not in seen and told(name, found):
+            s.fail(found.start(), "a call that a user sees has no docs")
+
+
+def written(s, found, paragraphs_):
+    """The docs as lines, from the place on where they begin."""
+    mark = s.held[found["docs"][0]][:3]
+    indent = re.sub(r"[\f\v]", "", s.text[s.text.rfind("\n", 0, found.start()) + 1:found.start()])
+    lines = []
+    for paragraph in paragraphs_:
+        lines += [""] * bool(lines) + wrapped(paragraph, WIDTH - len(indent) - 4)
+    return f"\n{indent}".join(f"{mark} {line}".rstrip() for line in lines)
 
 
 def with_told(found, told):
     """The paragraph that says what is refused goes under its heading, a link to an example above the headings; what
     else is told comes after all."""
     if [] in told:                                      # the mark of a call that returns a Result
-        told = [one for one in told if one]
         at = next((n for n, one in enumerate(found) if one[0].startswith("Refuses")), None)
-        if at is None:
-            found = found + [["# Errors"], ["The first fault: its cause, and where it is."]]
-        else:
-            found = found[:at] + [["# Errors"], found[at]] + found[at + 1:]
+        refused = ["The first fault: its cause, and where it is."] if at is None else found[at]
+        at = len(found) if at is None else at
+        found = [*found[:at], ["# Errors"], refused, *found[at + 1:]]
     at = next((n for n, one in enumerate(found) if one[0].startswith("# ")), len(found))
-    links = [one for one in told if one[0].startswith("[")]
-    return found[:at] + links + found[at:] + [one for one in told if one not in links]
+    links = [one for one in told if one and one[0].startswith("[")]
+    return found[:at] + links + found[at:] + [one for one in told if one and one not in links]
