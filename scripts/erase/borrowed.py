@@ -1,21 +1,20 @@
 #!/usr/bin/env python3
-"""Makes the values over borrowed bytes of crates/link_view, of the rows of `LinkAttribute`, of those of the enums of
+"""Fills in the values over borrowed bytes of crates/link_view, of the rows of `LinkAttribute`, of those of the enums of
 inner lists, and of the lines of their tables. A variant, the arm that reads it and the line that says what it stands
-for are made of one row, and the proof refuses a row that does not fit the table.
+for are made of one row, and the proof refuses a row that does not fit the table. What else is written of an enum of an
+inner list is the same of each, but for its names.
 
-    python3 scripts/erase/borrowed.py       makes `borrowed`, `nest`, `afspec` and `vf` of crates/link_view
+    python3 scripts/erase/borrowed.py       fills in `borrowed`, `nest`, `afspec` and `vf` of crates/link_view
 
 `erase.py check` says whether what stands there is what this would make, but for its layout.
 """
 import functools
 import os
 import re
-import textwrap
 
 import keys
 
 VIEW = os.path.join(keys.CRATES, "link_view")
-SAID = "made by scripts/erase/borrowed.py of the rows of"
 # How the value of an attribute is read that is no list: what the arm does with its payload.
 READ = {"Bytes": "Ok({variant}(payload))", "DefaultNla": "Ok({variant}(frame))",
         "Text": "borrow!({variant}, borrow_string(payload))", "WirelessEvent": "borrow!({variant}, event_of(payload))",
@@ -68,13 +67,7 @@ def arm(enum, row):
 
 
 def variants(rows):
-    return "".join(f"    {row[1]}({value(row[2])}),\n" for row in rows) + "    Other(NlaBuffer<'a>),"
-
-
-def imports(module, names, width=100):
-    """Imports of these names, each on a line that is not too long."""
-    for one in textwrap.wrap(", ".join(names), width - len(module) - len("use .{}")):
-        yield f"use {module}.{{{one.rstrip(',')}}}"
+    return [f"    {row[1]}({value(row[2])})," for row in rows] + ["    Other(NlaBuffer<'a>),"]
 
 
 def stands(enum, owned, variant, type_, row, reader):
@@ -85,111 +78,42 @@ def stands(enum, owned, variant, type_, row, reader):
     return f"{owned} ({variant}.{name} v) = Ok ({type_}.{name} {STANDS.get(held, 'v')})"
 
 
+def between(text, expression, lines):
+    """The text with these lines in the place of the group of this expression."""
+    found = re.search(expression, text, re.M)
+    if not found:
+        raise ValueError(f"borrowed.py: there is no {expression}: write it as those beside it")
+    return text[:found.start(1)] + "\n".join(lines) + text[found.end(1):]
+
+
 # ** the attributes of a message
-
-FAMILY = """
-/// Reads {number} under the header's family.
-#[tactic(auto, unfolding(link_msg::specs::Tables::{table}, nla_wire::specs::Grammar::unless_empty))]
-#[inline(always)]
-fn {table}_of<'a>(
-    frame: NlaBuffer<'a>,
-    family: AddressFamily,
-) -> Result<BorrowedAttribute<'a>, DecodeError>
-    ensures {{ told owned result ≡ ({table} family).reads.reads frame.entry }}
-{{
-    let payload = frame.value();
-    match family {{
-{arms}
-    }}
-}}
-"""
-
-HEAD = """//! Attributes over borrowed bytes, {said} `LinkAttribute`: do not edit.
-
-ghost use Rattle.std.specs.Prelude.{{◌≡◌}};
-ghost use Rattle.nla_wire.specs.Frames.{{number}};
-ghost use Rattle.link_msg.specs.Tables.{{attribute_place, proto_info, af_spec}};
-ghost use Rattle.link_view.specs.Told.{{told}};
-ghost use Rattle.link_view.specs.Borrowed.{{owned}};
-
-use crate::payload::{{WirelessEventView, borrow, event_of, some}};
-use link_msg::numbers::*;
-use link_msg::{{
-    AddressFamily, LinkEvent, LinkMode, LinkPhysId, Map, State, Stats, Stats64, parse_i32,
-    parse_u8, parse_u16, parse_u32,
-}};
-use nla_wire::{{DecodeError, NlaBuffer, borrow_string, empty_list}};
-
-/// An attribute over borrowed bytes: a variant for each of `LinkAttribute`, with its value. That of a list is its
-/// payload, and that of an extent mask the number.
-#[derive(Drop)]
-pub enum BorrowedAttribute<'a> {{
-{variants}
-}}
-
-/// Reads a frame, whose number is given beside it, for `borrow_frame`.
-#[tactic(auto, unfolding(link_msg::proofs::Opened::table, nla_wire::specs::Grammar::unless_empty))]
-#[inline(always)]
-pub(crate) fn read_frame<'a>(
-    kind: u16,
-    frame: NlaBuffer<'a>,
-    family: AddressFamily,
-) -> Result<BorrowedAttribute<'a>, DecodeError>
-    requires {{ kind ≡ number frame }}
-    ensures {{ told owned result ≡ (attribute_place family).reads frame.entry }}
-{{
-    let payload = frame.value();
-    match kind {{
-{arms}
-        _ => Ok(BorrowedAttribute::Other(frame)),
-    }}
-}}
-{families}"""
-
 
 def outer_arm(row):
     """The arm of a number that no family decides."""
-    number, how = row[3], row[5]
     made = arm("BorrowedAttribute", row)
-    if how == "sized":
+    if row[5] == "sized":
         other = "_ => Ok(BorrowedAttribute::Other(frame)),"
-        return f"{number} => match payload.len() {{\n    2 => {made},\n    {other}\n}},"
-    return f"{number} => {made},"
+        return f"{row[3]} => match payload.len() {{ 2 => {made}, {other} }},"
+    return f"{row[3]} => {made},"
 
 
-def by_family(rows):
-    """The numbers that the header's family decides, each with its arms."""
-    found = {}
+def attributes(text):
+    rows, families = list(keys.rows()), {}
+    arms = [outer_arm(row) for row in rows if row[6] == "any"]
     for row in rows:
         if row[6] != "any":
             family = "_" if row[6] == "rest" else f"AddressFamily::{row[6]}"
-            found.setdefault(row[3], []).append(f"        {family} => {arm('BorrowedAttribute', row)},")
-    return found
+            families.setdefault(row[3], []).append(f"{family} => {arm('BorrowedAttribute', row)},")
+    text = between(text, r"^pub enum BorrowedAttribute<'a> \{\n([\s\S]*?)\n\}", variants(rows))
+    for number, ones in families.items():
+        name = number.removeprefix("IFLA_").lower().replace("protinfo", "proto_info")
+        arms.append(f"{number} => {name}_of(frame, family),")
+        text = between(text, rf"^fn {name}_of<[\s\S]*?    match family \{{\n([\s\S]*?)\n    \}}\n", ones)
+    arms.append("_ => Ok(BorrowedAttribute::Other(frame)),")
+    return between(text, r"^pub\(crate\) fn read_frame<[\s\S]*?    match kind \{\n([\s\S]*?)\n    \}\n", arms)
 
 
-def function_of(number):
-    return number.removeprefix("IFLA_").lower().replace("protinfo", "proto_info")
-
-
-def attributes():
-    rows = list(keys.rows())
-    families = by_family(rows)
-    arms = [textwrap.indent(outer_arm(row), " " * 8) for row in rows if row[6] == "any"]
-    arms += [f"        {number} => {function_of(number)}_of(frame, family)," for number in families]
-    below = "".join(FAMILY.format(number=number, table=function_of(number), arms="\n".join(ones))
-                    for number, ones in families.items())
-    return HEAD.format(said=SAID, variants=variants(rows), arms="\n".join(arms), families=below)
-
-
-SPECS = """-- What attributes over borrowed bytes stand for, {said} `LinkAttribute` and
--- of the lines of its table: do not edit.
-{uses}
-
--- what `parse` reads of it: the same variant with the same value; of a list what its payload is read as, or its fault
-abbrev pub owned : BorrowedAttribute → Result LinkAttribute Cause
-{lines}
-"""
-OTHER = ("", "Other", "DefaultNla")
+OTHER = ("", "Other", "DefaultNla", "", "", "")
 
 
 def readers():
@@ -199,138 +123,21 @@ def readers():
         yield variant, f"{name}.grammar.reads" if line == "written" else f"{name}.codec.grammar.reads"
 
 
-def attribute_specs():
-    rows, reader = list(keys.rows()), dict(readers())
+def attribute_specs(text):
+    reader = dict(readers())
     lines = [stands("BorrowedAttribute", "owned", "Borrowed", "Attributes", row, reader.get(row[1]))
-             for row in [*rows, OTHER]]
-    names = sorted({reader[row[1]].split(".")[0] for row in rows if is_list(row[2])})
-    uses = ["use Rattle.std.specs.Prelude.{Result, Ok}", "use Rattle.nla_wire.specs.Reading.{◌>>=◌}",
-            "use Rattle.nla_wire.specs.declared.error.Cause.{Cause}",
-            "use Rattle.link_vals.specs.LinkExtentMaskTable.{ext_list}",
-            *imports("Rattle.link_msg.specs.Tables", names),
-            "use Rattle.link_msg.specs.declared.attribute.LinkAttribute.{LinkAttribute}",
-            "use Rattle.link_msg.specs.declared.attribute.LinkAttribute.TheVariants as Attributes",
-            "use Rattle.link_view.specs.Events.{owned_event}",
-            "use Rattle.link_view.specs.declared.borrowed.BorrowedAttribute.{BorrowedAttribute}",
-            "use Rattle.link_view.specs.declared.borrowed.BorrowedAttribute.TheVariants as Borrowed"]
-    return SPECS.format(said=SAID, uses="\n".join(uses), lines="\n".join(lines))
+             for row in [*keys.rows(), OTHER]]
+    return between(text, r"^abbrev pub owned : .*\n([\s\S]*?)\n\Z", lines)
 
 
 # ** the members of inner lists
 
-MEMBER = """
-/// {said} over borrowed bytes: a variant for each of `{enum}`.
-#[derive(Drop)]
-pub enum Borrowed{enum}<'a> {{
-{variants}
-}}
-
-impl<'a> Borrowed{enum}<'a> {{
-    ghost use Rattle.link_view.specs.{module}.{{owned_{snake}}};
-
-    #[tactic(auto, unfolding({opened}))]
-    #[inline(always)]
-    fn read({kind}: u16, frame: NlaBuffer<'a>) -> Result<Borrowed{enum}<'a>, DecodeError>
-        requires {{ {kind} ≡ number frame }}
-        ensures {{ told owned_{snake} result ≡ {place}.grammar.reads frame.entry }}
-    {{
-{body}
-    }}
-
-    /// Reads a frame, whose number is given beside it: the value that `parse` gives, or the same fault. A list is not
-    /// looked at: its payload may be refused by `parse`.
-    #[inline(always)]
-    pub fn borrow(kind: u16, frame: NlaBuffer<'a>) -> Result<Borrowed{enum}<'a>, DecodeError>
-        requires {{ kind ≡ number frame }}
-        ensures {{ told owned_{snake} result ≡ {place}.grammar.reads frame.entry }}
-    {{
-        match Self::read(kind, frame) {{
-            Ok(value) => Ok(value),
-            Err(fault) => Err(within::<{enum}>(fault, kind)),
-        }}
-    }}
-
-    /// The last member of this number; `None` where there is none. Of a list that `parse` reads it is what `parse`
-    /// gives: the same variant with the same value.
-    #[inline(always)]
-    pub fn last(list: &'a [u8], number: u16) -> Result<Option<Borrowed{enum}<'a>>, DecodeError>
-        ensures {{ told_found owned_{snake} result
-            ≡ read_found {place}.grammar.reads (latest number None (items list.now)) }}
-    {{
-        match last_in(list, number) {{
-            Ok(Some(frame)) => match Self::borrow(number, frame) {{
-                Ok(value) => Ok(Some(value)),
-                Err(fault) => Err(fault),
-            }},
-            Ok(None) => Ok(None),
-            Err(fault) => Err(fault),
-        }}
-    }}
-
-    /// The member that `last_each` found: what `last` gives of its number.
-    #[inline(always)]
-    pub fn found(list: &'a [u8], sought: Sought) -> Result<Option<Borrowed{enum}<'a>>, DecodeError>
-        requires {{ IsFound list.now sought }}
-        ensures {{ told_found owned_{snake} result
-            ≡ read_found {place}.grammar.reads (latest sought.number None (items list.now)) }}
-    {{
-        match frame_of(list, sought) {{
-            Ok(Some(frame)) => match Self::borrow(sought.number, frame) {{
-                Ok(value) => Ok(Some(value)),
-                Err(fault) => Err(fault),
-            }},
-            Ok(None) => Ok(None),
-            Err(fault) => Err(fault),
-        }}
-    }}
-
-    /// The next member of a list, front to back; `None` after the last.
-    #[inline(always)]
-    pub fn next(left: &mut NlasIterator<'a>) -> Option<Result<Borrowed{enum}<'a>, DecodeError>>
-        ensures {{ IsNext owned_{snake} {place}.grammar.reads
-            left.old result left.new }}
-    {{
-        match left.next() {{
-            Some(Ok(frame)) => {{
-                let number = frame.kind();
-                Some(Self::borrow(number, frame))
-            }}
-            Some(Err(fault)) => Some(Err(fault)),
-            None => None,
-        }}
-    }}
-}}
-"""
-MEMBERS = """//! Members of the lists of {crate} over borrowed bytes, {said} its
-//! enums: do not edit.
-
-ghost use Rattle.std.specs.Prelude.{{◌≡◌, None}};
-ghost use Rattle.nla_wire.specs.Frames.{{number}};
-ghost use Rattle.nla_wire.specs.Items.{{items}};
-{ghosts}
-ghost use Rattle.link_view.specs.Views.{{latest}};
-ghost use Rattle.link_view.specs.Search.{{IsFound}};
-ghost use Rattle.link_view.specs.Told.{{told, told_found, read_found, IsNext}};
-
-{uses}
-{members}"""
-MEMBER_SPECS = """-- What members of the lists of {crate} stand for over borrowed bytes,
--- {said} its enums: do not edit.
-{uses}
-{members}"""
-STANDS_FOR = """
--- what `parse` reads of it: the same variant with the same value; of a list what its payload is read as, or its fault
-abbrev pub owned_{snake} : Borrowed{enum} → Result {enum} Cause
-{lines}
-"""
-
-
 def inner(crate):
-    """The enums of a crate: the file of each, its name, what is said of it, and its rows."""
-    for one, file, source in keys.sources():
+    """The enums of a crate: its name, what is said of it, and its rows."""
+    for one, _, source in keys.sources():
         if one == crate:
             for enum, said in keys.enums(source):
-                yield file, enum, said, list(keys.inner_rows(source, enum))
+                yield enum, said, list(keys.inner_rows(source, enum))
 
 
 def place_of(crate, enum):
@@ -341,84 +148,87 @@ def module_of(crate):
     return crate.removeprefix("link_")
 
 
-def member(crate, enum, said, rows):
+# What is written of an enum: what is said of it, its variants, the places it opens, and the arms.
+BLOCK = re.compile(r"""^/// (.*)
+#\[derive\(Drop\)\]
+pub enum Borrowed(\w+)<'a> \{
+([\s\S]*?)
+\}
+
+impl<'a> [\s\S]*?unfolding\(([\s\S]*?)\)\)\]
+[\s\S]*?
+    \{
+([\s\S]*?)
+    \}
+[\s\S]*?^\}
+""", re.M)
+
+
+def parts(crate, enum, said, rows):
+    """The parts of a block that are made of the rows."""
     opened = [f"{crate}::specs::Tables::{place_of(crate, enum)}"]
-    if any(row[5] == "some" for row in rows):
-        opened.append("nla_wire::specs::Grammar::unless_empty")
-    body = [f"{row[3]} => {arm('Borrowed' + enum, row)}," for row in rows]
+    opened += ["nla_wire::specs::Grammar::unless_empty"] * any(row[5] == "some" for row in rows)
+    arms = [f"{row[3]} => {arm('Borrowed' + enum, row)}," for row in rows]
     other = f"Ok(Borrowed{enum}::Other(frame))"
-    lines = ["let payload = frame.value();", "match kind {", *(f"    {one}" for one in body), f"    _ => {other},", "}"]
-    text = "\n".join(" " * 8 + one for one in (lines if rows else [other]))
-    return MEMBER.format(said=said.split(" (linux/")[0].rstrip("."), enum=enum, snake=keys.snake(enum),
-                         variants=variants(rows), module=module_of(crate).capitalize(), opened=", ".join(opened),
-                         kind="kind" if rows else "_kind", body=text, place=place_of(crate, enum))
+    body = ["let payload = frame.value();", "match kind {", *arms, f"_ => {other},", "}"] if rows else [other]
+    said = said.split(" (linux/")[0].rstrip(".")
+    return (f"{said} over borrowed bytes: a variant for each of `{enum}`.", enum, "\n".join(variants(rows)),
+            ", ".join(opened), "\n".join(body))
 
 
-def names_in(text, names):
-    return [name for name in names if re.search(rf"\b{name}\b", text)]
+def members(crate, text):
+    made = {enum: parts(crate, enum, said, rows) for enum, said, rows in inner(crate)}
+    there = [found[2] for found in BLOCK.finditer(text)]
+    if sorted(there) != sorted(made):
+        raise ValueError(f"borrowed.py: {module_of(crate)}.rt has {', '.join(there)}, and not {', '.join(made)}")
+    return BLOCK.sub(lambda found: with_parts(found, made[found[2]]), text)
 
 
-def use(crate, names):
-    """An import of these names, in the order of `rt fmt`."""
-    names = sorted(set(names), key=lambda name: re.sub(r"\d+", lambda it: it[0].zfill(3), name))
-    return f"use {crate}::{names[0]};" if len(names) == 1 else f"use {crate}::{{{', '.join(names)}}};"
+def with_parts(found, made):
+    """What was found with other parts."""
+    text, at = "", found.start()
+    for number, part in enumerate(made, 1):
+        text += found.string[at:found.start(number)] + part
+        at = found.end(number)
+    return text + found.string[at:found.end()]
 
 
-def members(crate):
-    made = "".join(member(crate, enum, said, rows) for _, enum, said, rows in inner(crate))
-    enums = [enum for _, enum, *_ in inner(crate)]
-    held = sorted({row[2] for _, _, _, rows in inner(crate) for row in rows} - set(HELD) - keys.NUMBERS)
-    own = names_in(made, ["attached_of", "binding_of", "borrow", "flags_of", "mode_of", "some"])
-    wire = names_in(made, ["DecodeError", "NlaBuffer", "NlasIterator", "PlainRecord", "Record", "borrow_string",
-                           "empty_list", "parse_i32", "parse_ipv6_addr", "parse_u8", "parse_u32", "parse_u64"])
-    wire += ["empty_list"] * ("some!" in made) + ["Record"] * ("::parse(payload)" in made)
-    wire += ["PlainRecord"] * ("read_padded" in made)
-    recs = [one for one in held if one in ("InetDevConf", "Inet6CacheInfo", "Inet6DevConf", "Inet6Stats", "Icmp6Stats")]
-    vals = [one for one in held if one in ("XdpAttached", "Inet6IfaceFlags", "In6AddrGenMode", "MctpPhysBinding")]
-    vf = [one for one in held if one.startswith("Vf")]
-    places = [place_of(crate, enum) for enum in enums]
-    ghosts = "\n".join(f"ghost {one};" for one in imports(f"Rattle.{crate}.specs.Tables", places, 90))
-    uses = ["use crate::message_view::last_in;", use("crate::payload", [*own, "within"]),
-            "use crate::sought::{Sought, frame_of};",
-            f"use {crate}::numbers::*;", use(crate, enums)]
-    uses += [use(name, ones) for name, ones in
-             (("link_recs", recs), ("link_vals", vals), ("link_vfrec", vf), ("nla_wire", wire)) if ones]
-    uses += ["use std::net::Ipv6Addr;"] * ("Ipv6Addr" in held)
-    return MEMBERS.format(crate=crate, said=SAID, uses="\n".join(uses), ghosts=ghosts, members=made)
+def unlike():
+    """The enums of inner lists of which is written what is not written of the first, but for its names."""
+    first = None
+    for crate in keys.INNER:
+        for found in BLOCK.finditer(keys.read(os.path.join(VIEW, f"src/{module_of(crate)}.rt"))):
+            enum, text = found[2], squeezed(with_parts(found, [""] * 5))
+            names = {f"owned_{keys.snake(enum)}": "owned", place_of(crate, enum): "place", enum: "",
+                     f"specs.{module_of(crate).capitalize()}.": "", "_kind:": "kind:", "_kind≡": "kind≡"}
+            for name, instead in names.items():
+                text = text.replace(name, instead)
+            first = first or text
+            if text != first:
+                yield enum
 
 
-def member_specs(crate):
-    uses, made = [], ""
-    for file, enum, _, rows in inner(crate):
-        theirs = f"Rattle.{crate}.specs.declared.{file}.{enum}"
-        ours = f"Rattle.link_view.specs.declared.{module_of(crate)}.Borrowed{enum}"
-        uses += [f"use {theirs}.{{{enum}}}", f"use {theirs}.TheVariants as {enum}Of",
-                 f"use {ours}.{{Borrowed{enum}}}", f"use {ours}.TheVariants as Borrowed{enum}Of"]
-        lines = []
-        for row in [*rows, (*OTHER, "", "", "")]:
+def member_specs(crate, text):
+    for enum, _, rows in inner(crate):
+        snake, lines = keys.snake(enum), []
+        for row in [*rows, OTHER]:
             reader = ""
             if is_list(row[2]):
                 place = place_of(crate, re.fullmatch(r"List<(\w+)>", row[2])[1])
-                some = row[5] == "some"
-                reader = f"(not_empty (list {place}.grammar)).reads" if some else f"(list {place}.grammar).reads"
-            lines.append(stands(enum, f"owned_{keys.snake(enum)}", f"Borrowed{enum}Of", f"{enum}Of", row, reader))
-        made += STANDS_FOR.format(snake=keys.snake(enum), enum=enum, lines="\n".join(lines))
-    places = names_in(made, re.findall(r"^unfoldable pub (\w+) : Place", table_of(crate), re.M))
-    heads = ["use Rattle.std.specs.Prelude.{Result, Ok}", "use Rattle.nla_wire.specs.declared.error.Cause.{Cause}"]
-    heads += ["use Rattle.nla_wire.specs.Reading.{◌>>=◌}"] * (">>=" in made)
-    lists = ", ".join(names_in(made, ["list", "not_empty"]))
-    heads += [f"use Rattle.nla_wire.specs.Grammar.{{{lists}}}"] * bool(places)
-    heads += [f"use Rattle.{crate}.specs.Tables.{{{', '.join(places)}}}"] * bool(places)
-    return MEMBER_SPECS.format(crate=crate, said=SAID, uses="\n".join(heads + uses), members=made)
+                listed = f"(list {place}.grammar)"
+                reader = (f"(not_empty {listed})" if row[5] == "some" else listed) + ".reads"
+            lines.append(stands(enum, f"owned_{snake}", f"Borrowed{enum}Of", f"{enum}Of", row, reader))
+        text = between(text, rf"^abbrev pub owned_{snake} : .*\n([\s\S]*?)\n(?:\n|\Z)", lines)
+    return text
 
 
 def made():
     """The files, each with its text."""
-    yield "src/borrowed.rt", attributes()
-    yield "specs/Borrowed.antt", attribute_specs()
+    yield "src/borrowed.rt", attributes
+    yield "specs/Borrowed.antt", attribute_specs
     for crate in keys.INNER:
-        yield f"src/{module_of(crate)}.rt", members(crate)
-        yield f"specs/{module_of(crate).capitalize()}.antt", member_specs(crate)
+        yield f"src/{module_of(crate)}.rt", functools.partial(members, crate)
+        yield f"specs/{module_of(crate).capitalize()}.antt", functools.partial(member_specs, crate)
 
 
 def squeezed(text):
@@ -428,10 +238,14 @@ def squeezed(text):
 
 def stale():
     """The files that are not what is made of the rows, each with its text."""
-    for path, text in made():
+    for path, make in made():
         there = os.path.join(VIEW, path)
-        if not os.path.exists(there) or squeezed(keys.read(there)) != squeezed(text):
+        before = keys.read(there)
+        text = make(before)
+        if squeezed(before) != squeezed(text):
             yield there, text
+    for enum in unlike():
+        raise ValueError(f"borrowed.py: of Borrowed{enum} is written what is not written of those beside it")
 
 
 def main():

@@ -337,5 +337,5 @@ def main():
 if __name__ == "__main__":
     try:
         main()
-    except Unknown as error:
+    except (Unknown, ValueError) as error:
         sys.exit(f"erase.py: {error}")
