@@ -5,7 +5,6 @@ the name of its enum.
 import glob
 import os
 import re
-import textwrap
 
 import typed
 
@@ -58,9 +57,8 @@ def listed(held, said):
     return f"ListView<'a, {TYPED.get(inner, 'crate::' + inner)}>", "some" if "non-empty" in said else "list"
 
 
-def doc(said, indent="    "):
-    lines = textwrap.wrap(said.split("; written")[0].rstrip(".") + ".", 116 - len(indent))
-    return [f"{indent}/// {line}\n" for line in lines]
+def doc(said):
+    return typed.doc(said.split("; written")[0].rstrip(".") + ".")
 
 
 def snake(name):
@@ -87,9 +85,13 @@ def rows():
         yield said, name, held, number, value, how, families(said)
 
 
+def keyed(said, name, value, number, how):
+    return [*doc(said), f"    {name}({value}) {number} {how};"]
+
+
 def outermost():
-    made = [doc(said) + [f"    {name}({value}) {number} {how};\n"] for said, name, _, number, value, how, _ in rows()]
-    return "keys! {\n" + "".join(line for lines in made for line in lines) + "}\n"
+    made = [keyed(said, name, value, number, how) for said, name, _, number, value, how, _ in rows()]
+    return typed.form("keys", [], [line for lines in made for line in lines])
 
 
 # ** the attributes of inner lists
@@ -118,11 +120,11 @@ def inner(crate, source, enum, said):
     members = re.match(r"A member of ([^(:,]*\w)", said)
     if not members:
         raise ValueError(f"keys.py: it is not said of which list {enum} is a member")
-    head = doc(f"Members of {members[1]}: the keys of [`{enum}`](crate::{enum})")
-    rows = [f"    {snake(enum)} {enum} {crate} {crate.removeprefix('link_')}::Borrowed{enum};\n"]
+    made = doc(f"Members of {members[1]}: the keys of [`{enum}`](crate::{enum})")
+    made.append(f"    {snake(enum)} {enum} {crate} {crate.removeprefix('link_')}::Borrowed{enum};")
     for text, name, _, number, value, how in inner_rows(source, enum):
-        rows += doc(text) + [f"    {name}({value}) {number} {how};\n"]
-    return "members! {\n" + "".join(head + rows) + "}\n"
+        made += keyed(text, name, value, number, how)
+    return typed.form("members", [], made)
 
 
 def sources():
@@ -168,23 +170,11 @@ class Borrowed(typed.Maker):
                 "nest": f"ListView<'a, {held}>"}.get(form, held)
 
     def place(self, place):
-        words, rows, _ = self.places[place]
-        name, lines, flags = typed.place_name(place), [], []
-        for number, row, style in rows:
-            one = typed.variant(place, row)
-            if style[0] == "Flag":
-                flags.append(f'    {number} {one} "{row}",\n')
-                continue
-            kind, form = self.payload(place, row, style)
-            written = hex(number | typed.NESTED) if (place, number) in self.nested else number
-            lines.append(f'    {number} {written} {one}({self.value(kind, form)}) {form} "{row}",\n')
-        head = doc(f"{words.rstrip('.')}: the keys of [`{name}`](crate::typed::{name})")
-        return "data! {\n" + "".join(head) + f"    {snake(name)} {name}:\n" + "".join(lines) + "    flags:\n" \
-            + "".join(flags) + "}\n"
-
-    def text(self):
-        return "\n".join(self.place(place) for place in self.places)
+        name = typed.place_name(place)
+        head = doc(f"{self.places[place][0].rstrip('.')}: the keys of [`{name}`](crate::typed::{name})")
+        return typed.form("data", [f"{snake(name)} {name}:", *self.rows_of(place, self.value)], head)
 
 
 def text():
-    return HEAD + "\n".join([outermost(), *lists(), Borrowed().text()])
+    made = Borrowed()
+    return HEAD + "\n".join([outermost(), *lists(), *map(made.place, made.places)])

@@ -2,7 +2,7 @@
 refused. They are put in their order, so that a form behind another one is looked for in what that one left."""
 from source import PAIR
 
-CLAUSE = r"/\b(?:requires|ensures)\b\s*\*?\s*\w*/ {..}"
+CLAUSE = rf"\b(?:requires|ensures)\b\s*\*?\s*\w*\s*\{{(?P<clause>{PAIR}).*?\}}(?P=clause)"
 IMPL = r"@ impl /[^{};]*?\b/ "
 SAME = r"(?:(?!\bfn\b).)*?"          # what follows in the same function
 LISTS = r"/\b(?P<type>List|Text|Bytes)\b/"
@@ -24,10 +24,10 @@ STATES = [
     ("# [ macro_export ] macro_rules ! $x {$y..}", "macro_rules! $x {$y}\n\npub(crate) use $x;"),
     ("# [ macro_export ]", "!macro_export of no macro"),
     # the brace of the body, or the semicolon, comes to the end of the signature
-    (CLAUSE + r" /(?=\s*\b(?:requires|ensures)\b)/", ""),
-    (r"/(?<=[^,\s])\s*/ " + CLAUSE + r" /\s*(?=\{)/", " "),
-    (r"/,?\s*/ " + CLAUSE + r" /\s*(?=;)/", ""),
-    (CLAUSE, ""),
+    (rf"/,\s*(?:{CLAUSE}(?P<gap>\s*))+(?=[{{;])/", ",$gap"),
+    (rf"/\s*(?:{CLAUSE}\s*)+(?=[{{;])/", " "),
+    (f"/{CLAUSE}/", ""),
+    (r"/,?\s+(?=;)/", ""),
     (r"/\b(?:requires|ensures)\b/", "!a clause without braces"),
     *only_ghosts("Model"),
     (IMPL + "Drop for", "!an impl of Drop: Rattle moves self into drop"),

@@ -38,32 +38,29 @@ def named(name):
 
 # The width of such a type, where its rows have several.
 BITS = {"LacpState": 1}
-# Places that no table has, with their rows.
-U16, U32 = ("Plain", ("Unsigned", 2)), ("Plain", ("Unsigned", 4))
-MORE = {"BatAdv": ("The data of a batman-adv interface.", [(1, "algo-name", ("Text",))]),
-        "Dsa": ("The data of a port of a switch.", [(1, "conduit", U32)]),
-        "Ipoib": ("The data of an IPoIB interface.", [
-            (1, "pkey", U16), (2, "mode", ("Plain", ("Named", 2, [(0, "datagram"), (1, "connected")]))),
-            (3, "umcast", U16)]),
-        "Wireguard": ("The data of a wireguard interface, of which kernels send none.", []),
-        "TeamPort": ("The data of a port of a team, of which kernels send none.", [])}
+# Places that no table has, with what is said of them.
+MORE = """\
+// BatAdv: The data of a batman-adv interface.
+const BATADV: &[Row] = &[Row(1, "algo-name", Style::Text)];
 
+// Dsa: The data of a port of a switch.
+const DSA: &[Row] = &[Row(1, "conduit", Style::Plain(Plain::Unsigned(Size::Four)))];
 
-class Forms:
-    """`Style.Plain(..)` and its like, as tuples."""
+// Ipoib: The data of an IPoIB interface.
+const IPOIB: &[Row] = &[
+    Row(1, "pkey", Style::Plain(Plain::Unsigned(Size::Two))),
+    Row(2, "mode", Style::Plain(Plain::Named(Size::Two, &[(0, "datagram"), (1, "connected")]))),
+    Row(3, "umcast", Style::Plain(Plain::Unsigned(Size::Two))),
+];
 
-    def __init__(self, kind):
-        self.kind = kind
+// Wireguard: The data of a wireguard interface, of which kernels send none.
+const WIREGUARD: &[Row] = &[];
 
-    def __getattr__(self, name):
-        if self.kind == "Size":
-            return SIZES[name]
-        if self.kind == "Place":
-            return name
-        if (self.kind, name) in (("Style", "Bytes"), ("Style", "Flag"), ("Style", "Text"), ("Plain", "Mac"),
-                                 ("Plain", "Ipv4"), ("Plain", "Ipv6")):
-            return (name,)
-        return lambda *args: (name, *args)
+// TeamPort: The data of a port of a team, of which kernels send none.
+const TEAMPORT: &[Row] = &[];
+"""
+KINDS = "Style", "Names", "[Member]", "[Row]", "[(Place, u16)]"
+CONSTANT = re.compile(r"const (\w+): ([^=]+?)\s* = ([^;]+);", re.S)
 
 
 def read(name, crate=CRATE):
@@ -71,25 +68,27 @@ def read(name, crate=CRATE):
         return file.read()
 
 
-CONSTANT = re.compile(r"const (\w+): ([^=]+) = ([^;]+);", re.S)
+def constants(text):
+    """The constants of a source: name, type, and the value as Python has it, `Style::Plain(..)` and its like as tuples.
+    """
+    text = re.sub(r"//.*", "", text).replace("&[", "[")
+    text = re.sub(r"Size::(\w+)", lambda it: str(SIZES[it[1]]), text)
+    text = re.sub(r"Place::(\w+)", r'"\1"', text)
+    text = re.sub(r"(?:Style|Plain)::(\w+)(\(?)", lambda it: f'("{it[1]}", ' + ")" * (not it[2]), text)
+    return CONSTANT.findall(re.sub(r"\b(?:Row|Member)\(", "(", text))
 
 
 def tables(crate=CRATE):
     """The rows of each table, by its file and constant, and all other constants of the files."""
-    found = {}
-    forms = {kind: Forms(kind) for kind in ("Style", "Plain", "Size", "Place")}
-    forms |= {"Row": lambda *args: args, "Member": lambda *args: args}
-    files = sorted(name[:-3] for name in os.listdir(os.path.join(crate, "tables")))
-    common = {}
-    for name in ["mod"] + [name for name in files if name != "mod"]:
-        local = forms | common
-        items = CONSTANT.findall(re.sub(r"//.*", "", read(f"tables/{name}.rt", crate)))
-        for wanted in ("Style", "Names", "&[Member]", "&[Row]", "&[(Place, u16)]"):
-            for one, kind, text in items:
-                if kind.strip() == wanted:
-                    local[one] = found[name, one] = eval(text.replace("&[", "[").replace("::", "."), local)
-                    if name == "mod":
-                        common[one] = local[one]
+    found, common = {}, {}
+    files = [name[:-3] for name in os.listdir(os.path.join(crate, "tables"))]
+    for name in sorted(files, key=lambda it: (it != "mod", it)):
+        local = dict(common)
+        for wanted in KINDS:
+            for one, kind, text in constants(read(f"tables/{name}.rt", crate)):
+                if kind == wanted:
+                    local[one] = found[name, one] = eval(text, local)
+        common = common or local                # what all have
     return found
 
 
@@ -118,7 +117,7 @@ def order(plain):
 
 
 def doc(text):
-    return textwrap.wrap(text, WIDTH - 4, initial_indent="    /// ", subsequent_indent="    /// ")
+    return [f"    /// {line}" for line in textwrap.wrap(text, WIDTH - 8)]
 
 
 def form(name, lines, head):
@@ -133,7 +132,9 @@ class Maker:
         docs = {name: words for words, name in re.findall(r"/// ([^\n]+)\n    (\w+),\n", text)}
         self.places = {place: (docs[place], self.rows[file, table], f"{file}::{table}")
                        for place, file, table in re.findall(r"Place::(\w+) => (\w+)::(\w+),", text)}
-        self.places |= {place: (words, rows, None) for place, (words, rows) in MORE.items()}
+        more = {name: eval(text) for name, _, text in constants(MORE)}
+        self.places |= {place: (words, more[place.upper()], None)
+                        for place, words in re.findall(r"^// (\w+): (.*)", MORE, re.M)}
         self.nested = set(self.rows["mod", "NESTED"])
         self.types = {}                         # by name: the macro, what stands behind the name, and the lines
 
@@ -190,45 +191,33 @@ class Maker:
             return f"Vec<{self.plain(place, row, style[1], name)}>", kind.lower()
         return f"Vec<{place_name(style[1])}>", "nest"
 
-    def place(self, place):
-        words, rows, table = self.places[place]
-        name, lines, flags = place_name(place), [], []
-        for number, row, style in rows:
+    def rows_of(self, place, held):
+        """The lines of a place's rows: a function says what a variant holds of its type and its form."""
+        lines, flags = [], []
+        for number, row, style in self.places[place][1]:
             one = variant(place, row)
             if style[0] == "Flag":
                 flags.append(f'{number} {one} "{row}",')
                 continue
             kind, word = self.payload(place, row, style)
             written = hex(number | NESTED) if (place, number) in self.nested else number
-            lines.append(f'{number} {written} {one}({kind}) {word} "{row}",')
-        if table is None:
-            table = name[4:].upper()
-        return form("place", [f"{name}: {table};"] + lines + ["flags:"] + flags, doc(words))
+            lines.append(f'{number} {written} {one}({held(kind, word)}) {word} "{row}",')
+        return [*lines, "flags:", *flags]
 
-    def more(self, place):
-        """The rows of a place that no table has."""
-        rows = [f'Row({n}, "{row}", {self.style(style)})' for n, row, style in self.places[place][1]]
-        list_ = "".join(f"\n    {row}," for row in rows) + "\n" if len(rows) > 1 else "".join(rows)
-        return f"const {place.upper()}: &[Row] = &[{list_}];\n"
-
-    def style(self, style):
-        if style[0] == "Text":
-            return "Style::Text"
-        plain = style[1]
-        size = {size: name for name, size in SIZES.items()}[plain[1]]
-        names = "".join(f', &[{", ".join(f"""({n}, "{text}")""" for n, text in names)}]' for names in plain[2:])
-        return f"Style::Plain(Plain::{plain[0]}(Size::{size}{names}))"
+    def place(self, place):
+        words, _, table = self.places[place]
+        name = place_name(place)
+        front = f"{name}: {table or place.upper()};"
+        return form("place", [front, *self.rows_of(place, lambda kind, _: kind)], doc(words))
 
     def make(self):
         enums = [self.place(place) for place in self.places]
-        stats = [(None, None, ("Record", self.rows["can", "CAN_STATS"]))]
         TYPES[None, None] = "CanDeviceStats"
-        for place, row, style in stats:
-            self.payload(place, row, style)
+        self.payload(None, None, ("Record", self.rows["can", "CAN_STATS"]))
         docs = {"named": "A number that may have a name.", "flag_set": "A set of flags.",
                 "members": "A record, its members in order."}
         types = [form(made[0], [name + made[1]] + made[2], doc(docs[made[0]])) for name, made in self.types.items()]
-        return "\n".join([*map(self.more, MORE), *enums, *types])
+        return "\n".join([re.sub(r"^//.*\n", "", MORE, flags=re.M), *enums, *types])
 
 
 # Payloads of variants in netlink-packet-route, where they differ from those here.

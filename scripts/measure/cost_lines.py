@@ -29,9 +29,18 @@ def stored():
     return found
 
 
+def u32(number):
+    return struct.pack("<I", number)
+
+
+def turns(attributes, times=4):
+    """Messages of one interface with the attributes that a function says for 0 and for 1, in turn."""
+    return [HEAD + attributes(is_on) for is_on in (0, 1) * times]
+
+
 def turning(attributes):
-    """Two messages of one interface with these attributes, and with two MTUs, so that linkdiff tells something."""
-    return [HEAD + frame(IFLA_MTU, struct.pack("<I", mtu)) + attributes for mtu in (1500, 9000)]
+    """Two messages with these attributes, and with two MTUs, so that linkdiff tells something."""
+    return turns(lambda is_on: frame(IFLA_MTU, u32((1500, 9000)[is_on])) + attributes, 1)
 
 
 # ** messages as kernels send them
@@ -46,22 +55,27 @@ def with_index(message, index):
     return message[:4] + struct.pack("<i", index) + message[8:]
 
 
+def counters(number):
+    """The statistics of a virtual function: all differ."""
+    return frame(8, b"".join(frame(kind, struct.pack("<Q", number + kind)) for kind in (0, 1, 2, 3, 4, 5, 7, 8)))
+
+
 def function(number):
     """One virtual function: its address, VLAN, a switch and statistics."""
-    of = struct.pack("<I", number)
-    counters = b"".join(frame(kind, struct.pack("<Q", number * 1009 + kind)) for kind in (0, 1, 2, 3, 4, 5, 7, 8))
-    return frame(1, b"".join((
+    of = u32(number)
+    vlan = struct.pack("<II", number % 4095, 0)
+    return b"".join((
         frame(1, of + b"\2" + struct.pack(">I", number) + bytes(27)),
-        frame(2, of + struct.pack("<II", number % 4095, 0)),
-        frame(12, frame(1, of + struct.pack("<II", number % 4095, 0) + b"\x81\0\0\0")),
+        frame(2, of + vlan),
+        frame(12, frame(1, of + vlan + b"\x81\0\0\0")),
         frame(4, of + b"\1\0\0\0"),
-        frame(8, counters),
-    )))
+        counters(number * 1009),
+    ))
 
 
-def functions(count):
-    """A card with so many virtual functions, each line with another MTU."""
-    return turning(frame(IFLA_VFINFO_LIST, b"".join(map(function, range(count)))))
+def functions(count, of=function):
+    """So many virtual functions of a card."""
+    return frame(IFLA_VFINFO_LIST, b"".join(frame(1, of(number)) for number in range(count)))
 
 
 def damaged(number, message):
@@ -85,48 +99,32 @@ def names(text, count):
 def settings(count):
     """A card with so many virtual functions, whose settings are all 0 in a line, and all 1 in the next, as no counter
     turns: what is looked for among counters, and is none."""
-    def function_of(number, is_on):
-        of, on = struct.pack("<I", number), struct.pack("<I", is_on)
-        counters = b"".join(frame(kind, struct.pack("<Q", 7 + kind)) for kind in (0, 1, 2, 3, 4, 5, 7, 8))
-        return frame(1, b"".join(frame(kind, of + on) for kind in (3, 4, 7, 9)) + frame(8, counters))
-
-    return [HEAD + frame(IFLA_VFINFO_LIST, b"".join(function_of(number, is_on) for number in range(count)))
-            for is_on in (0, 1) * 4]
+    return turns(lambda is_on: functions(count, lambda number: b"".join(
+        frame(kind, u32(number) + u32(is_on)) for kind in (3, 4, 7, 9)) + counters(7)))
 
 
 def swapped(count):
     """A card with so many virtual functions, each second of which has a setting, and in the next line the others."""
-    def function_of(number, is_on):
-        of = struct.pack("<I", number)
-        setting = frame(3, of + struct.pack("<I", 100)) if number % 2 == is_on else b""
-        return frame(1, frame(4, of + b"\1\0\0\0") + setting)
-
-    return [HEAD + frame(IFLA_VFINFO_LIST, b"".join(function_of(number, is_on) for number in range(count)))
-            for is_on in (0, 1) * 4]
+    return turns(lambda is_on: functions(count, lambda number: frame(4, u32(number) + b"\1\0\0\0")
+                                         + frame(3, u32(number) + u32(100)) * (number % 2 == is_on)))
 
 
 def reversed_names(count):
     """So many alternative names, and in the next line the same from last to first."""
     listed = [frame(IFLA_ALT_IFNAME, b"name%d\0" % number) for number in range(count)]
-    return [HEAD + frame(IFLA_PROP_LIST, b"".join(it)) for it in (listed, listed[::-1]) * 4]
+    return turns(lambda is_on: frame(IFLA_PROP_LIST, b"".join(listed[::-1 if is_on else 1])))
 
 
 def repeated(kind, payload, count):
     """An attribute so many times, beside a queue length that turns."""
-    return [HEAD + frame(kind, payload) * count + frame(IFLA_TXQLEN, struct.pack("<I", 1000 + is_on))
-            for is_on in (0, 1) * 4]
+    return turns(lambda is_on: frame(kind, payload) * count + frame(IFLA_TXQLEN, u32(1000 + is_on)))
 
 
-def refused_turning(count):
-    """So many attributes that are refused, MTUs and queue lengths of three bytes, each the other in the next line."""
-    return [HEAD + b"".join(frame((IFLA_MTU, IFLA_TXQLEN)[(at + is_on) % 2], struct.pack("<I", at)[:3])
-                            for at in range(count)) for is_on in (0, 1) * 2]
-
-
-def refused_swapped(count):
-    """So many attributes that are refused: MTUs of three bytes in a line, and queue lengths in the next."""
-    return [HEAD + b"".join(frame((IFLA_MTU, IFLA_TXQLEN)[is_on], struct.pack("<I", at)[:3]) for at in range(count))
-            for is_on in (0, 1) * 2]
+def refused(count, step):
+    """So many attributes that are refused, of three bytes: with a step of 1 MTUs and queue lengths, each the other in
+    the next line; with one of 0 MTUs in a line, and queue lengths in the next."""
+    return turns(lambda is_on: b"".join(frame((IFLA_MTU, IFLA_TXQLEN)[(at * step + is_on) % 2], u32(at)[:3])
+                                        for at in range(count)), 2)
 
 
 def long(size):
@@ -141,17 +139,6 @@ def aliases(size, count, end=b""):
     return [frame(IFLA_IFALIAS, (b"x", b"y")[at % 2] * size + end) for at in range(count)]
 
 
-def reversed_unknown(count):
-    """Numbers that no kernel sends, in one order and then in the other, four times."""
-    it = [frame(1000 + number, b"kept") for number in range(count)]
-    return [HEAD + b"".join(it[::turn]) for _ in range(4) for turn in (1, -1)]
-
-
-def growing(count):
-    """An unknown attribute more in each message."""
-    return [b"".join(frame(UNKNOWN + number, b"kept") for number in range(at)) for at in range(count)]
-
-
 def with_words(words):
     """Lines with these words in front."""
     return [words + message.hex() for message in turning(b"")]
@@ -164,14 +151,16 @@ def of_messages():
     of = stored()
     dumps = of["dump"]
     kept = names(b"a name of twenty\0", 320)
+    # numbers that no kernel sends
+    unknown = [frame(1000 + number, b"kept") for number in range(2048)]
     return {
         "dumps": dumps,
         "repeats": of["first"] + of["again"],
         "events": of["event"],
         "collide": [with_index(message, 1 + at % 5) for at, message in enumerate(dumps)],
         "requests": of["request"],
-        "functions-128": functions(128),
-        "functions-300": functions(300),
+        "functions-128": turning(functions(128)),
+        "functions-300": turning(functions(300)),
         "damaged": [damaged(at, message) for at, message in enumerate(dumps)],
         "names-of-three": turning(names(b"\1\1\1", 7500)),
         "names-of-a-quote": turning(names(b'"', 7500)),
@@ -184,16 +173,17 @@ def of_messages():
         "swapped-256": swapped(256),
         "names-reversed": reversed_names(256),
         "stats-repeated": repeated(IFLA_STATS64, bytes(range(200)), 64),
-        "mtus-repeated": repeated(IFLA_MTU, struct.pack("<I", 1500), 256),
-        "refused-turning": refused_turning(256),
-        "refused-64": refused_swapped(64),
-        "refused-256": refused_swapped(256),
+        "mtus-repeated": repeated(IFLA_MTU, u32(1500), 256),
+        "refused-turning": refused(256, 1),
+        "refused-64": refused(64, 0),
+        "refused-256": refused(256, 0),
         "long": long(140_000) + long(1_000_000),
         # half of the message stays
         "turning-alias": [HEAD + kept + alias for alias in aliases(len(kept), 20)],
         # each is kept as it is, and a walk that looked for each of them would be seen
-        "unknown-reversed": reversed_unknown(2048),
-        "growing": [HEAD + attributes for attributes in growing(100)],
+        "unknown-reversed": turns(lambda is_on: b"".join(unknown[::-1 if is_on else 1])),
+        # an unknown attribute more in each message
+        "growing": [HEAD + b"".join(frame(UNKNOWN + number, b"kept") for number in range(at)) for at in range(100)],
         # little more than 256 bytes, most of which is one text
         "one-text": [HEAD + alias for alias in aliases(240, 50)],
     }
