@@ -15,23 +15,18 @@ import re
 import keys
 
 VIEW = os.path.join(keys.CRATES, "link_view")
-# How the value of an attribute is read that is no list: what the arm does with its payload.
-READ = {"Bytes": "Ok({variant}(payload))", "DefaultNla": "Ok({variant}(frame))",
-        "Text": "borrow!({variant}, borrow_string(payload))", "WirelessEvent": "borrow!({variant}, event_of(payload))",
-        "bool": "borrow!({variant}, n => n != 0, parse_u8(payload))",
-        "List<LinkExtentMask>": "borrow!({variant}, parse_u32(payload))",
-        "Ipv6Addr": "borrow!({variant}, parse_ipv6_addr(payload))",
-        "XdpAttached": "borrow!({variant}, attached_of(payload))",
-        "Inet6IfaceFlags": "borrow!({variant}, flags_of(payload))",
-        "In6AddrGenMode": "borrow!({variant}, mode_of(payload))",
-        "MctpPhysBinding": "borrow!({variant}, binding_of(payload))"}
-# Of one byte, whose name follows from the number.
-NAMED = {"State", "LinkMode"}
-# What a variant holds over borrowed bytes, where it is something else.
-HELD = {"Bytes": "&'a [u8]", "Text": "&'a str", "WirelessEvent": "WirelessEventView<'a>", "List<LinkExtentMask>": "u32",
-        "DefaultNla": "NlaBuffer<'a>"}
-# And what it stands for.
-STANDS = {"Bytes": "v.now", "Text": "v.now", "WirelessEvent": "(owned_event v)", "List<LinkExtentMask>": "(ext_list v)"}
+# How the value of an attribute is read that is no list: what the arm of a variant does with its payload.
+READ = {"Bytes": "Ok({}(payload))", "DefaultNla": "Ok({}(frame))",
+        "bool": "borrow!({}, n => n != 0, parse_u8(payload))"}
+READ |= {named: f"borrow!({{}}, n => {named}::from(n), parse_u8(payload))" for named in ("State", "LinkMode")}
+READ |= {number: f"borrow!({{}}, parse_{number}(payload))" for number in keys.NUMBERS}
+READ |= {held: f"borrow!({{}}, {call}(payload))" for held, call in (
+    ("Text", "borrow_string"), ("WirelessEvent", "event_of"), ("List<LinkExtentMask>", "parse_u32"),
+    ("Ipv6Addr", "parse_ipv6_addr"), ("XdpAttached", "attached_of"), ("Inet6IfaceFlags", "flags_of"),
+    ("In6AddrGenMode", "mode_of"), ("MctpPhysBinding", "binding_of"))}
+# What a variant holds over borrowed bytes, where it is something else, and what that stands for.
+HELD = {"Bytes": ("&'a [u8]", "v.now"), "Text": ("&'a str", "v.now"), "DefaultNla": ("NlaBuffer<'a>", "v"),
+        "WirelessEvent": ("WirelessEventView<'a>", "(owned_event v)"), "List<LinkExtentMask>": ("u32", "(ext_list v)")}
 
 
 @functools.lru_cache(maxsize=None)
@@ -46,36 +41,30 @@ def is_list(held):
 
 def value(held):
     """The value over borrowed bytes: of a list its payload."""
-    return "&'a [u8]" if is_list(held) else HELD.get(held, held)
+    return "&'a [u8]" if is_list(held) else HELD.get(held, (held,))[0]
 
 
 def arm(enum, row):
     """What is made of a payload."""
-    said, name, held, _, _, how = row[:6]
-    variant = f"{enum}::{name}"
-    if is_list(held):
-        form = "some!({variant}, payload)" if how == "some" else "Ok({variant}(payload))"
-    elif held in keys.NUMBERS:
-        form = "borrow!({variant}, parse_{held}(payload))"
-    elif held in NAMED:
-        form = "borrow!({variant}, n => {held}::from(n), parse_u8(payload))"
-    elif "filled up with" in said and held not in READ:
-        form = "Ok({variant}({held}::read_padded(payload)))"
+    if is_list(row.held):
+        form = "some!({}, payload)" if row.how == "some" else "Ok({}(payload))"
+    elif "filled up with" in row.said and row.held not in READ:
+        form = f"Ok({{}}({row.held}::read_padded(payload)))"
     else:
-        form = READ.get(held, "borrow!({variant}, {held}::parse(payload))")
-    return form.format(variant=variant, held=held)
+        form = READ.get(row.held, f"borrow!({{}}, {row.held}::parse(payload))")
+    return form.format(f"{enum}::{row.name}")
 
 
 def variants(rows):
-    return [f"    {row[1]}({value(row[2])})," for row in rows] + ["    Other(NlaBuffer<'a>),"]
+    return [f"    {row.name}({value(row.held)})," for row in rows] + ["    Other(NlaBuffer<'a>),"]
 
 
 def stands(enum, owned, variant, type_, row, reader):
-    name, held = row[1], row[2]
+    name, held = row.name, row.held
     if is_list(held):
         line = f"{owned} ({variant}.{name} v) = {reader} v.now >>= λ vs. Ok ({type_}.{name} vs)"
         return line if len(line) < 119 else line.replace(" = ", " =\n    ", 1)
-    return f"{owned} ({variant}.{name} v) = Ok ({type_}.{name} {STANDS.get(held, 'v')})"
+    return f"{owned} ({variant}.{name} v) = Ok ({type_}.{name} {HELD.get(held, (held, 'v'))[1]})"
 
 
 def between(text, expression, lines):
@@ -91,19 +80,19 @@ def between(text, expression, lines):
 def outer_arm(row):
     """The arm of a number that no family decides."""
     made = arm("BorrowedAttribute", row)
-    if row[5] == "sized":
+    if row.how == "sized":
         other = "_ => Ok(BorrowedAttribute::Other(frame)),"
-        return f"{row[3]} => match payload.len() {{ 2 => {made}, {other} }},"
-    return f"{row[3]} => {made},"
+        return f"{row.number} => match payload.len() {{ 2 => {made}, {other} }},"
+    return f"{row.number} => {made},"
 
 
 def attributes(text):
     rows, families = list(keys.rows()), {}
-    arms = [outer_arm(row) for row in rows if row[6] == "any"]
+    arms = [outer_arm(row) for row in rows if row.family == "any"]
     for row in rows:
-        if row[6] != "any":
-            family = "_" if row[6] == "rest" else f"AddressFamily::{row[6]}"
-            families.setdefault(row[3], []).append(f"{family} => {arm('BorrowedAttribute', row)},")
+        if row.family != "any":
+            family = "_" if row.family == "rest" else f"AddressFamily::{row.family}"
+            families.setdefault(row.number, []).append(f"{family} => {arm('BorrowedAttribute', row)},")
     text = between(text, r"^pub enum BorrowedAttribute<'a> \{\n([\s\S]*?)\n\}", variants(rows))
     for number, ones in families.items():
         name = number.removeprefix("IFLA_").lower().replace("protinfo", "proto_info")
@@ -113,7 +102,7 @@ def attributes(text):
     return between(text, r"^pub\(crate\) fn read_frame<[\s\S]*?    match kind \{\n([\s\S]*?)\n    \}\n", arms)
 
 
-OTHER = ("", "Other", "DefaultNla", "", "", "")
+OTHER = keys.Row("", "Other", "DefaultNla", "", "", "")
 
 
 def readers():
@@ -125,7 +114,7 @@ def readers():
 
 def attribute_specs(text):
     reader = dict(readers())
-    lines = [stands("BorrowedAttribute", "owned", "Borrowed", "Attributes", row, reader.get(row[1]))
+    lines = [stands("BorrowedAttribute", "owned", "Borrowed", "Attributes", row, reader.get(row.name))
              for row in [*keys.rows(), OTHER]]
     return between(text, r"^abbrev pub owned : .*\n([\s\S]*?)\n\Z", lines)
 
@@ -167,8 +156,8 @@ impl<'a> [\s\S]*?unfolding\(([\s\S]*?)\)\)\]
 def parts(crate, enum, said, rows):
     """The parts of a block that are made of the rows."""
     opened = [f"{crate}::specs::Tables::{place_of(crate, enum)}"]
-    opened += ["nla_wire::specs::Grammar::unless_empty"] * any(row[5] == "some" for row in rows)
-    arms = [f"{row[3]} => {arm('Borrowed' + enum, row)}," for row in rows]
+    opened += ["nla_wire::specs::Grammar::unless_empty"] * any(row.how == "some" for row in rows)
+    arms = [f"{row.number} => {arm('Borrowed' + enum, row)}," for row in rows]
     other = f"Ok(Borrowed{enum}::Other(frame))"
     body = ["let payload = frame.value();", "match kind {", *arms, f"_ => {other},", "}"] if rows else [other]
     said = said.split(" (linux/")[0].rstrip(".")
@@ -213,10 +202,10 @@ def member_specs(crate, text):
         snake, lines = keys.snake(enum), []
         for row in [*rows, OTHER]:
             reader = ""
-            if is_list(row[2]):
-                place = place_of(crate, re.fullmatch(r"List<(\w+)>", row[2])[1])
+            if is_list(row.held):
+                place = place_of(crate, re.fullmatch(r"List<(\w+)>", row.held)[1])
                 listed = f"(list {place}.grammar)"
-                reader = (f"(not_empty {listed})" if row[5] == "some" else listed) + ".reads"
+                reader = (f"(not_empty {listed})" if row.how == "some" else listed) + ".reads"
             lines.append(stands(enum, f"owned_{snake}", f"Borrowed{enum}Of", f"{enum}Of", row, reader))
         text = between(text, rf"^abbrev pub owned_{snake} : .*\n([\s\S]*?)\n(?:\n|\Z)", lines)
     return text

@@ -131,7 +131,7 @@ def erase(path, text, crate, mode):
     derives.derives(s, mode.is_crate)
     rules.apply(s, rules.BOUNDS)
     paths.drop_unused(s, before)
-    imported = [*paths.ours(s, is_program, mode.is_crate), *paths.prelude(s, is_program, mode.is_crate)]
+    imported = [*paths.ours(s, is_program, mode.is_crate)]
     if mode.is_crate:
         rules.apply(s, rules.NEVER)
         owed.check(s, found, mode.public)

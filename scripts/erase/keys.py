@@ -5,6 +5,7 @@ the name of its enum.
 import glob
 import os
 import re
+from typing import NamedTuple
 
 import typed
 
@@ -28,6 +29,19 @@ VALUES = {"Bytes": ("&'a [u8]", "bytes"), "Text": ("&'a str", "text"), "bool": (
 # Lists whose attributes are kept in a message, and which have a type among the data of kinds.
 TYPED = {"AfSpecBridge": "typed::AfSpecBridge", "LinkProtoInfoBridge": "typed::InfoBridgePort"}
 NUMBERS = {"u8", "u16", "u32", "u64", "i32"}
+
+
+class Row(NamedTuple):
+    """A variant: what is said of it, its name, what it holds, its number, its value, how that is read, and under which
+    families of a message's header."""
+
+    said: str
+    name: str
+    held: str
+    number: str
+    value: str
+    how: str
+    family: str = "any"
 
 
 def read(path):
@@ -74,24 +88,17 @@ def families(said):
 
 
 def rows():
-    """The rows of `LinkAttribute`: what is said of each, its variant, what it holds, its number, its value, how that is
-    read, and under which families."""
+    """The rows of `LinkAttribute`."""
     source = read(ROWS)
     number_of = dict(re.findall(r"^ +(?:held|plain|mask) (\w+)\(\w+ => (IFLA_\w+)", source, re.M))
-    variants = [(said, name, held, number_of.get(name) or first(said))
-                for said, name, held in declared(source, "LinkAttribute")]
-    for said, name, held, number in variants:
+    for said, name, held in declared(source, "LinkAttribute"):
         value, how = VALUES.get(held) or listed(held, said)
-        yield said, name, held, number, value, how, families(said)
+        yield Row(said, name, held, number_of.get(name) or first(said), value, how, families(said))
 
 
-def keyed(said, name, value, number, how):
-    return [*doc(said), f"    {name}({value}) {number} {how};"]
-
-
-def outermost():
-    made = [keyed(said, name, value, number, how) for said, name, _, number, value, how, _ in rows()]
-    return typed.form("keys", [], [line for lines in made for line in lines])
+def keyed(rows_):
+    return [line for row in rows_ for line in
+            [*doc(row.said), f"    {row.name}({row.value}) {row.number} {row.how};"]]
 
 
 # ** the attributes of inner lists
@@ -107,13 +114,12 @@ def member(said, name, held, some):
 
 
 def inner_rows(source, enum):
-    """The rows of an inner list: what is said of each, its variant, what it holds, its number, its value, how that is
-    read."""
+    """The rows of an inner list."""
     some = re.findall(r"^ +some (\w+)\(", source, re.M)
     for text, name, held in declared(source, enum):
         if "written only" not in text:
             value, how = member(text, name, held, some)
-            yield text, name, held, first(text), value, how
+            yield Row(text, name, held, first(text), value, how)
 
 
 def inner(crate, source, enum, said):
@@ -122,9 +128,7 @@ def inner(crate, source, enum, said):
         raise ValueError(f"keys.py: it is not said of which list {enum} is a member")
     made = doc(f"Members of {members[1]}: the keys of [`{enum}`](crate::{enum})")
     made.append(f"    {snake(enum)} {enum} {crate} {crate.removeprefix('link_')}::Borrowed{enum};")
-    for text, name, _, number, value, how in inner_rows(source, enum):
-        made += keyed(text, name, value, number, how)
-    return typed.form("members", [], made)
+    return typed.form("members", [], made + keyed(inner_rows(source, enum)))
 
 
 def sources():
@@ -177,4 +181,4 @@ class Borrowed(typed.Maker):
 
 def text():
     made = Borrowed()
-    return HEAD + "\n".join([outermost(), *lists(), *map(made.place, made.places)])
+    return HEAD + "\n".join([typed.form("keys", [], keyed(rows())), *lists(), *map(made.place, made.places)])

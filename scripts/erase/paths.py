@@ -8,23 +8,25 @@ STD_OF_OURS = {"alloc", "str", "test"}              # modules of std of which a 
 OF_CRATE = {"net"}                                  # and those of which one stands for the crate alone,
 OF_TESTS = {"collections", "env", "fs", "simd"}     # or for the tests alone
 CRATES_OF_OURS = {"bitflags", "hex", "memchr", "json", "itoa"}
-NAMES_OF_OURS = {"Box", "HostRuntime", "Print"}      # of Rattle's prelude, where they differ, and in all but the crate
-OF_ALLOC = {"String": "string::String", "Vec": "vec::Vec"}
 ITEMS_OF_OURS = {"process::Abort", "fmt::InlineText"}
 IN_CORE = {"fmt", "marker", "ops", "slice", "str"}
-# What stands where names of `rattle::number` are needed, with the names; and what the crate alone has of these.
-NUMBERS = {r"\.to_unsigned": "Signed as _", r"\.to_signed": "Unsigned as _", r"\blowest\(": "lowest",
-           r"\bMOST_LEN": "MOST_LEN"}
-OF_CRATE_ALONE = {r"\bnarrow\(": "narrow", r"\bnarrow_signed::": "narrow_signed", r"(?<!fn )\broom\(": "room"}
+# What stands where something of `rattle` is needed: the module, the name, and what stands there.
+OURS = [("vec", "ToVecBy", r"\.to_vec_by\b"), ("number", "Signed as _", r"\.to_unsigned\b"),
+        ("number", "Unsigned as _", r"\.to_signed\b"), ("number", "lowest", r"\blowest\("),
+        ("number", "MOST_LEN", r"\bMOST_LEN\b")]
+OF_CRATE_ALONE = [("number", "narrow", r"\bnarrow\("), ("number", "narrow_signed", r"\bnarrow_signed::"),
+                  ("number", "room", r"(?<!fn )\broom\("), ("list", "vacant", r"(?<!::)\bvacant\(")]
+# Names and macros of Rattle's prelude that Rust's has otherwise or not; and names that the crate has of Rust's alloc.
+PRELUDE = [("prelude", name, rf"(?<!::)\b{name}\b") for name in ("Box", "HostRuntime", "Print")]
+PRELUDE += [("prelude", name, rf"\b{name}\s*!") for name in (
+    "assert", "assert_eq", "assert_ne", "eprintln", "format", "panic", "print", "println", "vec")]
+OF_ALLOC = {"String": "string::String", "Vec": "vec::Vec"}
 USE = "@ use /(?P<tree>[^;]*)/ ;"
 # The names that an import brings.
 NAME = re.compile(r"\b\w+(?=\s*(?:[,}]|$))")
 # The first name of a path, with the next one or a group of them.
 HEAD = (rf"/(?<!::)(?<!\.)\b(?P<head>[a-z]\w*)(?=\s*::\s*(?:(?P<item>(?P<part>\w+)(?P<more>::\w+)?)"
         rf"|\{{{PAIR}(?P<group>[^{{}}]*)\}})?)/")
-MACROS_OF_OURS = {"vec", "format", "print", "println", "eprintln", "assert", "assert_eq", "assert_ne", "panic"}
-
-
 
 
 def imports(s):
@@ -90,34 +92,20 @@ def paths(s, crate, crates, is_program, is_crate):
 
 
 def ours(s, is_program, is_crate):
-    """The imports of what casts, makes room and copies."""
-    root = PACKAGE if is_program else "crate"
-    if s.has(r"/\.to_vec_by\(/"):
-        yield f"{root}::rattle::vec::ToVecBy"
-    numbers = NUMBERS | OF_CRATE_ALONE if is_crate else NUMBERS
-    used = [name for there, name in numbers.items() if s.has(f"/{there}/")]
-    if used:
-        yield f"{root}::rattle::number::{group(used)}"
-    if s.has(r"/(?<!::)\bvacant\(/"):
-        yield f"{root}::rattle::list::vacant"
-
-
-def prelude(s, is_program, is_crate):
-    """The imports of names that are ours, where Rust's prelude or std has them otherwise, or not."""
-    root = PACKAGE if is_program else "crate"
-    names = NAMES_OF_OURS if is_crate else {*NAMES_OF_OURS, *OF_ALLOC}
-    used = {name for name in names if s.has(rf"/(?<!::)\b{name}\b/")}
-    used |= {name for name in MACROS_OF_OURS if s.has(f"{name} !")}
-    if used:
-        yield f"{root}::rattle::prelude::{group(sorted(used))}"
+    """The imports of what is ours."""
+    rows = OURS + OF_CRATE_ALONE if is_crate else OURS + [
+        ("prelude", name, rf"(?<!::)\b{name}\b") for name in OF_ALLOC]
+    found = {}
+    for module, name, there in rows + PRELUDE:
+        if s.has(f"/{there}/"):
+            found.setdefault(module, []).append(name)
+    for module, names in found.items():
+        names = sorted(names) if module == "prelude" else names
+        group = names[0] if len(names) == 1 else "{" + ", ".join(names) + "}"
+        yield f"{PACKAGE if is_program else 'crate'}::rattle::{module}::{group}"
 
 
 def of_alloc(s):
     """The imports of what Rust's core has not, where a file or its docs speak of it."""
     text = s.plain(s.text)
     yield from (f"alloc::{path}" for name, path in OF_ALLOC.items() if re.search(rf"\b{name}\b", text))
-
-
-def group(names):
-    """The names of an import, in braces where they are several."""
-    return names[0] if len(names) == 1 else "{" + ", ".join(names) + "}"

@@ -139,7 +139,6 @@ MAKERS = [
     *((f"{ours} ($x..) ?", f"{rust}($x)") for ours, rust in MADE.items()),
 ]
 OWN_TYPES = [
-    (rf"| $x | /(?P<path>[\w:$]+)/ ( {LISTS} :: new ( $x ) )", "$path"),
     (rf"$x : {LISTS} :: new ( $x )", "$x"),
     (rf"/\s*/ . map ( {LISTS} :: new )", ""),
     (rf"{LISTS} :: new ($x..)", "$x"),

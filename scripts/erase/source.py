@@ -5,7 +5,6 @@ Where something is dropped a mark stays, and for each of its lines another: so a
 """
 import functools
 import re
-import sys
 
 TOKEN = re.compile(r"""
     (?P<ws>\s+)
@@ -138,8 +137,8 @@ class Source:
         return re.sub(f"[{letters('doc', 'innerdoc', 'line', 'block', 'str', 'char')}]",
                       lambda it: self.held[it[0]], text)
 
-    def find(self, what, end=sys.maxsize):
-        return form(what).finditer(self.text, 0, end) if all(word in self.text for word in words(what)) else ()
+    def find(self, what):
+        return form(what).finditer(self.text) if all(word in self.text for word in words(what)) else ()
 
     def has(self, what):
         return any(True for _ in self.find(what))
@@ -188,13 +187,7 @@ class Source:
 
     def rust(self):
         """The text; no blank line stands beside another, or beside the brace of a block."""
-        made = []
-        for line in self.text.split("\n"):
-            is_marked = DROPPED in line
-            line = line.replace(DROPPED, "").replace(LINE, "").rstrip()
-            if not line.strip() and (is_marked or not made or not made[-1].strip() or re.search(r"\{.$", made[-1])):
-                continue
-            if line.strip().startswith("}") and made and not made[-1].strip():
-                made.pop()
-            made.append(line)
-        return self.plain("\n".join(made).strip("\n") + "\n")
+        text = re.sub(r"[^\S\n]+$|[\f\v]", "", self.text, flags=re.M)
+        for what, new in ((r"\n{3,}", "\n\n"), (rf"(\{{{PAIR})\n\n", r"\1\n"), (r"\n\n( *\})", r"\n\1")):
+            text = re.sub(what, new, text)
+        return self.plain(text.strip("\n") + "\n")
