@@ -62,61 +62,42 @@ make_written() {
 
 # unfit ARCH NAME..: of each text that does not fit a line, its name and what changed. Each file is read once.
 unfit() {
-    local it all sums_now texts=()
+    local it all was now
     for it in "$sums" crates.txt; do
         if [ ! -e "$it" ]; then
-            printf '%s %s is missing\n' "$2" "$it"
-            [ "$#" = 2 ] || unfit "$1" "${@:3}"
+            printf "%s $it is missing\n" "${@:2}"
             return
         fi
     done
-    for it in "${@:2}"; do
-        [ ! -e "dist/$1/$it.s" ] || texts+=("dist/$1/$it.s")
-    done
+    was=$(sed 's/^# crates.txt //' "$sums")
     mapfile -t all < <(sed -n 's/^# crates.txt \([a-z0-9_]*\).*/\1/p' "$sums")
-    sums_now=$(
+    now=$(
+        cat crates.txt
         sources "${all[@]}"
-        [ "${#texts[@]}" = 0 ] || sha256sum "${texts[@]}"
+        printf "dist/$1/%s.s\n" "${@:2}" | xargs sha256sum 2>/dev/null || true
     )
-    awk -v arch="$1" -v names="${*:2}" -v sums="$sums" '
-        function add(name, words, count, at) {
-            if (!(name in below) || name in is_part) return
-            is_part[name] = 1
-            parts[++parts_count] = name
-            count = split(below[name], words, " ")
-            for (at = 1; at <= count; at++) add(words[at])
-        }
-        function differs(name, text, at, folder) {
-            if (!(text in now)) return text " is missing"
-            if (!(name in below)) return sums " has no line of " name
-            split("", is_part)
-            parts_count = 0
-            add(name)
-            for (at = 1; at <= parts_count; at++)
-                if (line_now[parts[at]] != line_then[parts[at]])
-                    return "the line of " parts[at] " in crates.txt changed since dist/ was made"
-            for (at = 1; at <= files; at++) {
-                split(file[at], folder, "/")
-                if (folder[1] == "crates" && folder[2] in is_part && now[file[at]] != then[file[at]])
-                    return file[at] " changed since dist/ was made"
-            }
-            return now[text] == then[text] ? "" : text " is not the text of " sums
-        }
-        { is_comment = sub(/^# crates\.txt /, ""); name = $1; sub(/:.*/, "", name) }
-        of == "crates" { if (/^[a-z]/) line_now[name] = line_now[name] $0 "\n"; next }
-        is_comment { line_then[name] = line_then[name] $0 "\n"; sub(/^[^:]*:/, ""); below[name] = $0; next }
-        /^#/ || NF == 0 { next }
-        { sub(/^\\/, ""); sum = $1; sub(/^[^ ]*  /, "") }
-        !($0 in then) && !($0 in now) { file[++files] = $0 }
-        of == "then" { then[$0] = sum }
-        of == "now" { now[$0] = sum }
-        END {
-            count = split(names, wanted, " ")
-            for (at = 1; at <= count; at++) {
-                why = differs(wanted[at], "dist/" arch "/" wanted[at] ".s")
-                if (why != "") print wanted[at], why
-            }
-        }' of=crates crates.txt of=then "$sums" of=now - <<<"$sums_now"
+    for it in "${@:2}"; do
+        changed "$it" "dist/$1/$it.s" | sed "s/^/$it /"
+    done
+}
+
+# changed NAME TEXT: what is not as it `was` and is `now`: first the lines of its crates, then their sources and the text
+changed() {
+    local below lines it
+    grep -q "  $2$" <<<"$now" || { echo "$2 is missing"; return; }
+    grep -q "^$1[: ]" <<<"$was" || { echo "$sums has no line of $1"; return; }
+    below=$(crates_below "$1" | paste -sd '|')
+    lines=$(grep -E "^(${below:-$1})[: ]|  crates/($below)/src/|  $2$" <<<"$now"$'\n'"$was" | sort | uniq -u)
+    for it in '/  /!' '/  crates/' '/  dist/'; do
+        it=$(sed -n "$it{p;q;}" <<<"$lines")
+        case $it in
+        *'  crates/'*) echo "${it#*  } changed since dist/ was made" ;;
+        *'  dist/'*) echo "$2 is not the text of $sums" ;;
+        ?*) echo "the line of ${it%%[: ]*} in crates.txt changed since dist/ was made" ;;
+        '') continue ;;
+        esac
+        return
+    done
 }
 
 # unfit_written FILE..: the first that does not fit, and what is wrong with it
