@@ -26,52 +26,24 @@ from pathlib import Path
 from typing import NamedTuple
 
 TOP = Path(__file__).resolve().parents[2]
-ROUND = {}
-for one, other in (("e", "ne"), ("b", "ae"), ("a", "be"), ("l", "ge"), ("g", "le"), ("s", "ns")):
-    for word in ("j", "set", "cmov"):
-        ROUND[word + one], ROUND[word + other] = word + other, word + one
+ROUND = {"e": "ne", "b": "ae", "a": "be", "l": "ge", "g": "le", "s": "ns"}
+ROUND |= {other: one for one, other in ROUND.items()}
+# a jump, a set or a move on a condition, and the letter of a size that may stand at the end of a move
+CONDITION = re.compile(r"(j|set|(cmov))([abgl]e|n[es]|[abegls])((?(2)[qlw]?))")
 BY_ONE = {"jb": "jbe", "jbe": "jb", "ja": "jae", "jae": "ja", "jl": "jle", "jle": "jl", "jg": "jge", "jge": "jg"}
 # as dist/Makefile links a program
 WRAPS = [f"-Wl,--wrap={name}" for name in ("main", "read", "write")]
-# keeps marks in the file that SEEN names, and how much was written; what is written has to be what HELD has
-WATCH = """#define _GNU_SOURCE
-#include <dlfcn.h>
-#include <fcntl.h>
-#include <stdio.h>
+# keeps marks in the file that SEEN names
+WATCH = """#include <fcntl.h>
 #include <stdlib.h>
-#include <string.h>
 #include <sys/mman.h>
-#include <sys/stat.h>
-#include <unistd.h>
 _Alignas(4096) char mutants_seen[1 << 20];
-static size_t *written = (size_t *)mutants_seen, held_len;
-static char *held;
-static ssize_t take(void *of, const char *from, size_t len) {
-    (void)of;
-    if (*written + len > held_len || memcmp(held + *written, from, len) != 0)
-        _exit(98);
-    *written += len;
-    return (ssize_t)len;
-}
-ssize_t write(int file, const void *from, size_t len) {
-    ssize_t (*next)(int, const void *, size_t) = (ssize_t (*)(int, const void *, size_t))dlsym(RTLD_NEXT, "write");
-    return held ? take(0, from, len) : next(file, from, len);
-}
 __attribute__((constructor)) static void keep(void) {
-    struct stat it;
-    int seen = open(getenv("SEEN"), O_RDWR), file = open(getenv("HELD"), O_RDONLY);
+    int seen = open(getenv("SEEN"), O_RDWR);
     if (mmap(mutants_seen, sizeof mutants_seen, PROT_READ | PROT_WRITE, MAP_SHARED | MAP_FIXED, seen, 0) == MAP_FAILED)
         abort();
-    if (file < 0 || fstat(file, &it) != 0)
-        return;
-    held_len = (size_t)it.st_size;
-    held = held_len ? mmap(NULL, held_len, PROT_READ, MAP_PRIVATE, file, 0) : "";
-    stdout = fopencookie(NULL, "w", (cookie_io_functions_t){.write = take});
 }
 """
-WRITTEN = 8  # bytes in front of the marks
-
-
 # calls the program of a test by its name, or that of the lines; the library has the memory of `memory` in that alone
 DRIVER = """#include <stdlib.h>
 #include <string.h>
@@ -126,11 +98,9 @@ def words():
 # ** mutants
 
 def turned(word):
-    """The opposite of a jump, a set or a move on a condition, which may have the letter of a size at its end."""
-    base = re.fullmatch(r"(cmov\w+?)([qlw]?)", word)
-    if word in ROUND:
-        return ROUND[word]
-    return ROUND[base[1]] + base[2] if base and base[1] in ROUND else None
+    """The opposite of a jump, a set or a move on a condition."""
+    found = CONDITION.fullmatch(word)
+    return found and found[1] + ROUND[found[3]] + found[4]
 
 
 def sites(text):
@@ -264,8 +234,8 @@ def runs(name, folder):
 
 
 def run(it, to, held, most=60):
-    """Runs the program for so many seconds of the processor's time at most: its status, and how much it wrote, where
-    HELD has all that it may write."""
+    """Runs the program for so many seconds of the processor's time at most: its status, whether it writes what the file
+    `held` has, if one is named, and the marks it left."""
     def limits():
         for what, limit in (resource.RLIMIT_CPU, most), (resource.RLIMIT_AS, 3 << 30), (resource.RLIMIT_CORE, 0):
             resource.setrlimit(what, (limit, limit))
@@ -273,18 +243,19 @@ def run(it, to, held, most=60):
         seen.truncate(1 << 20)
     source = os.open(it.reads, os.O_RDONLY)
     command = [to if word == "TO" else word for word in it.script or (to, *it.words)]
-    with open(it.writes or (os.devnull if held else f"{to}.out"), "wb") as out:
+    # it ends at the first byte that differs, and then the program's next write ends that
+    compared = subprocess.Popen(["cmp", "-s", "-", held], stdin=subprocess.PIPE) if held else None
+    with compared.stdin if compared else open(it.writes or f"{to}.out", "wb") as out:
         program = subprocess.Popen(command, stdin=source, stdout=out, stderr=subprocess.STDOUT, cwd=TOP,
                                    preexec_fn=limits, start_new_session=True,
-                                   env={"SEEN": f"{to}.seen", "HELD": held, "PATH": os.environ["PATH"]})
+                                   env={"SEEN": f"{to}.seen", "PATH": os.environ["PATH"]})
     try:
         status = program.wait(timeout=60)
     except subprocess.TimeoutExpired:
         os.killpg(program.pid, signal.SIGKILL)
         status = program.wait()
     os.close(source)
-    with open(f"{to}.seen", "rb") as seen:
-        return status, int.from_bytes(seen.read(WRITTEN), "little"), b"" if held else seen.read()
+    return status, not compared or compared.wait() == 0, b"" if held else Path(f"{to}.seen").read_bytes()
 
 
 class Wanted(NamedTuple):
@@ -299,12 +270,8 @@ def is_told(name, folder, to, place, answered):
     """Whether a run that comes to a place ends otherwise, or writes something else, than the text as it is."""
     for at, (it, want) in enumerate(zip(runs(name, folder), answered)):
         if place in want.there:
-            wanted = f"{folder}/wanted{at}"
-            held = "" if it.writes or it.script else wanted
-            status, written, _ = run(it, to, held, want.most)
-            if status != want.status or held and written != os.path.getsize(held):
-                return True
-            if it.script and Path(f"{to}.out").read_bytes() != Path(wanted).read_bytes():
+            status, is_same, _ = run(it, to, "" if it.writes else f"{folder}/wanted{at}", want.most)
+            if status != want.status or not is_same:
                 return True
     return False
 
@@ -313,7 +280,7 @@ def answers(name, folder, text, lines):
     """Keeps what each run writes, and which of these lines it executes."""
     marked, last, wanted, to = [], 0, [], f"{folder}/marked"
     for number, at in enumerate(lines):
-        marked += [*text[last:at], f"\tmovb $1, mutants_seen+{WRITTEN + number}(%rip)"]
+        marked += [*text[last:at], f"\tmovb $1, mutants_seen+{number}(%rip)"]
         last = at
     if not build(name, folder, marked + text[last:], to):
         sys.exit(f"mutants: {name}: the text with marks does not assemble")
