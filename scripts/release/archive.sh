@@ -9,20 +9,12 @@ version=$(sed -n 's/^#define LINKWIRE_VERSION "\(.*\)"$/\1/p' include/linkwire.h
 date=${SOURCE_DATE_EPOCH:-$(date -ud "$(sed -n 's/^## \[[0-9.]*\] - //p' CHANGELOG.md | head -n 1)" +%s)}
 name=linkwire-$version
 to=$folder/$name
-mkdir -p "$to/tests" out
-cp README.md LICENSE CHANGELOG.md "$to"
+mkdir -p "$to" out
 echo 'include dist/Makefile' >"$to/Makefile"
-cp -r completions dist docs examples include man programs rust "$to"
+cp -r --parents README.md LICENSE CHANGELOG.md completions dist docs examples include man programs rust \
+    python/*.{py,toml} python/linkw*/*.py python/linkwire/py.typed tests/c tests/self_test.sh tests/program/said.* \
+    tests/second/{*.c,*.txt,streams.sh,watched.sh} "$to"
 rm -rf "$to"/rust/target "$to"/rust/*/target
-mkdir -p "$to/python/linkwire" "$to/python/linkwatch"
-cp python/*.py python/*.toml "$to/python"
-cp python/linkwire/*.py python/linkwire/py.typed "$to/python/linkwire"
-cp python/linkwatch/*.py "$to/python/linkwatch"
-cp -r tests/c tests/self_test.sh "$to/tests"
-mkdir "$to/tests/second"
-cp tests/second/*.c tests/second/streams.sh tests/second/watched.sh tests/second/*.txt "$to/tests/second"
-mkdir "$to/tests/program"
-cp tests/program/said.* "$to/tests/program"
 read -ra programs <<<"$(sed -n 's/^PROGRAMS = //p' dist/Makefile)"
 for program in "${programs[@]}"; do
     mkdir "$to/tests/$program"
