@@ -38,11 +38,11 @@ ARCH = "x86_64"
 HERE, ROWS, TEXTS = f"{TOP}/scripts/measure/costs", f"{TOP}/tests/costs.txt", f"{TOP}/dist/{ARCH}"
 CC = os.environ.get("CC", "cc").split()
 PROGRAMS = ["linkwire", "linkshow", "linkstate", "linkdiff"]
-# linkdiff of two files reads the lines of a workload before the middle, and those after it
-FILES = "linkdiff--files"
 OPTIONS = {"linkshow--lenient": ["--lenient"], "linkshow--kernel": ["--kernel", "6.16.0"],
            "linkstate--lenient": ["--lenient"], "linkdiff--lenient": ["--lenient"],
-           "linkdiff--counters": ["--counters"], "linkdiff--changes-only": ["--changes-only"], FILES: []}
+           "linkdiff--counters": ["--counters"], "linkdiff--changes-only": ["--changes-only"],
+           # the lines of a workload before the middle, and those after it
+           "linkdiff--files": ["{}.before", "{}.after"]}
 OF_OPTIONS = ["dumps", "repeats", "events", "damaged", "settings-64", "swapped-64", "all-refused", "refused-turning",
               "refused-64", "refused-256"]
 LIBRARY, CRATE, DUMP = "link_c", "rust", "linkdump--read"
@@ -51,6 +51,13 @@ CALLS = ["check", "canonical_len", "canonical", "state", "same_message", "unlike
          "refusal_next", "show", "show_leniently", "diff", "diff_leniently"]
 OF_CALLS = ["dumps", "requests", "functions-300", "damaged", "names-of-three", "all-refused"]
 OF_CRATE = [f"{CRATE}_{call}" for call in ("check", "parse", "to_vec", "attributes", "view", "unchecked_view")]
+# What is counted: the text it stands in, or what else is built for it, and how it is run, `{}` its workload. The name
+# of a program is as long in each folder: it copies that name.
+COUNTED = {what: (what.partition("--")[0], [f"./{what.partition('--')[0]}", *words])
+           for what, words in [*((program, []) for program in PROGRAMS), *OPTIONS.items()]}
+COUNTED |= {f"linkwire_{call}": (LIBRARY, ["./calls", call]) for call in CALLS}
+COUNTED |= {what: (CRATE, ["./crate", what.partition("_")[2]]) for what in OF_CRATE}
+COUNTED[DUMP] = DUMP, ["./linkdump", "--read", "{}.pcap"]
 # what count.c counts, and what else the texts may call: where they call more, a cost may stand there that is not seen
 WRAPPED = {"malloc", "calloc", "realloc", "free", "memcpy", "memmove", "memset", "memcmp", "bcmp"}
 CALLED = WRAPPED | {"read", "write", "open", "close", "__sysv_signal"}
@@ -122,19 +129,15 @@ def link_dump(folder):
 
 def link_crate(folder):
     """Builds rust.rs by the crate, with what counts, as `crate`."""
-    os.mkdir(f"{folder}/{CRATE}")
-    wraps = ", ".join(f'"-Clink-arg={it}"' for it in [*WRAP, f"{folder}/count.o"])
-    for name, text in {
-        "Cargo.toml": f'[package]\nname = "crate"\nversion = "0.0.0"\nedition = "2021"\n'
-                      f'[dependencies]\nlinkwire = {{ path = "{TOP}/rust" }}\n'
-                      f'[[bin]]\nname = "crate"\npath = "{HERE}/rust.rs"\n'
-                      f'[profile.release]\nlto = "fat"\ncodegen-units = 1\n',
-        ".cargo/config.toml": f"[build]\nrustflags = [{wraps}]\n",
-    }.items():
-        os.makedirs(os.path.dirname(f"{folder}/{CRATE}/{name}"), exist_ok=True)
-        pathlib.Path(f"{folder}/{CRATE}/{name}").write_text(text, "utf-8")
+    manifest = pathlib.Path(f"{folder}/{CRATE}/Cargo.toml")
+    manifest.parent.mkdir()
+    manifest.write_text(f'[package]\nname = "crate"\nversion = "0.0.0"\nedition = "2021"\n'
+                        f'[dependencies]\nlinkwire = {{ path = "{TOP}/rust" }}\n'
+                        f'[[bin]]\nname = "crate"\npath = "{HERE}/rust.rs"\n'
+                        f'[profile.release]\nlto = "fat"\ncodegen-units = 1\n', "utf-8")
+    wraps = "\x1f".join(f"-Clink-arg={it}" for it in [*WRAP, f"{folder}/count.o"])
     subprocess.run(["cargo", "build", "-q", "--release", "--offline", "--target-dir", "target"], check=True,
-                   cwd=f"{folder}/{CRATE}")
+                   cwd=manifest.parent, env={**os.environ, "CARGO_ENCODED_RUSTFLAGS": wraps})
     os.rename(f"{folder}/{CRATE}/target/release/crate", f"{folder}/crate")
 
 
@@ -162,26 +165,9 @@ def instructions(path, own, program):
     return total
 
 
-def text_for(what):
-    """The text that a program or a call stands in, or what else is built for it."""
-    if what == DUMP or what in PROGRAMS:
-        return what
-    return what.partition("--")[0] if what in OPTIONS else CRATE if what in OF_CRATE else LIBRARY
-
-
-def command(folder, what, workload):
-    """How it is run, in this folder. The program is run by a name that is as long in each: it copies that name."""
-    if what in PROGRAMS or what in OPTIONS:
-        halves = [f"{workload}.before", f"{workload}.after"] if what == FILES else []
-        return [f"./{text_for(what)}", *OPTIONS.get(what, []), *halves]
-    if what == DUMP:
-        return ["./linkdump", "--read", f"{workload}.pcap"]
-    return [f"{folder}/crate" if what in OF_CRATE else "./calls", what.partition("_")[2]]
-
-
 def count(folder, what, workload, own):
     """What a run takes, by UNITS. These are the functions of its text."""
-    of, runs = f"{folder}/{what}.{workload}", command(folder, what, workload)
+    of, runs = f"{folder}/{what}.{workload}", [word.format(workload) for word in COUNTED[what][1]]
     valgrind = ["valgrind", "--tool=callgrind", f"--callgrind-out-file={of}.out", "--error-exitcode=99"]
     valgrind += ["--toggle-collect=counted"] if what in OF_CRATE else []
     with open(f"{folder}/{workload}.lines", "rb") as lines:
@@ -220,10 +206,10 @@ def counted(texts, workloads, rows):
     """The numbers of these rows, several side by side."""
     jobs = int(os.environ.get("JOBS", len(os.sched_getaffinity(0))))
     with tempfile.TemporaryDirectory() as folder:
-        own = link(texts, folder, {text_for(what) for what, _ in rows})
+        own = link(texts, folder, {COUNTED[what][0] for what, _ in rows})
         write(folder, workloads)
         with concurrent.futures.ThreadPoolExecutor(jobs) as pool:
-            runs = {row: pool.submit(count, folder, *row, own.get(text_for(row[0]), set())) for row in rows}
+            runs = {row: pool.submit(count, folder, *row, own.get(COUNTED[row[0]][0], set())) for row in rows}
             return {row: run.result() for row, run in runs.items()}
 
 
@@ -241,16 +227,11 @@ def versions():
 
 
 def stored(path):
-    """The rows of a file."""
-    with open(path, encoding="ascii") as it:
-        words = [line.split() for line in it if not line.startswith("#")]
-    return {(what, workload): [float(number) for number in numbers] for what, workload, *numbers in words}
-
-
-def made_by(path):
-    """The versions that a file of rows was made by."""
-    with open(path, encoding="ascii") as it:
-        return dict(line.removeprefix("#: ").strip().split("=", 1) for line in it if line.startswith("#: "))
+    """The rows of a file, and the versions that they were made by."""
+    lines = pathlib.Path(path).read_text("ascii").splitlines()
+    words = [line.split() for line in lines if not line.startswith("#")]
+    rows = {(what, workload): [float(number) for number in numbers] for what, workload, *numbers in words}
+    return rows, dict(line.removeprefix("#: ").split("=", 1) for line in lines if line.startswith("#: "))
 
 
 def passed_over(was, now):
@@ -312,14 +293,15 @@ def main():
     if wanted - set(rows):
         stop(f"no such row: {', '.join(map('/'.join, sorted(wanted - set(rows))))}")
     here = versions()
-    over, columns = (set(), set()) if asked.make else passed_over(made_by(asked.rows), here)
+    most, was = stored(asked.rows)
+    over, columns = (set(), set()) if asked.make else passed_over(was, here)
     now = counted(os.path.abspath(asked.texts or TEXTS), workloads, [row for row in rows if row[0] not in over])
     if asked.make:
         print(TITLE, *(f"#: {name}={version}\n" for name, version in here.items()), sep="", end="")
         for row, numbers in now.items():
             print(*row, *numbers)
         return
-    at_most = {row: numbers for row, numbers in stored(asked.rows).items()
+    at_most = {row: numbers for row, numbers in most.items()
                if (not wanted or row in wanted) and row[0] not in over}
     found = list(remarks(at_most, now, columns))
     if found:

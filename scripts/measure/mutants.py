@@ -294,47 +294,10 @@ def answers(name, folder, text, lines):
     return wanted
 
 
-def labels(path):
-    rows = subprocess.run(["nm", path], capture_output=True, check=True, text=True).stdout.split("\n")
-    return {row.split()[2]: int(row.split()[0], 16) for row in rows if re.search(r" m\d+\.\d$", row)}
-
-
-def patches(name, folder, text, work):
-    """Builds the text as it is, and returns by number of a mutant which bytes of that file are other ones in it; none
-    for one whose instruction has another length."""
-    path, marked, to = f"{folder}/each", list(text), f"{folder}/plain"
-    for at in {at for _, at, _ in work}:
-        marked[at] = f"m{at}.0:\n{text[at]}\nm{at}.1:"
-    build(name, folder, marked, to)
-    Path(f"{path}.s").write_text("".join(
-        f"m{number}.0:\n{text[at]}\nm{number}.1:\n{new}\nm{number}.2:\n" for number, at, new in work))
-    compiles("-c", "-o", f"{path}.o", f"{path}.s")
-    subprocess.run(["objcopy", "-O", "binary", "-j", ".text", f"{path}.o", path], check=True)
-    code, here, there, found = Path(path).read_bytes(), labels(f"{path}.o"), labels(to), {}
-    sections = subprocess.run(["readelf", "-SW", to], capture_output=True, check=True, text=True).stdout
-    base = [int(it, 16) for it in re.search(r" \.text +PROGBITS +(\w+) (\w+)", sections).groups()]
-    for number, at, _ in work:
-        old, new, end = (here[f"m{number}.{it}"] for it in range(3))
-        start, length = there[f"m{at}.0"] - base[0] + base[1], there[f"m{at}.1"] - there[f"m{at}.0"]
-        if new - old != end - new:
-            continue
-        # a jump of two bytes has its condition in the first; alone it is a long one
-        short = 1 if length == 2 and new - old == 6 else 0
-        found[number] = [(start + it - short, code[new + it] - code[old + it]) for it in range(new - old)
-                         if code[new + it] != code[old + it]]
-    return found
-
-
-def attempt(name, folder, text, wanted, patch, work):
+def attempt(name, folder, text, wanted, work):
     number, at, new = work
     to = f"{folder}/{number}"
-    if number in patch:
-        made = bytearray(Path(f"{folder}/plain").read_bytes())
-        for place, more in patch[number]:
-            made[place] = (made[place] + more) % 256
-        Path(to).write_bytes(made)
-        Path(to).chmod(0o755)
-    elif not build(name, folder, [*text[:at], new, *text[at + 1:]], to):
+    if not build(name, folder, [*text[:at], new, *text[at + 1:]], to):
         return "not built"
     result = "told" if is_told(name, folder, to, at, wanted) else "kept"
     for it in ("", ".s", ".o", ".seen", ".out"):
@@ -369,9 +332,8 @@ def main():
             results[found] += 1
             if given.list:
                 print(f"mutants: {name}: {found}: {what}")
-        patch = patches(name, folder, text, work)
         with multiprocessing.Pool(given.jobs) as pool:
-            tried = pool.imap(functools.partial(attempt, name, folder, text, wanted, patch), work)
+            tried = pool.imap(functools.partial(attempt, name, folder, text, wanted), work)
             for (number, *_), found in zip(work, tried):
                 what, fits = places[number]
                 results["told, and fits"] += bool(fits) and found == "told"
