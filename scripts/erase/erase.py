@@ -37,7 +37,7 @@ RATTLE = HERE / "rattle"                    # what stands for Rattle's std in th
 ROOTS = ["link_msg", "link_state", "link_view"]     # what they give again stands at the root
 TOPS = ROOTS + ["link_info"]                # they give again what a user sees
 RUN = ["args", "stdin", "stdout"]           # a program's stored run
-STANDS_FOR = ["exact", "values"]            # modules of nla_wire that are Rust's own in the crate
+LEFT_OUT = ["laws", "exact", "values"]      # modules that state laws, and those that are Rust's own in the crate
 COMMON = ["number.rs", "str.rs"]
 MADE = ["LICENSE", "MOVING.md", "conditions.txt", "src/generated"]      # what is made of a crate's package
 EXPORTS = "link_c"                          # the crate of the library for C
@@ -89,19 +89,8 @@ class Mode:
             folder = CRATES / crate / "src"
             for path in sorted(folder.rglob("*.rt"), key=str):
                 base = str(path.relative_to(folder).with_suffix(""))
-                is_left = base.partition("/")[0] == "laws" or crate == "nla_wire" and base in STANDS_FOR
-                if not (self.is_crate and is_left):
+                if not (self.is_crate and base.partition("/")[0] in LEFT_OUT):
                     yield crate, base, path
-
-
-def hides(s, crate, mode):
-    """What a Rust user does not want, and the modules that are Rust's own."""
-    surface.other_names(s)
-    if crate in TOPS:
-        surface.hide_names(s)
-    for name in STANDS_FOR if crate == "nla_wire" else ():
-        s.put(f"@ mod {name} ;")
-    rules.apply(s, rules.CRATE)
 
 
 def erase(path, text, crate, mode):
@@ -116,7 +105,10 @@ def erase(path, text, crate, mode):
     rules.apply(s, rules.STATES)
     paths.drop_names(s, lambda name, _: name in ("Model", "Error"))
     if mode.is_crate:
-        hides(s, crate, mode)
+        surface.other_names(s)
+        if crate in TOPS:
+            surface.hide_names(s)
+        rules.apply(s, rules.CRATE)
         mode.conditions += [f"{name}: where {where}" for name, rows in found.items() for where, _ in rows]
     before = paths.spoken(s)
     rules.apply(s, rules.RUNTIME)
@@ -130,7 +122,8 @@ def erase(path, text, crate, mode):
     paths.paths(s, crate, mode.libraries, is_program, mode.is_crate)
     derives.derives(s, mode.is_crate)
     rules.apply(s, rules.BOUNDS)
-    paths.drop_unused(s, before)
+    unused = before - paths.spoken(s)
+    paths.drop_names(s, lambda name, pub: not pub and name in unused)
     imported = [*paths.ours(s, is_program, mode.is_crate)]
     if mode.is_crate:
         rules.apply(s, rules.NEVER)

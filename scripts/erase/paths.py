@@ -29,18 +29,12 @@ HEAD = (rf"/(?<!::)(?<!\.)\b(?P<head>[a-z]\w*)(?=\s*::\s*(?:(?P<item>(?P<part>\w
         rf"|\{{{PAIR}(?P<group>[^{{}}]*)\}})?)/")
 
 
-def imports(s):
-    """The imports: the word `pub` of each, and its names."""
-    for found in s.find(USE):
-        yield "".join(re.findall(r"\bpub\b\S*", found["item"])), NAME.findall(found["tree"])
-
-
 def drop_names(s, is_gone):
     """Names of imports of which a function says so, by the name and the word `pub`; and an import without any."""
     def put(found):
         item, tree = found["item"], found["tree"]
-        names = NAME.findall(tree)
-        gone = [name for name in names if is_gone(name, "".join(re.findall(r"\bpub\b\S*", item)))]
+        names, pub = NAME.findall(tree), "".join(re.findall(r"\bpub\b\S*", item))
+        gone = [name for name in names if is_gone(name, pub)]
         if gone == names:
             return "" if names else None
         for name in gone:
@@ -54,12 +48,6 @@ def drop_names(s, is_gone):
 def spoken(s):
     """The names that are spoken of outside imports."""
     return set(re.findall(r"\b[^\W\d]\w*", re.sub(r"\buse [^;]*;", "", s.text)))
-
-
-def drop_unused(s, before):
-    """Imported names that were spoken of before, and are not any more."""
-    gone = before - spoken(s)
-    drop_names(s, lambda name, pub: not pub and name in gone)
 
 
 def paths(s, crate, crates, is_program, is_crate):

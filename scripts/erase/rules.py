@@ -90,7 +90,7 @@ HOST = [
 ]
 # What a Rust user does not want, and the modules that are Rust's own.
 CRATE = [
-    ("@ mod laws ;", ""),
+    ("@ mod /(?:laws|exact|values)/ ;", ""),
     *only_ghosts("Exact"),
     # a debug build would have more than twice the code
     ("# [ inline ( always ) ]", "#[cfg_attr(not(debug_assertions), inline(always))]"),

@@ -1,7 +1,7 @@
 """What of the crates a Rust user sees: the names that the top crates give again, and their calls."""
 import re
 
-from paths import drop_names, imports
+from paths import drop_names
 from source import PAIR
 
 # Names that a top crate gives again and the crate has otherwise, or not: they serve the crates below.
@@ -44,7 +44,9 @@ TRAITS = "|".join(OF_TRAITS)
 
 def given_again(s):
     """The names that a top crate gives again."""
-    return {name for pub, names in imports(s) if pub == "pub" for name in names} - HIDDEN_NAMES
+    found = set()
+    drop_names(s, lambda name, pub: pub == "pub" and found.add(name))       # drops none
+    return found - HIDDEN_NAMES
 
 
 def hide_names(s):

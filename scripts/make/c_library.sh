@@ -7,8 +7,8 @@ top=$(cd "$(dirname "$0")/../.." && pwd)
 kit=$(dirname "$(dirname "$(readlink -f "$(command -v rt)")")")
 mkdir -p "$top/out" "$top/crates/link_c/out"
 if [ "${1:-}" != --built ]; then
-    read -r target cpu <<<"$(awk '$1 == "x86_64" { print $2, $3 }' "$top/scripts/make/targets.txt")"
-    "$top/scripts/make/progress.sh" link_c "$top/out/link_c.log" rt lib --target "$target" --cpu "$cpu"
+    read -ra flags <<<"$(python3 "$top/scripts/make/targets.py" x86_64)"
+    "$top/scripts/make/progress.sh" link_c "$top/out/link_c.log" rt lib "${flags[@]}"
 fi
 cd "$top/out"
 # what stands there is of another object

@@ -21,6 +21,8 @@ import shutil
 import sys
 import tempfile
 
+from targets import targets
+
 # Stands for the toolchain's clang, which is called with an empty environment, and has it write the text too. `-c` marks
 # the call that makes the code. That of x86-64 optimizes the module first, as a call of its own does on aarch64: it is
 # optimized once, and text and object are made of what comes of it, the same bytes in half the time. gas has no
@@ -52,10 +54,6 @@ case " $* " in
 esac
 """
 MORE = {"x86_64": "-fforce-dwarf-frame", "aarch64": ""}
-
-with open(f"{os.path.dirname(os.path.abspath(__file__))}/targets.txt", encoding="utf-8") as rows:
-    TARGETS = {arch: ["--target", target, "--cpu", cpu]
-               for arch, target, cpu in (row.split() for row in rows if not row.startswith("#"))}
 
 QUOTED = re.compile(r'"([^"]*)"')
 SECTION = re.compile(r'(\s*\.section\s+)"([^"]*)"(.*)', re.S)
@@ -120,7 +118,7 @@ def write_text(command, crate, arch, to, jobs):
     with tempfile.TemporaryDirectory() as folder:
         file = stand_in(f"{command.KIT}/toolchain", folder, arch)
         object_file = "out/" + built.replace("NAME", crate.name) if arch == "x86_64" else f"{folder}/built"
-        words = [*crate.words(TARGETS[arch] + jobs), "--toolchain", folder, "--backend", "llvm", *command.rtlib.KEPT]
+        words = [*crate.words(targets()[arch] + jobs), "--toolchain", folder, "--backend", "llvm", *command.rtlib.KEPT]
         status = crate.call(command.rtlib.RATTLE, "build", *words, "-o", object_file)
         if status:
             return status
@@ -179,7 +177,7 @@ def main(to, *jobs):
     if to == "--by-rattle":
         status = build_by_rattle(command, crate, jobs)
     else:
-        status = next(filter(None, (write_text(command, crate, arch, to, jobs) for arch in TARGETS)), 0)
+        status = next(filter(None, (write_text(command, crate, arch, to, jobs) for arch in targets())), 0)
     if shares(command):
         command.offer(crate, None if status else stamp)
     return status

@@ -295,7 +295,7 @@ def answers(name, folder, text, lines):
 
 
 def attempt(name, folder, text, wanted, work):
-    number, at, new = work
+    number, at, new, *_ = work
     to = f"{folder}/{number}"
     if not build(name, folder, [*text[:at], new, *text[at + 1:]], to):
         return "not built"
@@ -319,28 +319,25 @@ def main():
         prepare(name, folder)
         wanted = answers(name, folder, text, sorted({at for at, *_ in picked}))
         there = set().union(*(it.there for it in wanted))
-        pattern, results, work, places = alike(), collections.Counter(), [], {}
+        pattern, results, work = alike(), collections.Counter(), []
+
+        def count(found, what):
+            results[found] += 1
+            if given.list:
+                print(f"mutants: {name}: {found}: {what}", flush=True)
         for number, (at, how, function) in enumerate(picked):
             new = changed(text[at], how, random.Random(chance.random()))
             what = said(text, at, new, function)
-            fits = pattern.search(around(name, text, at, new, function))
+            fits = bool(pattern.search(around(name, text, at, new, function)))
             if at in there and not (fits and given.unlike):
-                work.append((number, at, new))
-                places[number] = what, fits
-                continue
-            found = "alike" if at in there else "never executed"
-            results[found] += 1
-            if given.list:
-                print(f"mutants: {name}: {found}: {what}")
+                work.append((number, at, new, what, fits))
+            else:
+                count("alike" if at in there else "never executed", what)
         with multiprocessing.Pool(given.jobs) as pool:
             tried = pool.imap(functools.partial(attempt, name, folder, text, wanted), work)
-            for (number, *_), found in zip(work, tried):
-                what, fits = places[number]
-                results["told, and fits"] += bool(fits) and found == "told"
-                found = "alike" if fits and found == "kept" else found
-                results[found] += 1
-                if given.list:
-                    print(f"mutants: {name}: {found}: {what}", flush=True)
+            for (*_, what, fits), found in zip(work, tried):
+                results["told, and fits"] += fits and found == "told"
+                count("alike" if fits and found == "kept" else found, what)
     tell(given, results)
 
 
