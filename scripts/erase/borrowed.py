@@ -9,12 +9,11 @@ inner list is the same of each, but for its names.
 `erase.py check` says whether what stands there is what this would make, but for its layout.
 """
 import functools
-import os
 import re
 
 import keys
 
-VIEW = os.path.join(keys.CRATES, "link_view")
+VIEW = keys.CRATES / "link_view"
 # How the value of an attribute is read that is no list: what the arm of a variant does with its payload.
 READ = {"Bytes": "Ok({}(payload))", "DefaultNla": "Ok({}(frame))",
         "bool": "borrow!({}, n => n != 0, parse_u8(payload))"}
@@ -32,7 +31,7 @@ HELD = {"Bytes": ("&'a [u8]", "v.now"), "Text": ("&'a str", "v.now"), "DefaultNl
 @functools.lru_cache(maxsize=None)
 def table_of(crate):
     """The lines of a crate's tables."""
-    return keys.read(os.path.join(keys.CRATES, crate, "specs", "Tables.antt"))
+    return (keys.CRATES / crate / "specs" / "Tables.antt").read_text("utf-8")
 
 
 def is_list(held):
@@ -186,7 +185,7 @@ def unlike():
     """The enums of inner lists of which is written what is not written of the first, but for its names."""
     first = None
     for crate in keys.INNER:
-        for found in BLOCK.finditer(keys.read(os.path.join(VIEW, f"src/{module_of(crate)}.rt"))):
+        for found in BLOCK.finditer((VIEW / f"src/{module_of(crate)}.rt").read_text("utf-8")):
             enum, text = found[2], squeezed(with_parts(found, [""] * 5))
             names = {f"owned_{keys.snake(enum)}": "owned", place_of(crate, enum): "place", enum: "",
                      f"specs.{module_of(crate).capitalize()}.": "", "_kind:": "kind:", "_kind≡": "kind≡"}
@@ -228,8 +227,8 @@ def squeezed(text):
 def stale():
     """The files that are not what is made of the rows, each with its text."""
     for path, make in made():
-        there = os.path.join(VIEW, path)
-        before = keys.read(there)
+        there = VIEW / path
+        before = there.read_text("utf-8")
         text = make(before)
         if squeezed(before) != squeezed(text):
             yield there, text
@@ -239,9 +238,8 @@ def stale():
 
 def main():
     for there, text in stale():
-        with open(there, "w", encoding="utf-8") as file:
-            file.write(text)
-        print(f"borrowed.py: made {os.path.relpath(there)}: run `rt fmt` in crates/link_view")
+        there.write_text(text, "utf-8")
+        print(f"borrowed.py: made {there.relative_to(keys.CRATES.parent)}: run `rt fmt` in crates/link_view")
 
 
 if __name__ == "__main__":

@@ -261,7 +261,7 @@ def main():
         make_all(Mode(made), out)
         return
     for path, _ in borrowed.stale():
-        raise Unknown(f"{path} is not what is made of the rows: run `make rust`")
+        raise Unknown(f"{path.relative_to(TOP)} is not what is made of the rows: run `make rust`")
     compare(Mode("crate"), out)
     compare(Mode("capi"), out / "capi")
 

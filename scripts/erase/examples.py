@@ -1,16 +1,14 @@
 """The examples of examples.md: of each public call its own, or where that of another has it too."""
-import os
 import re
+from pathlib import Path
 
-PAGE = os.path.join(os.path.dirname(os.path.abspath(__file__)), "examples.md")
+PAGE = Path(__file__).with_name("examples.md")
 PART = re.compile(r"^## (\S+)\n\n(?:Besides: ([^`]+)\.\n\n)?```rust\n(.*?)\n```$", re.M | re.S)
 
 
 def read():
     """By the name of a call, without its module: paragraphs of docs."""
-    with open(PAGE, encoding="utf-8") as file:
-        text = file.read()
-    found = {}
+    text, found = PAGE.read_text("utf-8"), {}
     for name, besides, code in PART.findall(text):
         put(found, name, ["```", *code.split("\n"), "```"])
         for other in besides.replace(",", " ").split():

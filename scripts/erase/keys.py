@@ -2,16 +2,14 @@
 of link data as typed.py has them. A key is a type for a variant; those of an inner list stand in the module that has
 the name of its enum.
 """
-import glob
-import os
 import re
+from pathlib import Path
 from typing import NamedTuple
 
 import typed
 
-HERE = os.path.dirname(os.path.abspath(__file__))
-CRATES = os.path.join(HERE, "..", "..", "crates")
-ROWS = os.path.join(CRATES, "link_msg", "src", "attribute.rt")
+CRATES = Path(__file__).resolve().parents[2] / "crates"
+ROWS = CRATES / "link_msg" / "src" / "attribute.rt"
 # The crates of inner lists, whose enums have the rows.
 INNER = ["link_afspec", "link_nest", "link_vf"]
 # The enums of those crates that are no list of attributes, or are one only as the data of a kind.
@@ -42,11 +40,6 @@ class Row(NamedTuple):
     value: str
     how: str
     family: str = "any"
-
-
-def read(path):
-    with open(path, encoding="utf-8") as file:
-        return file.read()
 
 
 def declared(text, enum):
@@ -89,7 +82,7 @@ def families(said):
 
 def rows():
     """The rows of `LinkAttribute`."""
-    source = read(ROWS)
+    source = ROWS.read_text("utf-8")
     number_of = dict(re.findall(r"^ +(?:held|plain|mask) (\w+)\(\w+ => (IFLA_\w+)", source, re.M))
     for said, name, held in declared(source, "LinkAttribute"):
         value, how = VALUES.get(held) or listed(held, said)
@@ -134,8 +127,8 @@ def inner(crate, source, enum, said):
 def sources():
     """The sources of the crates of inner lists."""
     for crate in INNER:
-        for path in sorted(glob.glob(os.path.join(CRATES, crate, "src", "*.rt"))):
-            yield crate, os.path.basename(path).removesuffix(".rt"), read(path)
+        for path in sorted((CRATES / crate / "src").glob("*.rt")):
+            yield crate, path.stem, path.read_text("utf-8")
 
 
 def enums(source):

@@ -7,7 +7,7 @@ PACKAGE = "linkwire"
 STD_OF_OURS = {"alloc", "str", "test"}              # modules of std of which a file of ours stands
 OF_CRATE = {"net"}                                  # and those of which one stands for the crate alone,
 OF_TESTS = {"collections", "env", "fs", "simd"}     # or for the tests alone
-CRATES_OF_OURS = {"bitflags", "hex", "memchr", "json", "itoa"}
+CRATES_OF_OURS = {"bitflags", "hex", "memchr", "itoa"}
 ITEMS_OF_OURS = {"process::Abort", "fmt::InlineText"}
 IN_CORE = {"fmt", "marker", "ops", "slice", "str"}
 # What stands where something of `rattle` is needed: the module, the name, and what stands there.

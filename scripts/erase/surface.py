@@ -6,7 +6,7 @@ from source import PAIR
 
 # Names that a top crate gives again and the crate has otherwise, or not: they serve the crates below.
 HIDDEN_NAMES = {
-    "Action", "BorrowedAfSpecInet", "BorrowedAfSpecInet6", "BorrowedAfSpecMctp", "BorrowedAfSpecUnspec",
+    "BorrowedAfSpecInet", "BorrowedAfSpecInet6", "BorrowedAfSpecMctp", "BorrowedAfSpecUnspec",
     "BorrowedAttribute", "BorrowedAttributes", "BorrowedDevlinkPort", "BorrowedDpllPin", "BorrowedLinkInfo",
     "BorrowedLinkProtoInfoInet6", "BorrowedLinkProtocolDownReason", "BorrowedLinkXdp", "BorrowedProp",
     "BorrowedVfInfo", "BorrowedVfPort", "BorrowedVfStats", "BorrowedVfVlan", "Entry", "Kind", "Level", "Nla",

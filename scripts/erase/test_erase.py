@@ -3,10 +3,10 @@
 
     python3 scripts/erase/test_erase.py
 """
-import os
 import re
 import sys
 from collections import Counter
+from pathlib import Path
 
 import derives
 import erase
@@ -76,8 +76,7 @@ MAKES = {
 
 
 def main():
-    with open(os.path.join(os.path.dirname(os.path.abspath(__file__)), "forms.txt"), encoding="utf-8") as it:
-        forms = FORM.findall(it.read())
+    forms = FORM.findall(Path(__file__).with_name("forms.txt").read_text("utf-8"))
     wrong = [(text, it) for what, text, wanted in forms for it in [MAKES[what](text)] if it != wanted]
     for text, it in wrong:
         print(f"{text}made into:\n{it}")

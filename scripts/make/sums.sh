@@ -81,7 +81,7 @@ unfit() {
     done
 }
 
-# changed NAME TEXT: what is not as it `was` and is `now`: first the lines of its crates, then their sources and the text
+# changed NAME TEXT: what is not `now` as it `was`: first the lines of its crates, then their sources, and the text
 changed() {
     local below lines it
     grep -q "  $2$" <<<"$now" || { echo "$2 is missing"; return; }

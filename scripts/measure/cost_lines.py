@@ -9,9 +9,14 @@ import struct
 import sys
 
 sys.path.append(f"{os.path.dirname(os.path.dirname(os.path.abspath(__file__)))}/test")
+from shared import TOP, read
 from shared import attribute as frame
-from shared import read
 
+sys.path.append(f"{TOP}/tests/linkdump")
+from captures import cooked, pcap
+from captures import message as netlink
+
+NEW = 16
 IFLA_MTU, IFLA_TXQLEN, IFLA_IFALIAS, IFLA_VFINFO_LIST, IFLA_STATS64 = 4, 13, 20, 22, 23
 IFLA_PROP_LIST, IFLA_ALT_IFNAME = 52, 53
 # a number that no kernel sends, and those above it
@@ -215,12 +220,7 @@ def workloads():
 
 def capture(lines):
     """A capture of an nlmon device with a packet for each line of digits."""
-    packets = []
-    for at, line in enumerate(lines):
-        message = bytes.fromhex(line.decode())
-        packet = struct.pack(">HH10xH", 4, 824, 0) + struct.pack("<IHHII", 16 + len(message), 16, 0, at, 0) + message
-        packets.append(struct.pack("<IIII", at, 0, len(packet), len(packet)) + packet)
-    return struct.pack("<IHHiIII", 0xA1B23C4D, 2, 4, 0, 0, 262144, 253) + b"".join(packets)
+    return pcap((at * 10**9, cooked([netlink(NEW, bytes.fromhex(line.decode()), at)])) for at, line in enumerate(lines))
 
 
 if __name__ == "__main__":
