@@ -29,8 +29,9 @@ def letters(*kinds):
 
 
 DOC, PAIR = f"[{letters('doc')}]", f"[{letters('pair')}]"
-BALANCED = r"[(\[{](?P<r%s>PAIR)(?:.*?)[)\]}](?P=r%s)".replace("PAIR", PAIR)
-RUN = rf"(?:[^()\[\]{{}};]|(?>{BALANCED}))*?"
+BALANCED = rf"[(\[{{](?P<r%s>{PAIR})(?:.*?)[)\]}}](?P=r%s)"
+# What is in brackets is never given back, as what a look ahead found is not.
+RUN = rf"(?:[^()\[\]{{}};]|(?=(?P<q%s>{BALANCED}))(?P=q%s))*?"
 # Space without a blank line, but for one that stood in the place of something.
 NEAR = r"(?:[^\S\n]|\n(?![^\S\n\f\v]*\n))*"
 ITEM = (rf"(?P<item>(?:(?:{DOC}|#\[(?P<r%s>{PAIR}).*?\](?P=r%s)"

@@ -83,9 +83,9 @@ def tables(crate=CRATE):
     found, common = {}, {}
     files = [name[:-3] for name in os.listdir(os.path.join(crate, "tables"))]
     for name in sorted(files, key=lambda it: (it != "mod", it)):
-        local = dict(common)
+        local, items = dict(common), constants(read(f"tables/{name}.rt", crate))
         for wanted in KINDS:
-            for one, kind, text in constants(read(f"tables/{name}.rt", crate)):
+            for one, kind, text in items:
                 if kind == wanted:
                     local[one] = found[name, one] = eval(text, local)
         common = common or local                # what all have
