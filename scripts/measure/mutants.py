@@ -37,50 +37,24 @@ WRAPS = [f"-Wl,--wrap={name}" for name in ("main", "read", "write")]
 WATCH = """#include <fcntl.h>
 #include <stdlib.h>
 #include <sys/mman.h>
-_Alignas(4096) char mutants_seen[1 << 20];
+_Alignas(4096) __attribute__((visibility("hidden"))) char mutants_seen[1 << 20];
 __attribute__((constructor)) static void keep(void) {
     int seen = open(getenv("SEEN"), O_RDWR);
     if (mmap(mutants_seen, sizeof mutants_seen, PROT_READ | PROT_WRITE, MAP_SHARED | MAP_FIXED, seen, 0) == MAP_FAILED)
         abort();
 }
 """
-# calls the program of a test by its name, or that of the lines; the library has the memory of `memory` in that alone
-DRIVER = """#include <stdlib.h>
-#include <string.h>
-int lines_main(int, char **);
-#define TEST(name) int name##_main(int, char **);
-%(tests)s
-static int is_memory;
-void *memory_malloc(size_t), *memory_realloc(void *, size_t);
-void memory_free(void *);
-void *heap_malloc(size_t size) {
-    return is_memory ? memory_malloc(size) : malloc(size);
-}
-void *heap_realloc(void *block, size_t size) {
-    return is_memory ? memory_realloc(block, size) : realloc(block, size);
-}
-void heap_free(void *block) {
-    (is_memory ? memory_free : free)(block);
-}
-#undef TEST
-#define TEST(name) if (strcmp(words[1], #name) == 0) return name##_main(1, words + 1);
-int main(int count, char **words) {
-    is_memory = strcmp(words[1], "memory") == 0;
-%(tests)s
-    return lines_main(count, words);
-}
-"""
-TAKES = "malloc", "calloc", "realloc", "free"
 
 
 class Run(NamedTuple):
     """Words of the program, the file it reads, the file it writes to if it is not looked at, and the words of a script
-    that runs it, in which TO is the program."""
+    that runs it, in which TO is the program; or those of a program that calls the library, which it preloads."""
 
     words: tuple = ()
     reads: str = "/dev/null"
     writes: str = ""
     script: tuple = ()
+    preloads: bool = False
 
 
 def words():
@@ -170,12 +144,14 @@ def build(name, folder, text, to):
     """What is run of a text, at the path `to`; false where it does not assemble."""
     Path(f"{to}.s").write_text("\n".join(text))
     made = TOP / "out/dist"
-    more = (*Path(folder).glob("test.*.o"),) if name == "link_c" else (*WRAPS, made / "errno.o", made / "heap.o")
-    return compiles("-c", "-o", f"{to}.o", f"{to}.s") and compiles("-o", to, f"{to}.o", f"{folder}/watch.o", *more)
+    as_library = "-shared", f"-Wl,-soname,{LIBRARY},--version-script={TOP}/dist/liblinkwire.map"
+    more = as_library if name == "link_c" else (*WRAPS, made / "errno.o")
+    return compiles("-c", "-o", f"{to}.o", f"{to}.s") and compiles(
+        "-o", to, f"{to}.o", f"{folder}/watch.o", made / "heap.o", *more)
 
 
-def prepare(name, folder):
-    """The lines, and the programs that call the library as one."""
+def prepare(name, folder, text):
+    """The lines, and the programs that call the library."""
     compiler = ["-std=gnu11", "-O2", f"-I{TOP}/include"]
     compiles(*compiler, "-DLINES_ALONE", "-o", f"{folder}/lines", TOP / "tests/second/lines.c")
     for it in ("all", "digits", "news", "more", "changes", "words", "mixed", "turns", "hosts", "worded"):
@@ -184,7 +160,7 @@ def prepare(name, folder):
     subprocess.run(["split", "-d", "-n", f"l/{PARTS}", f"{folder}/all", f"{folder}/all."], check=True)
     compiles(*compiler, "-shared", "-fPIC", "-o", f"{folder}/watch.so", TOP / "tests/second/watch.c")
     Path(f"{folder}/watch.c").write_text(WATCH)
-    compiles("-c", "-O2", "-o", f"{folder}/watch.o", f"{folder}/watch.c")
+    compiles("-c", "-O2", "-fPIC", "-o", f"{folder}/watch.o", f"{folder}/watch.c")
     if name == "linkdiff":
         lines = (TOP / "tests/second/streams.txt").read_bytes().splitlines(True)
         for it, part in ("old", lines[:450]), ("new", lines[450:]):
@@ -192,17 +168,14 @@ def prepare(name, folder):
         lines = Path(f"{folder}/hosts").read_bytes().splitlines(True)
         Path(f"{folder}/first").write_bytes(b"".join(lines[:6000]))
     if name == "link_c":
-        Path(f"{folder}/driver.c").write_text(DRIVER % {"tests": "".join(f"TEST({it})\n" for it in TESTS)})
-        compiles("-c", "-o", f"{folder}/test.driver.o", f"{folder}/driver.c")
-        for it in TESTS:
-            own = [f"-D{word}=memory_{word}" for word in TAKES] if it == "memory" else []
-            compiles(*compiler, f"-Dmain={it}_main", *own, "-c", "-o", f"{folder}/test.{it}.o", TOP / f"tests/c/{it}.c")
-        other = [f"--redefine-sym={word}=heap_{word}" for word in TAKES]
-        subprocess.run(["objcopy", *other, TOP / "out/dist/heap.o", f"{folder}/test.heap.o"], check=True)
-        compiles(*compiler, "-Dmain=lines_main", "-c", "-o", f"{folder}/test.lines.o", TOP / "tests/second/lines.c")
+        build(name, folder, text, f"{folder}/{LIBRARY}")
+        for it in ("lines", *TESTS):
+            source = TOP / ("tests/second/lines.c" if it == "lines" else f"tests/c/{it}.c")
+            compiles(*compiler, "-o", f"{folder}/test.{it}", source, f"{folder}/{LIBRARY}")
 
 
 PARTS = 8  # of the lines: a mutant runs those that come to it
+LIBRARY = "liblinkwire.so.0"
 TESTS = "calls", "lenient", "lists", "memory", "shown", "sizes", "state", "writer"
 
 
@@ -210,8 +183,9 @@ TESTS = "calls", "lenient", "lists", "memory", "shown", "sizes", "state", "write
 def runs(name, folder):
     """What `make self-test` runs of a program, or of the library, the short ones first."""
     if name == "link_c":
-        sets = [f"{it} {what}" for it in ("more", "mixed", "all") for what in ("calls", "held")]
-        return [Run(tuple(it.split())) for it in (*TESTS, *sets)]
+        sets = [("lines", it, what) for it in ("more", "mixed", "all") for what in ("calls", "held")]
+        return [Run(script=(f"{folder}/test.{it[0]}", *it[1:]), preloads=True)
+                for it in (*((it,) for it in TESTS), *sets)]
     said = [line.split(" ")[2:] for line in (TOP / "tests/program/said.txt").read_text().split("\n")
             if line.startswith(f"$ {name} ")]
     short = [Run((), str(TOP / f"crates/{name}/stdin")), Run(("--version",)), Run((), f"{folder}/digits", "/dev/full")]
@@ -248,7 +222,8 @@ def run(it, to, held, most=60):
     with compared.stdin if compared else open(it.writes or f"{to}.out", "wb") as out:
         program = subprocess.Popen(command, stdin=source, stdout=out, stderr=subprocess.STDOUT, cwd=TOP,
                                    preexec_fn=limits, start_new_session=True,
-                                   env={"SEEN": f"{to}.seen", "PATH": os.environ["PATH"]})
+                                   env={"SEEN": f"{to}.seen", "PATH": os.environ["PATH"],
+                                        "LD_PRELOAD": to * it.preloads})
     try:
         status = program.wait(timeout=60)
     except subprocess.TimeoutExpired:
@@ -316,7 +291,7 @@ def main():
     chance = random.Random(given.seed)
     picked = chance.sample(sites(text), given.count)
     with tempfile.TemporaryDirectory() as folder:
-        prepare(name, folder)
+        prepare(name, folder, text)
         wanted = answers(name, folder, text, sorted({at for at, *_ in picked}))
         there = set().union(*(it.there for it in wanted))
         pattern, results, work = alike(), collections.Counter(), []
