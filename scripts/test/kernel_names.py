@@ -1,15 +1,12 @@
-"""Reads kernel_names.txt, for kernel_tables.py and kernel_rows.py."""
+"""Reads kernel_names.txt, for kernel_tables.py."""
 
 from collections import defaultdict, namedtuple
 
 from shared import table
 
-Place = namedtuple("Place", "set prefix")
-Level = namedtuple("Level", "prefix beside")
+Place = namedtuple("Place", "set prefix beside whole files", defaults=("",))
 Record = namedtuple("Record", "struct header")
-Values = namedtuple("Values", "header prefix list all")
-RowPlace = namedtuple("RowPlace", "set prefix beside whole files")
-RowValues = namedtuple("RowValues", "header prefix beside list all bits", defaults=(False,))
+Values = namedtuple("Values", "header prefix beside list all bits", defaults=(False,))
 
 ROWS = defaultdict(list)
 for section, words in table("scripts/test/kernel_names.txt"):
@@ -20,10 +17,8 @@ def by_name(section, form):
     return {name: form(*words) for name, *words in ROWS[section]}
 
 
-PLACES, LEVELS, RECORDS = by_name("places", Place), by_name("levels", Level), by_name("records", Record)
-VALUES, ROW_PLACES = by_name("values", Values), by_name("row places", RowPlace)
-ROW_VALUES, ROW_RECORDS = by_name("row values", RowValues), dict(ROWS["row records"])
-OWN_FIELDS = by_name("own fields", lambda *sizes: sizes)
+PLACES, RECORDS, VALUES = by_name("places", Place), by_name("records", Record), by_name("values", Values)
+LEVELS, OWN_FIELDS = dict(ROWS["levels"]), by_name("own fields", lambda *sizes: sizes)
 ALONE = [(file, around, name) for name, file, around in ROWS["alone"]]
 LEFT_OUT, VALUES_LEFT_OUT = defaultdict(dict), defaultdict(dict)
 for set_, number, *attribute in ROWS["left out"]:

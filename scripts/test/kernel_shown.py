@@ -44,35 +44,30 @@ def kernel_name(where):
     """The kernel's name for what netlink-packet-route has perhaps another one."""
     own = where.split(".")[1]
     return next((theirs for pattern, what, here, theirs, _ in REASONS
-                 if what == "name" and here == own and fnmatch.fnmatchcase(where, pattern)), own)
+                 if what == "name" and here in ("*", own) and fnmatch.fnmatchcase(where, pattern)), own)
 
 
-def form_of(payload):
-    """The form of a payload, by its type or that of its value."""
-    if payload.value in FORMS.values():
-        return payload.value
-    is_own = payload.word in ("nest", "struct") or payload.value and payload.value != "Bool"
-    return "own" if is_own else payload.word
+def form_of(form):
+    """The form that is shown of a form, by its type or that of its value."""
+    return form.value if form.value in FORMS.values() else "own" if form.value or form.word in ("nest", "struct") \
+        else form.word
 
 
 def compare_places(kind, rows, ours, headers, report):
     """Rows of a place as number, name and form; of the outermost place as name and form."""
-    _, lines = ours.tables[kind]
-    prefix, by_number = PLACES[kind].prefix, {}
-    for line in lines:
-        by_number.setdefault(line.number, []).append(line)
-    kept = headers.group(prefix, None, [line.constant for line in lines]) if headers else {}
+    place, by_number = PLACES[kind], {}
+    for row in ours.places[kind]:
+        by_number.setdefault(row.number, []).append(row)
+    kept = headers.group(place.prefix, place.beside) if headers else {}
     numbers = [int(row[0]) for row in rows] if len(rows[0]) == 3 else range(len(rows))
-    for number, (name, form) in zip(numbers, (row[-2:] for row in rows)):
-        found, where = by_number.get(number, []), "%s.%s" % (kind, name)
-        there = [it.constant for it in found[:1]] or [it for it, n in kept.items() if n == number] or [prefix + name]
-        wanted = form_of(found[0].payload) if len(found) == 1 else "own"
-        if name:
-            report.compare("names shown", where, ("name", name, there[0].removeprefix(prefix)),
-                           ("form", FORMS.get(form, "own"), wanted))
-    shown = {number for number, (name, *_) in zip(numbers, (row[-2:] for row in rows)) if name}
-    for number in by_number.keys() - shown:
-        report.compare("names shown", "%s.%s" % (kind, by_number[number][0].constant), ("row", "none", number))
+    shown = {number: row[-2:] for number, row in zip(numbers, rows) if row[-2]}
+    for number, (name, form) in shown.items():
+        found = by_number.get(number, [])
+        there = [kernel_name(f"{kind}.{it.name}") for it in found[:1]] or [it for it, n in kept.items() if n == number]
+        report.compare("names shown", f"{kind}.{name}", ("name", name, (there or [name])[0]),
+                       ("form", FORMS.get(form, "own"), form_of(found[0].form) if len(found) == 1 else "own"))
+    for number in by_number.keys() - shown.keys():
+        report.compare("names shown", f"{kind}.{by_number[number][0].name}", ("row", "none", number))
 
 
 def compare_parts(kind, rows, ours, report):
@@ -107,7 +102,7 @@ def compare_shown(ours, headers, report):
     report.same_names("table of tables.rt", found, known)
     for table, kind in ((it, known[it]) for it in found if it in known):
         rows = found[table]
-        if kind in ours.tables:
+        if kind in ours.places:
             compare_places(kind, rows, ours, headers, report)
         elif rows[0][-1] in FIELDS:
             compare_parts(kind, rows, ours, report)

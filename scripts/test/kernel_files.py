@@ -1,0 +1,249 @@
+"""What the kernel's files say, for kernel_tables.py: its headers, rt_link.yaml, and code that writes and reads rows."""
+
+import glob
+import os
+import re
+import subprocess
+import sys
+import tempfile
+
+try:
+    import yaml
+except ImportError:
+    yaml = None
+
+from kernel_names import LEFT_OUT, PLACES, VALUES, VALUES_LEFT_OUT
+from kernel_ours import Field, width
+
+INCLUDE = "/usr/include"
+YAML_FILES = ["Documentation/netlink/specs/rt_link.yaml", "Documentation/netlink/specs/rt-link.yaml"]
+# the last five are not installed with the others
+HEADERS = ["include/uapi/linux/%s.h" % name for name in
+           "if_link if_bridge if if_arp if_ether rtnetlink devlink dpll snmp ip ipv6 wireless netlink "
+           "if_bonding if_tunnel if_tun if_vlan amt wwan veth can/netlink can/vxcan".split()]
+HEADERS += ["include/net/%s.h" % name for name in "if_inet6 bonding bond_3ad".split()]
+HEADERS += ["include/linux/socket.h", "include/linux/netdevice.h"]
+CODE = {name for place in PLACES.values() for name in place.files.split()}
+CODE |= {known.header for known in VALUES.values() if known.header.endswith(".c")}
+
+TYPES = {"char": "u8", "__u8": "u8", "__u16": "u16", "__u32": "u32", "__u64": "u64",
+         "__s8": "s8", "__s16": "s16", "__s32": "s32", "__s64": "s64", "__be16": "be16", "__be32": "be32",
+         "unsigned char": "u8", "unsigned short": "u16",
+         "unsigned": "u32", "unsigned int": "u32", "int": "s32"}
+
+
+def read(path):
+    with open(path, encoding="utf-8") as file:
+        return file.read()
+
+
+class Headers:
+    """Constants and structures. Conditions of the preprocessor are not looked at: all lines are read."""
+
+    def __init__(self, texts):
+        self.values, self.defines, self.structs = {}, {}, {}
+        self.block, self.names = {}, {}
+        for name, text in texts.items():
+            self.read(name, text)
+
+    def read(self, header, text):
+        text = re.sub(r"/\*.*?\*/|//[^\n]*", " ", text, flags=re.S).replace("\\\n", " ")
+        names = self.names.setdefault(header, [])
+        for name, body in re.findall(r"^[ \t]*#[ \t]*define[ \t]+(\w+)[ \t]+(\S.*?)[ \t]*$", text, flags=re.M):
+            if name != body:
+                self.defines.setdefault(name, body)
+                names.append(name)
+        text = re.sub(r"^[ \t]*#.*$", "", text, flags=re.M)
+        for body in re.findall(r"\benum\b\s*\w*\s*\{([^{}]*)\}", text):
+            self.read_enum(body, names)
+        for name, body in re.findall(r"\bstruct\s+(\w+)\s*\{([^{}]*)\}", text):
+            self.read_struct(name, body)
+
+    def read_enum(self, body, names):
+        block, last = [], -1
+        for name, expression in re.findall(r"(?:^|,)\s*(\w+)\s*(?:=\s*([^,]*[^,\s]))?", body):
+            last = self.evaluate(expression) if expression else last + 1
+            if last is None:
+                break
+            self.values[name] = last
+            block.append(name)
+            self.block[name] = block
+            names.append(name)
+
+    def read_struct(self, name, body):
+        """Fields at their offsets as C lays them out on 64 bits, with the size; none if a type is not known."""
+        fields, end, align = [], 0, 1
+        for item in filter(None, (part.strip() for part in body.split(";"))):
+            found = re.fullmatch(r"([\w ]+?)\s+(\w+)(?:\[(\w+)\])?", item)
+            kind = found and TYPES.get(found.group(1))
+            count = self.evaluate(found.group(3) or "1") if found else None
+            if not kind or not count:
+                return
+            size = width(kind)
+            align = max(align, size)
+            end += -end % size
+            fields.append(Field(found.group(2), end, "%d bytes" % (count * size) if found.group(3) else kind))
+            end += count * size
+        self.structs[name] = (fields, end + -end % align)
+
+    def number(self, name):
+        """The value of a constant, or None."""
+        if name not in self.values and name in self.defines:
+            self.values[name] = self.evaluate(self.defines.pop(name))
+        return self.values.get(name)
+
+    def evaluate(self, expression):
+        """The value of an expression of numbers, constants and operators on bits, or None."""
+        text = re.sub(r"\b__cpu_to_be\d+\b", "", expression.strip())
+        text = re.sub(r"\b(0[xX][0-9a-fA-F]+|\d+)[uUlL]+\b", r"\1", text)
+        text = re.sub(r"\b[A-Za-z_]\w*", lambda m: str(self.number(m.group())), text)
+        try:
+            return eval(text) if re.fullmatch(r"[\dxXa-fA-F\s()|&<>~+*-]+", text) else None
+        except SyntaxError:
+            return None
+
+    def group(self, prefix, beside=None, header=None):
+        """The constants of one list without their prefix: those of the enum that has this one, else of the header, else
+        all with a prefix, in their order; but for the last, the first of an enum and padding."""
+        files = [self.names.get(header, [])] if header else self.names.values()
+        names = self.block.get(beside) or [name for names in files for name in names]
+        ends = ["MAX", "CNT", "PAD"] + ["UNSPEC"] * (prefix != "AF_")
+        return {name[len(prefix):]: self.number(name) for name in names if prefix and name.startswith(prefix)
+                and name[len(prefix):] not in ends and self.number(name) is not None}
+
+
+def unpack(archive, folder):
+    """Unpacks what is read of a packed tree. What it does not have is not there."""
+    options = ["--strip-components=1", "--wildcards", "--no-wildcards-match-slash"]
+    files = YAML_FILES + HEADERS + sorted(CODE)
+    subprocess.run(["tar", "-xf", archive, "-C", folder] + options + ["*/" + name for name in files],
+                   stderr=subprocess.DEVNULL)
+
+
+class Kernel:
+    """What the kernel's files say."""
+
+    def __init__(self, path):
+        with tempfile.TemporaryDirectory() as folder:
+            if os.path.isfile(path) and not path.endswith(".yaml"):
+                unpack(path, folder)
+                path = folder
+            files = [os.path.join(path, name) for name in YAML_FILES] if os.path.isdir(path) else [path]
+            self.yaml = next(filter(os.path.isfile, files), None)
+            if self.yaml and not yaml:
+                sys.exit("kernel_tables: the kernel's files are there, and no python3-yaml to read rt_link.yaml")
+            spec = yaml.safe_load(read(self.yaml)) if self.yaml else {}
+            self.headers = Headers(self.header_texts(path))
+            self.code = {name: read(os.path.join(path, name)) for name in sorted(CODE)
+                         if os.path.isfile(os.path.join(path, name))}
+        self.lists, self.structs, self.sets = {}, {}, {}
+        for it in spec.get("definitions", []):
+            self.define(it)
+        for it in spec.get("attribute-sets", []):
+            self.attributes(it)
+        self.messages = {it["name"]: {form["value"]: form["attribute-set"] for form in it["formats"]}
+                         for it in spec.get("sub-messages", [])}
+        for name, attributes in LEFT_OUT.items():
+            for n, (word, kind, *nested) in attributes.items():
+                attribute = {"name": word, "type": kind, "nested-attributes": " ".join(nested), "left out": True}
+                self.sets.setdefault(name, {}).setdefault(n, attribute)
+        self.lists.update(VALUES_LEFT_OUT)
+
+    @staticmethod
+    def header_texts(root):
+        files = [os.path.join(root, name) for name in HEADERS]
+        if not any(map(os.path.isfile, files)):
+            files = [name.replace("include/uapi", INCLUDE) for name in HEADERS]
+            files += glob.glob(INCLUDE + "/bits/socket.h") + glob.glob(INCLUDE + "/*/bits/socket.h")
+        return {re.sub(r".*/(linux|net|bits)/", "", name): read(name) for name in files if os.path.isfile(name)}
+
+    def of_code(self, names):
+        """The files of code that are there."""
+        return Code("\n".join(self.code[name] for name in names.split() if name in self.code))
+
+    def define(self, it):
+        if it["type"] == "struct":
+            fields = [field for field in it["members"] if field["type"] != "pad"]
+            self.structs[it["name"]] = [Field(field["name"], None, self.type_of(field)) for field in fields]
+        elif it["type"] in ("enum", "flags"):
+            values, following = {}, it.get("value-start", 0)
+            for entry in it["entries"]:
+                name, value = (entry["name"], entry.get("value")) if isinstance(entry, dict) else (entry, None)
+                following = following if value is None else value
+                values[str(name)] = 1 << following if it["type"] == "flags" else following
+                following += 1
+            self.lists[it["name"]] = values
+
+    @staticmethod
+    def type_of(field):
+        if field["type"] == "binary":
+            return "%d bytes" % field["len"]
+        return field["type"].replace("u", "be") if field.get("byte-order") == "big-endian" else field["type"]
+
+    def attributes(self, it):
+        """A set as number: attribute; numbers count from 1, and a subset has those of its whole."""
+        numbers, following = {}, 1
+        whole = {a["name"]: n for n, a in self.sets.get(it.get("subset-of"), {}).items()}
+        for attribute in it["attributes"]:
+            following = whole.get(attribute["name"], attribute.get("value", following))
+            numbers[following] = dict(whole and self.sets[it["subset-of"]][following], **attribute)
+            following += 1
+        self.sets[it["name"]] = numbers
+
+
+# ** code
+
+PUTS = {"u64_64bit": "u64", "in_addr": "ipv4", "in6_addr": "ipv6", "sci": "be64"}
+LENGTHS = {"ETH_ALEN": 6, "structin6_addr": 16, "structin_addr": 4, "u8": 1, "u16": 2, "u32": 4, "__be16": 2,
+           "__be32": 4, "__u32": 4, "sci_t": 8, "u64": 8, "__be64": 8}
+POLICY = re.compile(r"\[([A-Z]\w+)\]\s*=\s*(\{[^{}]*\}|NLA_POLICY_\w+\((?:[^()]|\([^()]*\))*\))")
+
+
+class Code:
+    """What files of the kernel put into attributes, and what their policies take."""
+
+    def __init__(self, text):
+        self.text = text = re.sub(r"/\*.*?\*/", " ", text, flags=re.S)
+        self.puts, self.policies = {}, {}
+        named = dict(re.findall(r'^#define (\w+)\s+"(\w+)"', text, flags=re.M))
+        self.kinds = {named.get(word, word).strip('"') for word in re.findall(r'\.kind\s*=\s*("\w+"|\w+),', text)}
+        for form, name, size in re.findall(r"\bnla_put(?:_(\w+))?\(\s*\w+,\s*([A-Z]\w+),(?=\s*([^,;]*))", text):
+            word = PUTS.get(form, form) or self.length(size)
+            if word:
+                self.puts.setdefault(name, set()).add(word)
+        for name in re.findall(r"\bnla_nest_start(?:_noflag)?\(\s*\w+,\s*([A-Z]\w+)\)", text):
+            self.puts.setdefault(name, set()).add("nest")
+        for name, policy in POLICY.findall(text):
+            taken = self.policy(policy)
+            if taken:
+                self.policies.setdefault(name, taken)
+
+    @staticmethod
+    def length(text):
+        """The size of a type as a number, or a structure by its name."""
+        text = re.sub(r"\s", "", text)
+        inside = re.fullmatch(r"sizeof\((.*)\)", text)
+        name = inside.group(1) if inside else text
+        if re.fullmatch(r"sizeof_field\(structiphdr,[sd]addr\)", text):
+            return 4
+        if name in LENGTHS:
+            return LENGTHS[name]
+        return "struct " + name[len("struct"):] if inside and name.startswith("struct") else None
+
+    def policy(self, text):
+        kind = re.search(r"\bNLA_(?:[USBE]+(\d+)|(?:NUL_)?(FLAG|STRING|NESTED))\b", text)
+        size = re.search(r"\b(?:len\s*=\s*|EXACT_LEN\(|MIN_LEN\()(.*?)\)?[,\s]*[})]$", text, flags=re.S)
+        if "ETH_ADDR" in text:
+            return 6
+        if "NLA_POLICY_NESTED" in text:
+            return "nest"
+        if kind:
+            return int(kind.group(1)) // 8 if kind.group(1) else kind.group(2).lower().replace("nested", "nest")
+        text = size.group(1) if size else ""
+        return self.length(text + ")" * (text.count("(") - text.count(")"))) if size else None
+
+    def table(self, name):
+        """The names and numbers of a table of values."""
+        table = re.search(r"\b%s\[\]\s*=\s*\{(.*?)\n\};" % name, self.text, flags=re.S)
+        pairs = re.findall(r'\{\s*"([^"]+)",\s*(\w+)', table.group(1)) if table else []
+        return [(name, number) for name, number in pairs if name not in ("default", "maxval")]
