@@ -1,7 +1,7 @@
 # The targets that build from dist/ or by the toolchain are in dist/Makefile: `make help` lists all.
 # How long `fuzz` tries messages.
 SECONDS ?= 60
-QUIET = test rust lint dev fmt check costs edits tables dist dist-tests archive deb rust-tests show-tests \
+QUIET = test rust lint dev fmt check costs edits tables dist dist-tests archive deb rust-tests \
     linkdump-tests sums
 OF_exhaustive = link_c linkwire linkstate linkshow
 OF_c-tests = link_c linkdiff linkdump
@@ -39,8 +39,8 @@ linkwatch-tests: $(LIBRARIES) build ## tests the command linkwatch, and completi
 linkdump-tests: ## runs linkdump on the running kernel and on captures, with sanitizers too
 	@scripts/test/linkdump_tests.sh
 
-show-tests: ## compares what linkshow says of the running kernel's links with what the kernel's client ynl says
-	@scripts/test/show_tests.sh
+show-tests: build ## compares what linkshow says of the running kernel's links with what ip, sysfs and /proc say
+	@python3 scripts/test/kernel_truth.py --live
 
 tables: ## prints the tables as JSON, after they were compared with the kernel's files: make -s tables >tables.json
 	@python3 scripts/test/kernel_tables.py >&2

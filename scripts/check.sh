@@ -67,7 +67,6 @@ programs() {
     python3 scripts/test/kernel_messages.py
     python3 scripts/test/kernel_truth.py crates/linkshow/out/linkshow
     python3 scripts/test/kernel_truth.py --live crates/linkshow/out/linkshow out/linkdump
-    scripts/test/show_tests.sh
     scripts/test/rust_tests.sh
     stage processors.sh scripts/test/processors.sh
     stage compilers.sh scripts/test/compilers.sh out

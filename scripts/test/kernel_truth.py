@@ -7,12 +7,12 @@
 FOLDER has a folder RELEASE/out, or an archive RELEASE.tar.xz of out/, for each kernel: truth-LABEL.hex and .hex2, two
 dumps as lines of hexadecimal; truth-LABEL.json, what `ip -s -s -j -d link show` said in between; and around these
 sysfs-LABEL-a.txt and -b.txt, proc-LABEL-a.txt and -b.txt. Without it this is 'skipped'. With --live the kernel at hand
-is asked, in a network namespace with a link of each kind that it can make; what its ip does not name is let be.
+is asked, in a network namespace with a link of each kind that it can make, by ip, sysfs and /proc; what has no row is
+let be.
 
 What moves has to lie between the two dumps. Each field of ip has a row in the table, and each list has as many members
 as ours; a flag that ip only names where it is set is not set elsewhere. Fields that are not covered are counted and
-named, each below its reason. What is stored in tests/kernels for linkshow is compared with FOLDER too, where ip spoke
-of the same link at the same step, but for what counts or runs down. The last line is 'kernel_truth: ok'.
+named, each below its reason. The last line is 'kernel_truth: ok'.
 """
 
 import glob
@@ -272,8 +272,11 @@ class Report:
     def __init__(self, strict):
         self.strict, self.found, self.wrong = strict, Counter(), defaultdict(list)
 
-    def right(self, source, kind):
-        self.found[source, "right", kind, None] += 1
+    def says(self, is_right, source, kind, who, theirs, *ours):
+        if is_right:
+            self.found[source, "right", kind, None] += 1
+        else:
+            self.is_wrong(source, kind, who, theirs, *ours)
 
     def is_wrong(self, source, kind, who, theirs, *ours):
         self.found[source, "wrong", kind, None] += 1
@@ -297,19 +300,16 @@ def between(it, first, last):
     return False
 
 
-def timer_agrees(theirs, first, last):
-    """It runs down, and may have begun anew meanwhile."""
-    theirs = round(theirs * 100)
-    return last <= theirs <= first or first < last and (theirs >= last or theirs <= first)
-
-
-def agrees(row, theirs, first, last, world):
-    """Whether theirs lies between the two of ours. What is not of the form that is translated is not."""
+def agrees(row, theirs, ours, world):
+    """Whether theirs, asked once or twice, lies between the two of ours, or the first of ours between theirs; a timer
+    runs down, and may have begun anew meanwhile. What is not of the form that is translated is not."""
     try:
         if row.how == "timer":
-            return timer_agrees(theirs, first, last)
-        translated, before = HOW[row.how](theirs, first, world, row.args)
-        return between(translated, before, HOW[row.how](theirs, last, world, row.args)[1])
+            now, (first, last) = round(theirs[0] * 100), ours
+            return last <= now <= first or first < last and (now >= last or now <= first)
+        found = [HOW[row.how](it, ours[0], world, row.args) for it in theirs]
+        later = HOW[row.how](theirs[0], ours[1], world, row.args)[1] if ours[1] is not MISSING else found[0][1]
+        return between(found[0][1], found[0][0], found[-1][0]) or between(found[0][0], found[0][1], later)
     except (AttributeError, KeyError, TypeError, ValueError):
         return False
 
@@ -342,6 +342,18 @@ def label(place, field):
     return field if place[1] is None else "%s<%s>.%s" % (*place, field)
 
 
+def row_of(rows, place, field, *where, report):
+    """The row of a field, else nothing, and the report says why; `where` is its source, its kind, who, and theirs."""
+    row = rows[place].get(field)
+    if row is None:
+        report.no_row(*where)
+    elif row.ours == "-":
+        report.not_covered(*where[:2], row.how)
+    else:
+        return row
+    return None
+
+
 def compare_link(rows, link, links, who, report):
     """Each value of ip's object of one link."""
     first, last = (it.get(link["ifindex"]) for it in (links.first, links.last))
@@ -351,14 +363,11 @@ def compare_link(rows, link, links, who, report):
     for path, at, sizes, theirs, parents in leaves(link):
         place, field, prefix = place_of(path, link)
         seen.add((place, field))
-        row, kind = rows[place].get(field), label(place, field)
-        if row is None:
-            report.no_row("ip", kind, who, theirs)
-        elif row.ours == "-":
-            report.not_covered("ip", kind, row.how)
-        elif "fault" in first and find(first, prefix + row.ours, at) is MISSING:
+        kind = label(place, field)
+        row = row_of(rows, place, field, "ip", kind, who, theirs, report=report)
+        if row and "fault" in first and find(first, prefix + row.ours, at) is MISSING:
             report.not_covered("ip", kind, "the message is refused: %s at %s" % (first["fault"], first.get("at")))
-        else:
+        elif row:
             world = World(link, first, links.names, parents)
             compare_value(row._replace(ours=prefix + row.ours), kind, (at, sizes, theirs), (first, last), world, who,
                           report)
@@ -371,20 +380,18 @@ def compare_link(rows, link, links, who, report):
 def compare_value(row, kind, leaf, ours, world, who, report):
     """One value; where it is the first of a list, how long the list is too."""
     at, sizes, theirs = leaf
-    first, last = (find(it, row.ours, at) for it in ours)
+    found = [find(it, row.ours, at) for it in ours]
     if row.how in SETS:
-        sets = [SETS[row.how](it, row.args) for it in (first, last) if it is not MISSING]
+        sets = [SETS[row.how](it, row.args) for it in found if it is not MISSING]
         name = row.field.removesuffix("[]").rpartition(".")[2]
         there = [] if theirs == [] else world.path[-1][name] if sizes else [theirs]
-        good = any(same_set(row.how, there, it) for it in sets)
-        return report.right("ip", kind) if good else report.is_wrong("ip", kind, who, there, *sets)
-    if first is MISSING and row.how not in ABSENT:
-        return report.is_wrong("ip", kind, who, theirs, first)
-    if at and at[-1] == 0 and "[]" in row.ours and count(ours[0], row.ours, at[:-1]) != sizes[-1]:
-        return report.is_wrong("ip", kind, who, "%d members" % sizes[-1], count(ours[0], row.ours, at[:-1]))
-    if agrees(row, theirs, first, last, world):
-        return report.right("ip", kind)
-    return report.is_wrong("ip", kind, who, theirs, first, last)
+        report.says(any(same_set(row.how, there, it) for it in sets), "ip", kind, who, there, *sets)
+    elif found[0] is MISSING and row.how not in ABSENT:
+        report.is_wrong("ip", kind, who, theirs, MISSING)
+    elif at and at[-1] == 0 and "[]" in row.ours and count(ours[0], row.ours, at[:-1]) != sizes[-1]:
+        report.is_wrong("ip", kind, who, "%d members" % sizes[-1], count(ours[0], row.ours, at[:-1]))
+    else:
+        report.says(agrees(row, [theirs], found, world), "ip", kind, who, theirs, *found)
 
 
 def same_set(how, theirs, ours):
@@ -429,22 +436,42 @@ def proc(path):
     return found
 
 
+def of_machine(rows):
+    """What sysfs and /proc say here of the links, by the fields of the table."""
+    found = {"sysfs": {}, "proc": {}}
+    for name in os.listdir("/sys/class/net"):
+        counts = dict(map(str.split, (text_of(f"/proc/net/dev_snmp6/{name}") or "").splitlines()))
+        for source, field in [(source, field) for source in found for field in rows[source, None]]:
+            kind, _, rest = field.partition(" ")
+            path = f"/proc/sys/net/{kind}/conf/{name}/{rest}" if rest else f"/sys/class/net/{name}/{field}"
+            text = counts.get(rest) if kind == "snmp6" else text_of(path)
+            if text is not None:
+                found[source][name, field] = text.rstrip("\n")
+    return found
+
+
+def text_of(path):
+    try:
+        if os.path.islink(path):
+            return os.path.basename(os.readlink(path))
+        with open(path, encoding="utf-8", errors="surrogateescape") as file:
+            return file.read()
+    except OSError:
+        return None
+
+
 def compare_files(rows, source, files, links, who, report):
     """What sysfs or /proc said before the first dump and after the second; ours lies between."""
     before, after = files
     named = {it.get("ifname"): n for n, it in links.first.items() if "fault" not in it}
     for (name, field), theirs in before.items():
-        row = rows[source, None].get(field)
+        whose = "%s %s" % (who, name)
         if name not in named or theirs == "" and source == "sysfs":
             continue
+        row = row_of(rows, (source, None), field, source, field, whose, theirs, report=report)
+        if not row:
+            continue
         first, last = (it.get(named[name], {}) for it in (links.first, links.last))
-        whose = "%s %s" % (who, name)
-        if row is None:
-            report.no_row(source, field, whose, theirs)
-            continue
-        if row.ours == "-":
-            report.not_covered(source, field, row.how)
-            continue
         parent, ours = find(first, row.ours.rpartition(".")[0]) if "." in row.ours else first, find(first, row.ours)
         if parent is MISSING or ours is MISSING and row.how not in ABSENT:
             if parent is not MISSING and theirs not in ("0", ""):
@@ -452,20 +479,9 @@ def compare_files(rows, source, files, links, who, report):
         elif isinstance(parent, list):
             report.not_covered(source, field, "the names of these counters are not known of this kernel")
         else:
-            world = World({}, first, links.names)
-            compare_around(row, (theirs, after.get((name, field), theirs)), (ours, find(last, row.ours)), world,
-                           (source, field, whose), report)
-
-
-def compare_around(row, theirs, ours, world, where, report):
-    source, field, whose = where
-    translated = [HOW[row.how](it, ours[0], world, row.args) for it in theirs]
-    later = HOW[row.how](theirs[0], ours[1], world, row.args)[1] if ours[1] is not MISSING else translated[0][1]
-    before, after = (it[0] for it in translated)
-    if between(translated[0][1], before, after) or between(before, translated[0][1], later):
-        report.right(source, field)
-    else:
-        report.is_wrong(source, field, whose, theirs, ours)
+            both = theirs, after.get((name, field), theirs)
+            world, ours = World({}, first, links.names), (ours, find(last, row.ours))
+            report.says(agrees(row, both, ours, world), source, field, whose, both, ours)
 
 
 # ** the program
@@ -488,43 +504,10 @@ def compare_label(rows, program, release, out, name, report):
         said = json.loads(file.read(), strict=False)
     for link in said:
         compare_link(rows, link, links, "%s %s %s" % (release, name, link["ifname"]), report)
-    compare_stored(rows, release, name, said, links, report)
     for source, reader in (("sysfs", sysfs), ("proc", proc)):
         files = [it % (source, end) for end in ("-a.txt", "-b.txt")]
         if all(map(os.path.exists, files)):
             compare_files(rows, source, [reader(path) for path in files], links, release + " " + name, report)
-
-
-# ** stored answers
-
-# what counts or runs down
-MOVES = re.compile(r"ip (stats64\.|xstats<|.*(_timer|fdb_n_learned|failure_count)$)")
-
-
-def stored():
-    """The answers of linkshow in tests/kernels, with the kernel and the step of each that is of a dump."""
-    heads, shown_ = read("tests/kernels/messages.txt").splitlines()[::2], read("tests/kernels/linkshow.txt")
-    for head, answer in zip(heads, shown_.split("\n")):
-        found = re.match(r"# ([^:]+): dump (\w+) family=0 ", head)
-        if found:
-            yield found.group(1), found.group(2), json.loads(answer)
-
-
-def compare_stored(rows, release, step, said, links, report):
-    """Each stored answer of this step beside what ip said of the link. A message can leave parts out."""
-    for kernel, name, answer in stored():
-        link = next((it for it in said if it["ifindex"] == answer.get("ifi-index")), None)
-        if (kernel, name) != (release, step) or link is None or "fault" in answer:
-            continue
-        beside, one = Report(False), Links([answer], [answer])
-        one.names = links.names
-        compare_link(rows, link, one, "%s %s %s" % (release, step, link["ifname"]), beside)
-        report.found.update({("stored", "right", kind, None): n for (_, outcome, kind, _), n in beside.found.items()
-                             if outcome == "right"})
-        for where, found in beside.wrong.items():
-            for it in found if not MOVES.match(where) else ():
-                if it[2:] and MISSING not in it[2:] and not (str(it[1]).endswith(" members") and it[2] == 0):
-                    report.is_wrong("stored", where[len("ip "):], *it)
 
 
 # ** the kernel at hand
@@ -536,23 +519,27 @@ def ran(*words):
 def live(program, linkdump, rows):
     """The kernel at hand, in a namespace of its own, in which this runs once more."""
     if "--inside" not in sys.argv:
-        if not shutil.which("ip") or not shutil.which("unshare") or ran("unshare", "-rn", "true").returncode:
+        if not shutil.which("ip") or not shutil.which("unshare") or ran("unshare", "-rmn", "true").returncode:
             return print("kernel_truth: skipped: live: no network namespace, or no ip")
         again = [sys.executable, os.path.abspath(__file__), "--live", "--inside", program, linkdump]
-        return subprocess.run(["unshare", "-rn"] + again, check=False).returncode
+        mounts = "mount -t sysfs sysfs /sys; exec \"$@\""
+        return subprocess.run(["unshare", "-rmn", "sh", "-c", mounts, "sh", *again], check=False).returncode
     commands = [it for it in read("tests/live/links.txt").splitlines() if it[0] != "#"]
     refused = [it for it in commands if ran("ip", *shlex.split(it)).returncode]
     kinds = sorted({found.group(1) for it in refused for found in [re.search(r" (?:type|mode) (\w+)", it)] if found})
     print("kernel_truth: skipped: live: this kernel or its ip makes none of: %s" % (" ".join(kinds) or "none"))
-    release, report, dumps, said = os.uname().release, Report(False), [], None
+    release, report, dumps, said, files = os.uname().release, Report(False), [], None, [of_machine(rows)]
     for _ in range(2):
         lines = ran(linkdump, "--plain").stdout.decode().split()
         dumps.append(shown(program, lines, release))
         if said is None:
             said = json.loads(ran("ip", "-s", "-s", "-j", "-d", "link", "show").stdout.decode(), strict=False)
     links = Links(*dumps)
+    files.append(of_machine(rows))
     for link in said:
         compare_link(rows, link, links, link["ifname"], report)
+    for source in files[0]:
+        compare_files(rows, source, [it[source] for it in files], links, "here", report)
     if not said or len(said) != len(links.first):
         report.is_wrong("ip", "links", "a namespace", len(said), len(links.first))
     found = sorted({it["linkinfo"]["kind"] for it in links.first.values() if "kind" in it.get("linkinfo", {})})
@@ -566,7 +553,7 @@ def live(program, linkdump, rows):
 
 def show(release, report):
     """Counts by source."""
-    for source in ("ip", "stored", "sysfs", "proc"):
+    for source in ("ip", "sysfs", "proc"):
         found = [(outcome, kind, n) for (where, outcome, kind, _), n in report.found.items() if where == source]
         right, wrong, left = (sum(n for it, _, n in found if it == outcome) for outcome in ("right", "wrong", "left"))
         if found:
