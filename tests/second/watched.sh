@@ -26,7 +26,7 @@ name=$1 program=$(realpath "$2") sets=$(realpath "$3") watch=${4:+$(realpath "$4
 stored=crates/$name
 [ -e "$stored" ] || stored=tests/$name
 stored=$(realpath "$stored") all_said=$(realpath tests/program/said.txt)
-streams=$(realpath tests/second/streams.txt)
+streams=$(realpath tests/second/streams.txt) leniently=$(realpath tests/program/lenient.txt)
 folder=$(mktemp -d)
 trap 'rm -rf "$folder"' EXIT
 cd "$folder"
@@ -223,6 +223,7 @@ linkdiff)
     pieces few few
     pieces files /dev/null --counters old new
     refuses few 1 70 few
+    refuses stored 1 360 "$input"
     refuses streams 131 4300 "$streams"
     refuses files 1 90 /dev/null few few
     refuses kinds 1 60 kinds
@@ -241,6 +242,8 @@ linkdiff)
         counts 'more, leniently' "$sets/more" --lenient
         counts 'full, leniently' full --lenient
         counts 'short, leniently' short --lenient
+        awk '!/^#/ && count++ % 3 == 0' "$leniently" >lenient
+        refuses 'refused attributes, leniently' 1 30 lenient --lenient
     fi
     leaves mixed "$sets/mixed"
     pieces few few
