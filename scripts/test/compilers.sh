@@ -1,9 +1,9 @@
 #!/usr/bin/env bash
-# Compares what other compilers make of the programs and of the library with what LLVM makes, byte for byte, on the
-# lines of tests/second with each option: compilers.sh [--library] MADE [FOLDER]. MADE has the programs, or the library.
-# The toolchain's own compiler made crates/NAME/out/NAME.by-rattle in the gate, and scripts/make/dist.sh has it make
-# crates/link_c/out/liblink_c.by-rattle.a; with FOLDER both are there. rustc makes the library that rust/capi has, and
-# scripts/test/erased_tests.sh the programs. What was not built is 'skipped'.
+# Compares what other compilers make of the programs and of the library with what tests/second has stored, which is what
+# LLVM's answer, byte for byte, on its lines with each option: compilers.sh [--library] MADE [FOLDER]. MADE has the
+# programs, or the library. The toolchain's own compiler made crates/NAME/out/NAME.by-rattle in the gate, and
+# scripts/make/dist.sh has it make crates/link_c/out/liblink_c.by-rattle.a; with FOLDER both are there. rustc makes the
+# library that rust/capi has, and scripts/test/erased_tests.sh the programs. What was not built is 'skipped'.
 . "$(dirname "$0")/../common.sh"
 cd "$top"
 is_library=
@@ -11,78 +11,56 @@ if [ "$1" = --library ]; then
     is_library=yes
     shift
 fi
-programs=$(realpath "$1")
 
-# same NAME BUILD LINES WORD..: both answer alike, in two minutes of the processor's time
-same() {
-    local name=$1 other=$2 lines=$3
-    shift 3
-    "$programs/$name" "$@" <"$folder/$lines" >"$folder/one"
-    (ulimit -t 120 && "$other" "$@" <"$folder/$lines" >"$folder/other")
-    cmp "$folder/one" "$folder/other" || fails "$name${*:+ $*}: two compilers, two answers"
-    echo "compilers: $name${*:+ $*}: $(wc -l <"$folder/$lines") lines: the same $(wc -c <"$folder/one") bytes"
-}
-of_programs() {
-    local name other set
-    "${CC:-cc}" -std=gnu11 -O2 -DLINES_ALONE -Iinclude -o "$folder/lines" tests/second/lines.c
-    for set in all digits news more changes mixed turns hosts worded; do
-        "$folder/lines" "$set" >"$folder/$set"
-    done
-    for name in linkwire linkstate linkshow linkdiff; do
-        other=${1:-crates/$name/out}/$name.by-rattle
-        if [ ! -x "$other" ]; then
-            echo "compilers: $name: skipped: the gate has not built it a second time"
-            continue
-        fi
-        if [ "$name" = linkdiff ]; then
-            same "$name" "$other" news
-            same "$name" "$other" news --counters --lenient
-            same "$name" "$other" news --changes-only
-            same "$name" "$other" changes
-            same "$name" "$other" changes --counters --lenient
-            same "$name" "$other" turns
-            same "$name" "$other" turns --counters --lenient
-            same "$name" "$other" hosts
-            same "$name" "$other" hosts --counters --lenient
-            same "$name" "$other" worded
-            continue
-        fi
-        same "$name" "$other" all
-        same "$name" "$other" digits
-        same "$name" "$other" more
-        same "$name" "$other" mixed
-        [ "$name" = linkwire ] || same "$name" "$other" all --lenient
-        if [ "$name" = linkshow ]; then
-            same "$name" "$other" all --kernel 6.12.0
-            same "$name" "$other" all --kernel 6.16.0 --lenient
-            same "$name" "$other" more --kernel 6.16.0 --lenient
-            same "$name" "$other" mixed --kernel 6.16.0 --lenient
-            same "$name" "$other" worded
-        fi
-    done
-}
-
-# links FILE WORD..: the lines with a library
+# links FILE WORD..: the lines, with a library or alone
 links() {
     "${CC:-cc}" -std=gnu11 -O2 -Iinclude -o "$folder/$1" tests/second/lines.c "${@:2}"
 }
 
-# calls WHAT WORD..: the calls of a library that another compiler made answer as LLVM's do
+# same WHO SET NAME FILE: what is read is what FILE has of this name
+same() {
+    "$folder/lines" "$2" compare "$3" "tests/second/$4.txt" >"$folder/told" || fails "$1 makes another one of it"
+    echo "compilers: by $1: $(cat "$folder/told")"
+}
+
+# each takes two minutes of the processor's time at most
+ulimit -t 120
+of_programs() {
+    local name other set it by="the toolchain's compiler"
+    mkdir "$folder/by"
+    for name in linkwire linkstate linkshow linkdiff; do
+        other=${2:-crates/$name/out}/$name.by-rattle
+        if [ ! -x "$other" ]; then
+            echo "compilers: $name: skipped: the gate has not built it a second time"
+            other=$1/$name
+        fi
+        ln -s "$(realpath "$other")" "$folder/by/$name"
+    done
+    links lines -DLINES_ALONE
+    for set in all digits more mixed; do
+        "$folder/lines" "$set" >"$folder/set"
+        for it in linkwire linkstate 'linkstate --lenient' linkshow; do
+            # shellcheck disable=SC2086
+            "$folder/by/"$it <"$folder/set" | same "$by" "$set" "${it/ -/}" stored
+        done
+    done
+    tests/second/held.sh "$folder/by" >"$folder/held"
+    grep -v '^#\|^held ' tests/second/held.txt | diff - "$folder/held" >&2 || fails "$by makes another one of it"
+    echo "compilers: by $by: linkshow and linkdiff: $(wc -l <"$folder/held") sums: the same"
+}
+
+# calls WHO WORD..: the calls of a library that another compiler made
 calls() {
-    local set lines
-    links with-other "${@:2}"
-    for set in calls held; do
-        [ -e "$folder/wanted-$set" ] || "$folder/with-llvm" all "$set" >"$folder/wanted-$set"
-        (ulimit -t 120 && "$folder/with-other" all "$set") | cmp - "$folder/wanted-$set" ||
-            fails "the library: $1 makes another one of it: '$set' answer otherwise"
-        lines=$(wc -l <"$folder/wanted-$set")
-        echo "compilers: the library by $1: $set: $lines lines: the same $(wc -c <"$folder/wanted-$set") bytes"
+    local set
+    links lines "${@:2}"
+    for set in all more mixed; do
+        "$folder/lines" "$set" calls | same "$1" "$set" calls stored
+        "$folder/lines" "$set" held | same "$1" "$set" held held
     done
 }
 
 of_library() {
     local own=${1:-crates/link_c/out}/liblink_c.by-rattle.a
-    links with-llvm "$programs/liblinkwire.a"
     if [ ! -e "$own" ]; then
         echo "compilers: the library by the toolchain's compiler: skipped: it has not been built"
     else
@@ -99,5 +77,5 @@ of_library() {
 if [ "$is_library" ]; then
     of_library "${@:2}"
 else
-    of_programs "${@:2}"
+    of_programs "$@"
 fi
