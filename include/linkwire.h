@@ -520,7 +520,7 @@ static inline const char *linkwire_name(uint16_t number) {
     return number < sizeof names / sizeof *names ? names[number] : LINKWIRE_NONE;
 }
 
-/* The names from here on are those of the library's own tables, as scripts/test/c_names.py compares. */
+/* The names from here on are those of the library's own tables, as scripts/test/rows.py compares. */
 
 /* The name of an operational state, the value of IFLA_OPERSTATE; null for another number. */
 static inline const char *linkwire_operstate_name(uint8_t state) {

@@ -84,7 +84,7 @@ programs() {
 python3 scripts/test/lines.py
 python3 scripts/release/version.py
 python3 scripts/test/edits.py --fit
-python3 scripts/test/c_names.py
+python3 scripts/test/rows.py
 scripts/make/sums.sh check
 python3 scripts/erase/test_erase.py
 python3 scripts/erase/erase.py check rust

@@ -10,7 +10,6 @@ says lines python3 scripts/test/lines.py
 says version python3 scripts/release/version.py
 says 'edits that fit' python3 scripts/test/edits.py --fit
 says 'rows beside' python3 scripts/test/rows.py
-says include/linkwire.h python3 scripts/test/c_names.py
 where shellcheck 'shellcheck --version' shellcheck "${shell[@]}"
 pyflakes=$(command -v pyflakes3 || command -v pyflakes || true)
 where pyflakes "test -n $pyflakes" "$pyflakes" "${python[@]}"

@@ -1,7 +1,9 @@
 #!/usr/bin/env python3
-"""Prints the lines that second tables lack of the rows of places: of each member that src/ of its crate lists, its copy
-in the tests, its row of the headline, its line in tests/c/laws.c. A line that is printed is a beginning: `..` stands
-for what only its writer knows.
+"""Prints what second tables lack of the first ones, a line each. Of each member that src/ of its crate lists: its copy
+in the tests, its row of the headline, its line in tests/c/laws.c; there `..` stands for what only its writer knows. Of
+each number of the outermost place: its name in linkwire_name, in kind_name, and in numbers.py of python/linkwire. And
+the names that functions of include/linkwire.h return, as they should be by the tables that linkshow shows and the
+library reads them by: operational states, link modes, flags, hardware types.
 
     python3 scripts/test/rows.py
 """
@@ -9,23 +11,25 @@ import glob
 import re
 import sys
 
+from kernel_shown import NAMES, tables
+from shared import TOP, read
+
 PLACE = re.compile(r"pub enum (\w+) \{.*?rows! \{ \(\$\(\$call\)\*\)([^}]*)\}", re.S)
 ROW = re.compile(r"(\w+) (\w+)\((\w+), (\w+)")
 OUTER = re.compile(r"^ +(?:held|plain|mask) (\w+)\(\w+ => (IFLA_\w+)", re.M)
+HEADLINE, LAWS = "crates/link_headline/specs/Kernel.antt", "tests/c/laws.c"
+TYPES = "crates/link_vals/src/link_layer_type.rt"
+NUMBERS, HEADER, PYTHON = "crates/link_msg/src/numbers.rt", "include/linkwire.h", "python/linkwire/numbers.py"
 
 
-def read(*patterns):
-    texts = []
-    for path in sorted(sum(map(glob.glob, patterns), [])):
-        with open(path, encoding="utf-8") as file:
-            texts.append(file.read())
-    return "\n".join(texts)
+def read_all(pattern):
+    return "\n".join(map(read, sorted(glob.glob(pattern, root_dir=TOP))))
 
 
 def rows():
     """Of each row its enum, variant, how it is held, what of, and its constant; and the tests of its copy."""
     for crate in ("link_vf", "link_nest", "link_afspec"):
-        for path in sorted(glob.glob(f"crates/{crate}/src/*.rt")):
+        for path in sorted(glob.glob(f"crates/{crate}/src/*.rt", root_dir=TOP)):
             for enum, body in PLACE.findall(read(path)):
                 for how, variant, held, constant in ROW.findall(body):
                     yield enum, variant, how, held, constant, "place_tests"
@@ -33,23 +37,62 @@ def rows():
         yield "LinkAttribute", variant, "..", "..", constant, "attribute_tests"
 
 
-def main():
-    numbers = dict(re.findall(r"pub const (\w+): u16 = (\w+);", read("crates/*/src/numbers.rt")))
-    headline, laws = read("crates/link_headline/specs/Kernel.antt"), read("tests/c/laws.c")
-    copies = {crate: read(f"crates/{crate}/src/copies*.rt") for crate in ("place_tests", "attribute_tests")}
-    missing = []
+def rows_beside():
+    numbers = dict(re.findall(r"pub const (\w+): u16 = (\w+);", read_all("crates/*/src/numbers.rt")))
+    headline, laws = read(HEADLINE), read(LAWS)
+    copies = {crate: read_all(f"crates/{crate}/src/copies*.rt") for crate in ("place_tests", "attribute_tests")}
     for enum, variant, how, held, constant, tests in rows():
         if f"{enum}::{variant}(" not in copies[tests]:
-            missing.append(f"crates/{tests}/src/copies*.rt: {enum}::{variant}(..),")
+            yield f"crates/{tests}/src/copies*.rt: no line of {enum}::{variant}(..),"
         if not re.search(rf"\.{variant}\b", headline):
-            missing.append(f"crates/link_headline/specs/Kernel.antt: "
-                           f"row {numbers[constant]} ({how} {held}) ...{variant}")
+            yield f"{HEADLINE}: no line of row {numbers[constant]} ({how} {held}) ...{variant}"
         if not re.search(rf"\b{constant}\b", laws):
-            missing.append(f"tests/c/laws.c: {{{constant}, .., 0, ..}},")
-    for line in missing:
-        print(f"rows: no line of {line}")
-    return 1 if missing else 0
+            yield f"{LAWS}: no line of {{{constant}, .., 0, ..}},"
 
 
-if __name__ == "__main__":
-    sys.exit(main())
+def of_header(name):
+    """The names that a function of the header has, with their numbers where it has these."""
+    list_ = rf"\blinkwire_{name}\(.*?\bnames\[\] = \{{\n(.*?)\n    \}};"
+    body = re.search(list_, read(HEADER), re.S)
+    pairs = re.findall(r'\{(\d+), "([^"]*)"\}', body[1])
+    return [(int(number), text) for number, text in pairs] or re.findall(r'"([^"]*)"', body[1])
+
+
+def numbers_beside():
+    source = read(NUMBERS)
+    numbers = re.findall(r"^pub const (IFLA_\w+): u16 = (\d+);", source, re.M)
+    assert len(numbers) > 60, "numbers"
+    header = dict(enumerate(of_header("name")))
+    python = set(re.findall(r"^(IFLA_\w+) = (\d+)$", read(PYTHON), re.M))
+    told = set(re.findall(r"\bIFLA_\w+", source.partition("kind_names!(")[2]))
+    for name, number in numbers:
+        found = {HEADER: header.get(int(number)) == name, PYTHON: (name, number) in python, NUMBERS: name in told}
+        for file, words in (HEADER, "linkwire_name"), (PYTHON, "the list"), (NUMBERS, "kind_name"):
+            if not found[file]:
+                yield f"{file}: {words} lacks {name}, {number}"
+
+
+def listed(name):
+    """The names of a table of tables.rt, in the order of their numbers or bits."""
+    found = dict(tables(read(f"crates/{NAMES}")))[name]
+    assert all(len(row) == 1 or int(row[0], 0) == 1 << at for at, row in enumerate(found)), name
+    return [row[-1] for row in found]
+
+
+def types():
+    """Numbers and names of hardware types, in the order of their numbers."""
+    numbers = {kind: int(number) for kind, number in re.findall(r"LinkLayerType::(\w+) => (\d+),", read(TYPES))}
+    names = dict(re.findall(r'LinkLayerType::(\w+) => "([^"]*)",', read(TYPES)))
+    assert numbers.keys() == names.keys() and len(numbers) > 60, "numbers and names"
+    return sorted((number, names[kind].lower()) for kind, number in numbers.items())
+
+
+def names_beside():
+    for name, wanted in (("operstate", listed("OPERSTATES")), ("linkmode", listed("LINK_MODES")),
+                         ("flag", listed("LINK_FLAGS")), ("type", types())):
+        if of_header(f"{name}_name") != wanted:
+            yield f"{HEADER}: linkwire_{name}_name: the names are {wanted}"
+
+
+lacking = [*rows_beside(), *numbers_beside(), *names_beside()]
+sys.exit("\n".join(f"rows: {it}" for it in lacking) or 0)

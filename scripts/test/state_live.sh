@@ -85,30 +85,6 @@ starts() {
     waits 30 has_all "$1" || fails "linkdump --monitor${2:+ ${*:2}} | linkdiff does not tell the links that are there"
 }
 
-# stops: linkdump ends by a signal, linkdiff with its input, and each line is one of JSON, without counters
-stops() {
-    local it status
-    for ((it = 1; it < ${#running[@]}; it += 2)); do
-        kill "${running[it]}" || true
-    done
-    for it in "${!running[@]}"; do
-        status=0
-        wait "${running[it]}" || status=$?
-        # 128 and SIGTERM
-        [ "$status" = $((it % 2 * 143)) ] || fails "linkdump --monitor | linkdiff: one ends with status $status"
-    done
-    running=()
-    if grep -hE '"path":"(stats|carrier-(changes|up-count|down-count))' "$folder/news" "$folder/polled" >&2; then
-        fails 'linkdiff tells counters'
-    fi
-    if ! command -v python3 >/dev/null; then
-        echo 'state: skipped: whether each line of linkdiff is JSON: no python3'
-    else
-        cat "$folder/news" "$folder/polled" | python3 -c 'import json, sys; [json.loads(line) for line in sys.stdin]' ||
-            fails 'a line of linkdiff is not one of JSON'
-    fi
-}
-
 # announced INDEX WHAT: whether linkdump --monitor | linkdiff has it once it has a change of lo that was made later
 announced() {
     later=$((later + 1))
@@ -216,33 +192,6 @@ heard() {
     fi
 }
 
-# in_turn NAME: whether linkdiff has told that the index 4242 came, went and came again
-# shellcheck disable=SC2317 # waits calls it
-in_turn() {
-    [ "$(grep -E '"ifi-family":0,"ifi-index":4242,' "$folder/$1" | grep -oE '"change":"(new|gone)"|"ifname":"[^"]*"' |
-        uniq | xargs)" = 'change:new ifname:first0 change:gone ifname:first0 change:new ifname:second0' ]
-}
-
-# an index that is used again is another interface
-uses_again() {
-    local kind name
-    for kind in dummy bridge veth none; do
-        if ip link add first0 index 4242 type "$kind" 2>/dev/null; then
-            break
-        fi
-    done
-    if [ "$kind" = none ]; then
-        echo 'state: skipped: an index that is used again: the kernel knows neither dummy nor bridge nor veth'
-        return
-    fi
-    ip link del first0
-    ip link add second0 index 4242 type "$kind"
-    for name in news polled; do
-        waits 30 in_turn "$name" || fails "an index that is used again: $(grep '"ifi-index":4242,' "$folder/$name")"
-    done
-    echo 'state: linkdump --monitor | linkdiff: an index that is used again is new, gone and new'
-}
-
 if [ -n "$inside" ]; then
     linkdump=$1 linkdiff=$2 running=() dumped=() later=2000
     trap 'kill "${running[@]}" 2>/dev/null || true' EXIT
@@ -253,10 +202,6 @@ if [ -n "$inside" ]; then
     makes_kinds
     stays
     changes
-    if [ -n "$linkdiff" ]; then
-        uses_again
-        stops
-    fi
     exit 0
 fi
 

@@ -43,7 +43,7 @@ static unsigned bit(unsigned flag) {
     return found;
 }
 
-/* The tables that scripts/test/c_names.py compares: the first and the last of each, some between, and what is past
+/* The tables that scripts/test/rows.py compares: the first and the last of each, some between, and what is past
  * them. */
 static int others_differ(void) {
     const struct {
