@@ -23,7 +23,8 @@ def said(program, options, text):
     return ran.stdout.split(b"\n")[:-1]
 
 
-text_of = json.JSONEncoder(separators=(",", ":"), ensure_ascii=False).encode
+def text_of(value):
+    return json.dumps(value, separators=(",", ":"), ensure_ascii=False).replace("\x7f", "\\u007f")
 
 
 # ** what a message is
