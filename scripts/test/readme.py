@@ -125,36 +125,25 @@ class Page:
             self.fails(f"{file} has not what stands here")
         self.counts["parts"] += 1
 
-    def block(self, mark, shown, following):
-        """Does what the mark of a block says; returns whether the block after it is its output."""
-        kind, _, rest = (mark or "").partition(": ")
-        if mark == "runs: shell":
-            self.shell(shown)
-        elif mark == "runs: namespace":
-            self.namespace(shown)
-        elif mark == "runs: c":
-            self.compiled(shown, following)
-        elif mark == "compiles: c":
-            self.compiles(shown)
-        elif kind == "stands in":
-            self.stands(rest, shown)
-        elif kind == "not run":
-            self.counts["not run"] += len(COMMAND.findall(shown))
-        elif mark != "runs: rust" and not BY_PAGES.match(mark or "") and (mark or COMMAND.search(shown)):
-            self.fails(f"a block has the mark {mark}:\n{shown}")
-        self.commands += [command for command, _ in COMMAND.findall(shown)]
-        return mark in ("runs: c", "runs: rust")
-
     def hold(self):
-        """Runs what a page shows, and compares."""
-        blocks = [(mark, plain(shown)) for mark, shown in MAN_BLOCK.findall(self.text)] if self.in_man else \
-            [(mark, shown) for mark, _, shown in BLOCK.findall(self.text)]
-        is_output = False
-        for at, (mark, shown) in enumerate(blocks):
-            if not is_output:
-                is_output = self.block(mark, shown, blocks[at + 1][1] if at + 1 < len(blocks) else "")
-            else:
-                is_output = False
+        """Does what the mark of each block says; behind a program stands what it prints."""
+        blocks = iter([(mark, plain(shown)) for mark, shown in MAN_BLOCK.findall(self.text)] if self.in_man else
+                      [(mark, shown) for mark, _, shown in BLOCK.findall(self.text)])
+        ways = {"runs: shell": self.shell, "runs: namespace": self.namespace, "compiles: c": self.compiles}
+        for mark, shown in blocks:
+            commands, (kind, _, rest) = COMMAND.findall(shown), mark.partition(": ")
+            following = next(blocks, ("", ""))[1] if mark in ("runs: c", "runs: rust") else ""
+            if mark == "runs: c":
+                self.compiled(shown, following)
+            elif mark in ways:
+                ways[mark](shown)
+            elif kind == "stands in":
+                self.stands(rest, shown)
+            elif kind == "not run":
+                self.counts["not run"] += len(commands)
+            elif mark != "runs: rust" and not BY_PAGES.match(mark) and (mark or commands):
+                self.fails(f"a block has the mark {mark}:\n{shown}")
+            self.commands += [command for command, _ in commands]
         if self.name.endswith(".1") and tuple(re.findall(r"^\.SH (.*)$", self.text, re.M)) != SECTIONS:
             self.fails(f"the sections are not {', '.join(SECTIONS)}")
 
