@@ -89,16 +89,30 @@ program() {
     done
 }
 
-# python 3.X: one of that version that runs, on the path or of pyenv
-python() {
-    local it
-    for it in "$(command -v "python$1" || true)" /usr/bin/"python$1" \
-        "${PYENV_ROOT:-$HOME/.pyenv}"/versions/"$1".*/bin/"python$1"; do
-        if [ -x "$it" ] && "$it" -c '' 2>/dev/null; then
-            echo "$it"
-            return
-        fi
+# each_python COMMAND..: at once, with the version and the path of each Python from 3.9 to 3.13 that runs, on the path or
+# of pyenv
+each_python() {
+    local version it found waits=()
+    for version in 3.9 3.10 3.11 3.12 3.13; do
+        found=''
+        for it in "$(command -v "python$version" || true)" /usr/bin/"python$version" \
+            "${PYENV_ROOT:-$HOME/.pyenv}"/versions/"$version".*/bin/"python$version"; do
+            [ -n "$found" ] || ! [ -x "$it" ] || ! "$it" -c '' 2>/dev/null || found=$it
+        done
+        [ -n "$found" ] || { lacks "Python $version: it is not here" && continue; }
+        "$@" "$version" "$found" &
+        waits+=("$!")
     done
+    for it in "${waits[@]}"; do
+        wait "$it" || fails 'a Python fails'
+    done
+}
+
+# strict PACKAGE: what mypy says of that of python/
+strict() {
+    has types mypy || return 0
+    runs mypy --strict --cache-dir="$folder/mypy" "python/$1"
+    echo "$self: mypy --strict: $(tail -n 1 "$log")"
 }
 
 # reads ARRAY FILE: the lines of a file of tests/, without comments

@@ -16,17 +16,8 @@ tables() {
     echo "linkwatch: Python $1: $(sed -n 's/^Ran \([0-9]* tests\).*/\1/p' "$log"): ok, $((SECONDS - start)) s"
 }
 
-waits=()
-for it in 3.9 3.10 3.11 3.12 3.13; do
-    found=$(python "$it")
-    [ -n "$found" ] || { lacks "Python $it: it is not here" && continue; }
-    tables "$it" "$found" &
-    waits+=("$!")
-done
-if has types mypy; then
-    runs mypy --strict --cache-dir="$folder/mypy" python/linkwatch
-    echo "linkwatch: mypy --strict: $(tail -n 1 "$log")"
-fi
+each_python tables
+strict linkwatch
 for it in command terminal; do
     runs python3 "tests/linkwatch/test_$it.py"
     echo "linkwatch: $it: $(sed -n 's/^Ran \([0-9]* tests\).*/\1/p' "$log"): ok"
@@ -38,7 +29,4 @@ elif has 'the running kernel' ip; then
     unshare -mn tests/linkwatch/completions.sh "$folder/completions" "$programs"
     unshare -n python3 tests/linkwatch/live.py "$programs/linkdump" "$programs/linkdiff"
 fi
-for it in "${waits[@]}"; do
-    wait "$it" || fails 'a test fails'
-done
 echo 'linkwatch passed'

@@ -27,12 +27,6 @@ refuses() {
     { [ "$status" != 0 ] && grep -q "$1" "$folder/err"; } || fails "${*:2}: status $status, and it does not say '$1'"
 }
 
-types() {
-    has types mypy || return 0
-    runs mypy --strict --cache-dir="$folder/mypy" python/linkwire
-    echo "python: mypy --strict: $(tail -n 1 "$log")"
-}
-
 wheels() {
     local it
     mkdir "$folder/one" "$folder/two" "$folder/none" "$folder/tools"
@@ -140,22 +134,6 @@ environment() {
         "$((SECONDS - start)) s"
 }
 
-environments() {
-    local it found waits=()
-    for it in 3.9 3.10 3.11 3.12 3.13; do
-        found=$(python "$it")
-        [ -n "$found" ] || { lacks "Python $it: it is not here" && continue; }
-        environment "$it" "$found" &
-        waits+=("$!")
-    done
-    for it in "${waits[@]}"; do
-        wait "$it" || fails 'an environment fails'
-    done
-    if [ -e python/build ] || [ -e python/linkwire.egg-info ]; then
-        fails 'the build leaves something in the tree'
-    fi
-}
-
 # ours COMMAND..: with the package on the path of Debian's python3, where that is here, and the library that was built
 ours() {
     PATH=$folder/bin:$programs:$PATH PYTHONPATH=$top/python LINKWIRE=$programs/liblinkwire.so.0 "$@"
@@ -173,11 +151,14 @@ mkdir "$folder/bin"
 system=/usr/bin/python3
 [ -x "$system" ] || system=$(command -v python3)
 ln -s "$system" "$folder/bin/python3"
-types
+strict linkwire
 wheels
 compilers
 sources
-environments
+each_python environment
+if [ -e python/build ] || [ -e python/linkwire.egg-info ]; then
+    fails 'the build leaves something in the tree'
+fi
 live
 ours nice -n 12 python3 tests/python/rules.py "$LINKDIFF"
 ours python3 tests/python/beside.py

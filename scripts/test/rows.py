@@ -1,9 +1,9 @@
 #!/usr/bin/env python3
 """Prints what second tables lack of the first ones, a line each. Of each member that src/ of its crate lists: its copy
 in the tests, its row of the headline, its line in tests/c/laws.c; there `..` stands for what only its writer knows. Of
-each number of the outermost place: its name in linkwire_name, in kind_name, and in numbers.py of python/linkwire. And
-the names that functions of include/linkwire.h return, as they should be by the tables that linkshow shows and the
-library reads them by: operational states, link modes, flags, hardware types.
+each number of the outermost place: its name in linkwire_name, and in numbers.py of python/linkwire; kernel_tables.py
+looks for it in kind_name. And the names that functions of include/linkwire.h return, as they should be by the tables
+that linkshow shows and the library reads them by: operational states, link modes, flags, hardware types.
 
     python3 scripts/test/rows.py
 """
@@ -59,17 +59,15 @@ def of_header(name):
 
 
 def numbers_beside():
-    source = read(NUMBERS)
-    numbers = re.findall(r"^pub const (IFLA_\w+): u16 = (\d+);", source, re.M)
+    numbers = re.findall(r"^pub const (IFLA_\w+): u16 = (\d+);", read(NUMBERS), re.M)
     assert len(numbers) > 60, "numbers"
     header = dict(enumerate(of_header("name")))
     python = set(re.findall(r"^(IFLA_\w+) = (\d+)$", read(PYTHON), re.M))
-    told = set(re.findall(r"\bIFLA_\w+", source.partition("kind_names!(")[2]))
     for name, number in numbers:
-        found = {HEADER: header.get(int(number)) == name, PYTHON: (name, number) in python, NUMBERS: name in told}
-        for file, words in (HEADER, "linkwire_name"), (PYTHON, "the list"), (NUMBERS, "kind_name"):
-            if not found[file]:
-                yield f"{file}: {words} lacks {name}, {number}"
+        if header.get(int(number)) != name:
+            yield f"{HEADER}: linkwire_name lacks {name}, {number}"
+        if (name, number) not in python:
+            yield f"{PYTHON}: the list lacks {name}, {number}"
 
 
 def listed(name):

@@ -70,23 +70,16 @@ def without_example(folder):
         yield from (name for name, docs in calls if not EXAMPLE.search(docs))
 
 
-def main():
-    if len(sys.argv) not in (2, 3):
-        sys.exit("usage: rust_items.py DOC [FILE]")
-    found = items(sys.argv[1])
-    if len(sys.argv) == 2:
-        print(*found, sep="\n")
-        return
-    with open(sys.argv[2], encoding="utf-8") as file:
-        kept = file.read().splitlines()
-    calls = list(without_example(sys.argv[1]))
-    if found != kept:
-        print(*difflib.unified_diff(kept, found, sys.argv[2], "what is public", lineterm="", n=1), sep="\n")
-    for call in calls:
-        print(f"{call}: no example, and no link to one")
-    if found != kept or calls:
-        sys.exit(1)
+def main(doc, kept=None):
+    found = items(doc)
+    if kept is None:
+        return print(*found, sep="\n")
+    with open(kept, encoding="utf-8") as file:
+        lines = file.read().splitlines()
+    told = [*difflib.unified_diff(lines, found, kept, "what is public", lineterm="", n=1)]
+    told += [f"{call}: no example, and no link to one" for call in without_example(doc)]
+    return "\n".join(told) or None
 
 
 if __name__ == "__main__":
-    main()
+    sys.exit(main(*sys.argv[1:]))
