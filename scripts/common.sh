@@ -89,7 +89,7 @@ program() {
     done
 }
 
-# each_python COMMAND..: at once, with the version and the path of each Python from 3.9 to 3.13 that runs, on the path or
+# each_python COMMAND..: at once, with version and path of each Python from 3.9 to 3.13 that runs, on the path or
 # of pyenv
 each_python() {
     local version it found waits=()

@@ -1,5 +1,5 @@
 #!/usr/bin/env bash
-# Spreads a million lines by `parallel --sshloginfile` over three hosts, each a network namespace with an sshd of its
+# Spreads 80 MB of lines by `parallel --sshloginfile` over three hosts, each a network namespace with an sshd of its
 # own, kills all that runs on one of them while a job there is in the middle of its answers, and compares what comes,
 # byte for byte, with what one process answers: parallel_hosts.sh [FOLDER], where the programs are. It fails where the
 # bytes differ or parallel fails; what cannot be had here, or not in time, is 'skipped'.
@@ -11,19 +11,6 @@ fails() {
     echo "parallel hosts: $*" >&2
     tail -n 5 "$folder"/sshd.* "$folder/err" >&2 2>/dev/null || true
     exit 1
-}
-
-# A hundred thousand lines, ten times: interfaces with a name and an MTU, one in ten of them cut off.
-lines() {
-    python3 - <<'END'
-import struct, sys
-def line(index):
-    name = b"eth%d\0" % index
-    attributes = struct.pack("<HH", 4 + len(name), 3) + name + bytes(-len(name) % 4) + struct.pack("<HHI", 8, 4, index)
-    message = struct.pack("<BBHiII", 0, index & 255, 1, index, 1, 0) + attributes
-    return (message[:-1] if index % 10 == 0 else message).hex()
-sys.stdout.write("".join(f"{line(index)}\n" for index in range(100000)) * 10)
-END
 }
 
 # host NUMBER: a namespace at the end of a cable, and what its sshd goes by. A shell there reads no file of the user's:
@@ -116,7 +103,10 @@ if [ -n "$inside" ]; then
     done
     serves 1
     serves 2
-    lines >"$folder/lines"
+    python3 "$top/bench/make_lines.py" "$folder/eight" 8
+    for it in {1..10}; do
+        cat "$folder/eight"
+    done >"$folder/lines"
     for program in "${@:2}"; do
         serves 3
         spread "$program"
