@@ -415,24 +415,15 @@ def unsaid(rows, place, seen, first, who, report):
 # ** sysfs and /proc
 
 
-def lines_of(path):
-    """The lines of a file as fields; names are bytes, and are kept where they are no UTF-8."""
-    with open(path, encoding="utf-8", errors="surrogateescape") as file:
-        return [line.rstrip("\n").split("\t") for line in file]
-
-
-def sysfs(path):
-    return {(it[0], it[1]): it[2] for it in lines_of(path) if len(it) == 3}
-
-
-def proc(path):
+def of_file(source, path):
+    """What a file of FOLDER says, by link and field; names are bytes, and are kept where they are no UTF-8."""
     found = {}
-    for cut in lines_of(path):
-        kind, name, *rest = cut
-        if kind == "snmp6" and len(cut) >= 4:
-            rest = "\t".join(rest[1:]).split()
-        if len(rest) == 2:
-            found[name, kind + " " + rest[0]] = rest[1]
+    with open(path, encoding="utf-8", errors="surrogateescape") as file:
+        for line in file:
+            kind, name, *rest = ["sysfs"] * (source == "sysfs") + line.rstrip("\n").split("\t")
+            rest = "\t".join(rest[1:]).split() if kind == "snmp6" else rest
+            if len(rest) == 2:
+                found[name, rest[0] if kind == "sysfs" else f"{kind} {rest[0]}"] = rest[1]
     return found
 
 
@@ -504,10 +495,10 @@ def compare_label(rows, program, release, out, name, report):
         said = json.loads(file.read(), strict=False)
     for link in said:
         compare_link(rows, link, links, "%s %s %s" % (release, name, link["ifname"]), report)
-    for source, reader in (("sysfs", sysfs), ("proc", proc)):
+    for source in ("sysfs", "proc"):
         files = [it % (source, end) for end in ("-a.txt", "-b.txt")]
         if all(map(os.path.exists, files)):
-            compare_files(rows, source, [reader(path) for path in files], links, release + " " + name, report)
+            compare_files(rows, source, [of_file(source, path) for path in files], links, f"{release} {name}", report)
 
 
 # ** the kernel at hand

@@ -17,19 +17,9 @@ told() {
 # slip FILE OLD NEW: a copy of the tables in which a row is changed, by which the reader has to differ from linkwire
 slip() {
     rm -rf "$folder/crates"
-    mkdir "$folder/crates"
-    local it
-    for it in crates/*/specs; do
-        mkdir -p "$folder/$it"
-        cp "$it"/*.antt "$folder/$it"
-    done
-    grep -qF -- "$2" "crates/$1" || fails "$1 has no '$2'"
-    python3 - "$folder/crates/$1" "$2" "$3" <<'END'
-import sys
-path, old, new = sys.argv[1:]
-text = open(path, encoding="utf-8").read()
-open(path, "w", encoding="utf-8").write(text.replace(old, new, 1))
-END
+    cp -r --parents crates/*/specs "$folder"
+    printf 'file: %s\nold: %s\nnew: %s\n' "${1#*/}" "$2" "$3" >"$folder/it.edit"
+    python3 scripts/test/edits.py --apply "$folder/it.edit" "$folder/crates/${1%%/*}"
     CRATES=$folder/crates told "$1: '$2' as '$3'" 'answers differ' python3 tests/second/check.py \
         --only linkwire,linkstate --lines "$folder/few" "$programs" "$folder/lines"
 }
@@ -37,7 +27,7 @@ END
 awk 'NR % 40 == 0 || length($0) == 32' "$folder/all" >"$folder/few"
 slip link_headline/specs/Kernel.antt 'row 40 u32 Attributes.GsoMaxSegs' 'row 90 u32 Attributes.GsoMaxSegs'
 slip link_headline/specs/Kernel.antt '(sized 12 vf_info_vlan_of)' '(filled vf_info_vlan_of)'
-slip link_headline/specs/StateRows.antt '(23, Clear)' '(24, Clear)'
+slip link_headline/specs/StateRows.antt '(35, Clear)' '(36, Clear)'
 slip link_headline/specs/StateRows.antt 'ClearPart 4 12' 'ClearPart 4 8'
 slip link_vals/specs/LinkLayerTypeTable.antt 'layer_type_number Can = 280' 'layer_type_number Can = 279'
 echo 'second: rows that are changed on one side: each is told'

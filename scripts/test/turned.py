@@ -9,16 +9,13 @@ and answers of which some record ends within a number are left out: filled up wi
 order. The last line says how many are kept.
 """
 
-import os
-import re
 import sys
 
+from kernel_ours import Repository, width
 from shared import TOP
 
-sys.path.insert(0, f"{TOP}/tests/second")
-os.environ.setdefault("CRATES", f"{TOP}/crates")
-import second
-
+OURS = Repository(TOP)
+second = OURS.second
 NUMBERS = {"u8": 1, "u16": 2, "u32": 4, "u64": 8, "i32": 4, "ext_mask": 4}
 HEADER = [(2, 2), (4, 4), (8, 4), (12, 4)]
 INFO, INFO_DATA = (1, 4), "Info"
@@ -30,22 +27,15 @@ class Ends(Exception):
 
 def spans(name):
     """Where the numbers in host order of a record are, and how long each is."""
-    for text in second.RECORDS:
-        if m := re.search(rf"^{name}_of payload = \w+_by \(λ i\. \w+_at w\d+ payload \((\d+) \* i\)\)", text, re.M):
-            width, (size, _) = int(m[1]), second.record(name)
-            return [(at, width) for at in range(0, size, width)]
-        if m := re.search(rf"^{name}_of payload =\s+record \{{(.*?)\}}", text, re.M | re.S):
-            return [(int(at), second.WIDTH[width])
-                    for width, at in re.findall(r"(?<!be_)number_at (\w+) payload (\d+)", m[1])]
-    raise SystemExit(f"no record {name}")
+    return [(it.offset, width(it.type)) for it in OURS.records[OURS.prefixes[name]][0] if it.type[0] in "us"]
 
 
 def reversed_at(payload, places):
     made = bytearray(payload)
-    for at, width in places:
-        if at < len(made) < at + width:
+    for at, size in places:
+        if at < len(made) < at + size:
             raise Ends
-        made[at:at + width] = made[at:at + width][::-1]
+        made[at:at + size] = made[at:at + size][::-1]
     return bytes(made)
 
 
@@ -58,8 +48,7 @@ def by_form(form, table, levels, payload):
             return by_form(second.WORDS[form], table, levels, payload)
         if form == "event":
             return reversed_at(payload, [(0, 2), (2, 2)]) if len(payload) >= 8 else payload
-        width = NUMBERS.get(form)
-        return payload[::-1] if width == len(payload) else payload
+        return payload[::-1] if NUMBERS.get(form) == len(payload) else payload
     if form[0] == "as_form":
         return by_form(form[3], table, levels, payload)
     if form[0] == "plain":
