@@ -7,7 +7,7 @@
 # It takes Debian's packages qemu-user-static, gcc-TRIPLET and libstd-rust-dev of the processor, or a rustc whose target
 # is there. A processor that lacks one is skipped, and a line names the packages. What this machine runs itself, as i386
 # on x86-64, is run without qemu. SYSROOTS is the folder that has the folders of the triplets, by default /usr. The last
-# line says how many processors were tested. LINES is 20000 by default. --help shows this text and the processors.
+# line says how many processors were tested. LINES is 20000 by default.
 self=processors
 . "$(dirname "$0")/../common.sh"
 count=${1:-20000}
@@ -28,12 +28,6 @@ s390x s390x-unknown-linux-gnu s390x-linux-gnu s390x
 mips64el mips64el-unknown-linux-gnuabi64 mips64el-linux-gnuabi64 mips64el
 riscv64 riscv64gc-unknown-linux-gnu riscv64-linux-gnu riscv64'
 known=$(cut -d ' ' -f 1 <<<"$rows" | paste -sd ' ')
-if [[ $count = -h || $count = --help ]]; then
-    sed -n '2,/^self=/s/^# \{0,1\}//p' "$0"
-    echo "Processors: $known"
-    exit
-fi
-[[ $count =~ ^[0-9]+$ ]] || fails "LINES is a number, and not '$count'; see processors.sh --help"
 for it in "${wanted[@]}"; do
     [[ " $known " = *" $it "* ]] || fails "no processor '$it'; there are: $known"
 done

@@ -22,14 +22,9 @@ in_sqlite() {
         "$folder/links.db" "$1"
 }
 
-# rows INDEX: of AF_UNSPEC
-rows() {
-    in_sqlite "SELECT count(*) FROM stretch WHERE family = 0 AND ifindex = $1"
-}
-
-# keys INDEX: how many its rows have
-keys() {
-    in_sqlite "SELECT count(DISTINCT key) FROM stretch WHERE family = 0 AND ifindex = $1"
+# of INDEX WHAT: of its rows, of AF_UNSPEC
+of() {
+    in_sqlite "SELECT $2 FROM stretch WHERE family = 0 AND ifindex = $1"
 }
 
 # wants WHAT FOUND WANTED
@@ -41,11 +36,9 @@ wants() {
 # stands: whether no state moves for five seconds
 # shellcheck disable=SC2317 # waits calls it
 stands() {
-    local rows
     rm -f "$folder/links.db"
     sqlite 50 0.1
-    rows=$(in_sqlite 'SELECT count(*) - sum(is_open) FROM stretch')
-    [ "$rows" = 0 ]
+    [ "$(in_sqlite 'SELECT count(*) - sum(is_open) FROM stretch')" = 0 ]
 }
 
 # a link that is the same each time that it is made
@@ -64,22 +57,21 @@ polls_sqlite() {
     index=$(cat /sys/class/net/veth0/ifindex)
     ip link set veth0 mtu 1400
     sqlite
-    wants 'rows of a link that was changed' "$(rows "$index")" 2
+    wants 'rows of a link that was changed' "$(of "$index" 'count(*)')" 2
     ip link set veth0 mtu 1500
     sqlite
-    wants 'rows of a link that was changed back' "$(rows "$index")" 3
-    wants 'its encodings' "$(keys "$index")" 2
+    wants 'rows of a link that was changed back' "$(of "$index" 'count(*)')" 3
+    wants 'its encodings' "$(of "$index" 'count(DISTINCT key)')" 2
     makes_again
     sqlite
     ip link del again0
     sqlite
-    wants 'open rows of a link that was deleted' \
-        "$(in_sqlite 'SELECT sum(is_open) FROM stretch WHERE ifindex = 4242')" 0
+    wants 'open rows of a link that was deleted' "$(of 4242 'sum(is_open)')" 0
     makes_again
     sqlite
-    wants 'rows of an index that is used again' "$(rows 4242)" 2
-    wants 'open ones' "$(in_sqlite 'SELECT sum(is_open) FROM stretch WHERE ifindex = 4242')" 1
-    wants 'its encodings' "$(keys 4242)" 1
+    wants 'rows of an index that is used again' "$(of 4242 'count(*)')" 2
+    wants 'open ones' "$(of 4242 'sum(is_open)')" 1
+    wants 'its encodings' "$(of 4242 'count(DISTINCT key)')" 1
     ip link del again0
 }
 
