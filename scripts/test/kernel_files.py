@@ -1,5 +1,6 @@
 """What the kernel's files say, for kernel_tables.py: its headers, rt_link.yaml, and code that writes and reads rows."""
 
+import functools
 import glob
 import os
 import re
@@ -157,6 +158,7 @@ class Kernel:
             files += glob.glob(INCLUDE + "/bits/socket.h") + glob.glob(INCLUDE + "/*/bits/socket.h")
         return {re.sub(r".*/(linux|net|bits)/", "", name): read(name) for name in files if os.path.isfile(name)}
 
+    @functools.cache
     def of_code(self, names):
         """The files of code that are there."""
         return Code("\n".join(self.code[name] for name in names.split() if name in self.code))
