@@ -510,11 +510,11 @@ def ran(*words):
 def live(program, linkdump, rows):
     """The kernel at hand, in a namespace of its own, in which this runs once more."""
     if "--inside" not in sys.argv:
-        if not shutil.which("ip") or not shutil.which("unshare") or ran("unshare", "-rmn", "true").returncode:
-            return print("kernel_truth: skipped: live: no network namespace, or no ip")
+        mounts = ["unshare", "-rmn", "sh", "-c", "mount -t sysfs sysfs /sys && exec \"$@\"", "sh"]
+        if not shutil.which("ip") or not shutil.which("unshare") or ran(*mounts, "true").returncode:
+            return print("kernel_truth: skipped: live: no network namespace with a sysfs, or no ip")
         again = [sys.executable, os.path.abspath(__file__), "--live", "--inside", program, linkdump]
-        mounts = "mount -t sysfs sysfs /sys; exec \"$@\""
-        return subprocess.run(["unshare", "-rmn", "sh", "-c", mounts, "sh", *again], check=False).returncode
+        return subprocess.run([*mounts, *again], check=False).returncode
     commands = [it for it in read("tests/live/links.txt").splitlines() if it[0] != "#"]
     refused = [it for it in commands if ran("ip", *shlex.split(it)).returncode]
     kinds = sorted({found.group(1) for it in refused for found in [re.search(r" (?:type|mode) (\w+)", it)] if found})
