@@ -366,22 +366,45 @@ fn row_from(rows: &'static [Row], first: u16, number: u16) -> Found {
     no_row()
 }
 
+/// The rows of a table, and the number of the first one, where they have all numbers from it on.
+#[derive(Clone, Copy)]
+pub(crate) struct Rows {
+    first: Option<u16>,
+    rows: &'static [Row],
+}
+
+/// The rows of a table.
+#[inline(always)]
+fn rows_of(table: Table) -> Rows {
+    let (first, rows): (Option<u16>, &'static [Row]) = match table {
+        Table::Families => (None, &FAMILIES),
+        Table::Inet => (Some(1), &INET),
+        Table::Inet6 => (Some(1), &INET6),
+        Table::Mctp => (Some(1), &MCTP),
+        Table::Xdp => (Some(1), &XDP),
+        Table::Props => (Some(53), &PROPS),
+        Table::DevlinkPort => (None, &DEVLINK_PORT),
+        Table::DpllPin => (Some(1), &DPLL_PIN),
+        Table::DownReason => (Some(1), &DOWN_REASON),
+        Table::Function => (Some(1), &FUNCTION),
+        Table::FunctionStats => (Some(0), &FUNCTION_STATS),
+        Table::FunctionVlans => (Some(1), &FUNCTION_VLANS),
+    };
+    Rows { first, rows }
+}
+
+/// The row of a number among these.
+#[inline(always)]
+fn row_among(rows: Rows, number: u16) -> Found {
+    match rows.first {
+        Some(first) => row_from(rows.rows, first, number),
+        None => row_by(rows.rows, number),
+    }
+}
+
 /// The row of a number in a table.
 fn table_row(table: Table, number: u16) -> Found {
-    match table {
-        Table::Families => row_by(&FAMILIES, number),
-        Table::Inet => row_from(&INET, 1, number),
-        Table::Inet6 => row_from(&INET6, 1, number),
-        Table::Mctp => row_from(&MCTP, 1, number),
-        Table::Xdp => row_from(&XDP, 1, number),
-        Table::Props => row_from(&PROPS, 53, number),
-        Table::DevlinkPort => row_by(&DEVLINK_PORT, number),
-        Table::DpllPin => row_from(&DPLL_PIN, 1, number),
-        Table::DownReason => row_from(&DOWN_REASON, 1, number),
-        Table::Function => row_from(&FUNCTION, 1, number),
-        Table::FunctionStats => row_from(&FUNCTION_STATS, 0, number),
-        Table::FunctionVlans => row_from(&FUNCTION_VLANS, 1, number),
-    }
+    row_among(rows_of(table), number)
 }
 
 /// How the settings by family are shown.
@@ -526,6 +549,28 @@ pub(crate) fn found_in(cx: &Around<'_>, list: &List, number: u16) -> Found {
         List::Info(link, port) => info_row(cx, link, port, number),
         List::Refused => refused_row(number),
     }
+}
+
+/// The rows of a list that goes by a table of this crate.
+#[inline(always)]
+pub(crate) fn own_rows(list: &List) -> Option<Rows> {
+    match *list {
+        List::Own(table) | List::Listed(_, table) => Some(rows_of(table)),
+        _ => None,
+    }
+}
+
+/// The row of a number in a list of which these are the rows, if it goes by a table of this crate.
+#[inline(always)]
+pub(crate) fn found_by(cx: &Around<'_>, list: &List, rows: Option<Rows>, number: u16) -> Found {
+    let rows = match rows {
+        Some(rows) => rows,
+        _ => return found_in(cx, list, number),
+    };
+    if number as usize >= NUMBERS {
+        return no_row();
+    }
+    row_among(rows, number)
 }
 
 /// The name that an attribute is shown under, unless it is kept as it is.

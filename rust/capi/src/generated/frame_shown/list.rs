@@ -3,7 +3,8 @@
 
 use crate::frame_shown::depth::Depth;
 use crate::frame_shown::form::{
-    Around, Form, Group, List, Manner, NUMBERS, Way, found_in, is_kept_by, kind_shown,
+    Around, Form, Group, List, Manner, NUMBERS, Rows, Way, found_by, found_in, is_kept_by,
+    kind_shown, own_rows,
 };
 use crate::frame_shown::kept::show_kept;
 use crate::frame_shown::value::{number_at, show_form, show_style, show_text};
@@ -85,15 +86,17 @@ fn show_manner<D: Depth>(
     }
 }
 
-/// Adds what an attribute says under its name, and returns whether it is kept as it is: then it says nothing here.
+/// Adds what an attribute says under its name, and returns whether it is kept as it is: then it says nothing here. The
+/// rows are those of the list, if it goes by a table of this crate.
 #[inline(always)]
 fn show_frame<D: Depth>(
     cx: &Around<'_>,
     page: &mut Page,
     list: &List,
+    rows: Option<Rows>,
     frame: &NlaBuffer<'_>,
 ) -> Result<bool, AllocError> {
-    let (name, manner) = found_in(cx, list, frame.kind());
+    let (name, manner) = found_by(cx, list, rows, frame.kind());
     if is_kept_by(manner, frame.value()) {
         return Ok(true);
     }
@@ -175,13 +178,14 @@ fn show_named<D: Depth>(
     list: &List,
     bytes: &[u8],
 ) -> Result<bool, AllocError> {
+    let rows = own_rows(list);
     let mut is_any_kept = false;
     for item in NlasIterator::new(bytes) {
         let frame = match item {
             Ok(frame) => frame,
             _ => break,
         };
-        let is_kept = show_frame::<D>(cx, page, list, &frame)?;
+        let is_kept = show_frame::<D>(cx, page, list, rows, &frame)?;
         is_any_kept |= is_kept;
     }
     Ok(is_any_kept)
@@ -278,6 +282,7 @@ fn show_last<D: Depth>(
     bytes: &[u8],
     counts: &[usize; NUMBERS],
 ) -> Result<(), AllocError> {
+    let rows = own_rows(list);
     let mut left = *counts;
     for item in NlasIterator::new(bytes) {
         let frame = match item {
@@ -287,7 +292,7 @@ fn show_last<D: Depth>(
         if let Some(number) = number_in::<D>(cx, list, &frame) {
             left[number] -= 1;
             if left[number] == 0 {
-                show_frame::<D>(cx, page, list, &frame)?;
+                show_frame::<D>(cx, page, list, rows, &frame)?;
             }
         }
     }
@@ -304,6 +309,7 @@ fn show_earlier<D: Depth>(
     bytes: &[u8],
     counts: &[usize; NUMBERS],
 ) -> Result<(), AllocError> {
+    let rows = own_rows(list);
     let mut left = *counts;
     for item in NlasIterator::new(bytes) {
         let frame = match item {
@@ -314,7 +320,7 @@ fn show_earlier<D: Depth>(
             left[number] -= 1;
             if left[number] != 0 {
                 page.begin("", Nest::Object)?;
-                show_frame::<D>(cx, page, list, &frame)?;
+                show_frame::<D>(cx, page, list, rows, &frame)?;
                 page.end()?;
             }
         }

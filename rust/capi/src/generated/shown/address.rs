@@ -2,7 +2,8 @@
 //! Hardware addresses, and bytes as digits.
 
 use crate::rattle::prelude::String;
-use crate::shown::piece::{put_byte, put_number};
+use crate::shown::block::put_byte;
+use crate::shown::piece::put_number;
 use crate::rattle::alloc::{AllocError, Global};
 
 const DIGITS: [char; 16] = [

@@ -2,19 +2,27 @@
 //! Texts that are stored as blocks which overlap, and are looked at for bytes that may need an escape on the way.
 //!
 //! Both by blocks of vectors, as by the writer of the toolchain's crate `json`, which looks at a text before it stores
-//! it. Names and most texts have only the bytes from `#` to `~`, without the backslash, which two tests tell; where
-//! others stand, a text is looked at again, as it is stored by `escape`.
+//! it. Names and most texts have only the bytes from the blank to `~`, without the quote and the backslash, which three
+//! tests tell; where others stand, a text is looked at again, as it is stored by `escape`.
 
 use crate::rattle::simd::prelude::*;
 
-/// Stores N bytes of a text, from one place of it on, at a place of the buffer; whether all are from `#` to `~`, and
-/// none is a backslash.
+/// Stores a byte.
+#[inline(always)]
+pub(crate) fn put_byte(buf: &mut [u8], at: usize, byte: u8) -> usize {
+    buf[at] = byte;
+    at + 1
+}
+
+/// Stores N bytes of a text, from one place of it on, at a place of the buffer; whether all are from the blank to `~`,
+/// and none is a quote or a backslash.
 #[inline(always)]
 pub(crate) fn put_block<const N: usize>(buf: &mut [u8], at: usize, text: &[u8], from: usize) -> bool {
     let block = Simd::<u8, N>::from_slice(&text[from..]);
     block.copy_to_slice(&mut buf[at..]);
-    let above = block - Simd::<u8, N>::splat(b'#');
-    (above.simd_gt(Simd::<u8, N>::splat(b'~' - b'#'))
+    let above = block - Simd::<u8, N>::splat(b' ');
+    (above.simd_gt(Simd::<u8, N>::splat(b'~' - b' '))
+        | block.simd_eq(Simd::<u8, N>::splat(b'"'))
         | block.simd_eq(Simd::<u8, N>::splat(b'\\'))).to_bitmask()
         == 0
 }
@@ -74,4 +82,26 @@ pub(crate) fn put_text(buf: &mut [u8], at: usize, text: &[u8]) -> bool {
         return put_ends::<2>(buf, at, text);
     }
     len == 0 || put_ends::<1>(buf, at, text)
+}
+
+/// Stores a text of more than 32 bytes, up to where a byte may need an escape; whether none may.
+#[inline(always)]
+fn put_long_plain(buf: &mut [u8], at: usize, text: &[u8]) -> bool {
+    let mut done = 0;
+    while text.len() - done > 32 {
+        if !put_block::<16>(buf, at + done, text, done) {
+            return false;
+        }
+        done += 16;
+    }
+    put_ends::<16>(buf, at + done, &text[done..])
+}
+
+/// Stores a text at a place of the buffer, where none of its bytes may need an escape; else a part of it.
+#[inline(always)]
+pub(crate) fn put_plain(buf: &mut [u8], at: usize, text: &[u8]) -> bool {
+    if text.len() > 32 {
+        return put_long_plain(buf, at, text);
+    }
+    put_text(buf, at, text)
 }

@@ -4,7 +4,7 @@
 //! An escape is made in six bytes, of which some count, as by the writer of the toolchain's crate `json`. Here all six
 //! are stored. Characters have escapes too that show nothing, or that turn what stands beside them.
 
-use crate::shown::block::put_exactly;
+use crate::shown::block::{put_byte, put_exactly, put_plain};
 
 /// What stands behind the backslash where a byte has an escape of two bytes; else 0.
 #[inline(always)]
@@ -120,15 +120,24 @@ fn may_escape(byte: u8) -> bool {
     matches!(byte, 0..=0x1f | b'"' | b'\\' | 0x7f | 0xc2 | 0xd8 | 0xe2)
 }
 
+/// Whether the escape of a byte is a backslash and the byte itself.
+#[inline(always)]
+fn is_slashed(byte: u8) -> bool {
+    byte == b'"' || byte == b'\\'
+}
+
 /// Stores a byte of a text, or what begins there and has an escape; where it ends in both.
 #[inline(always)]
 fn put_next(buf: &mut [u8], at: usize, text: &[u8], from: usize) -> (usize, usize) {
     let byte = text[from];
+    if is_slashed(byte) {
+        let second = put_byte(buf, at, b'\\');
+        return (put_byte(buf, second, byte), from + 1);
+    }
     if may_escape(byte) {
         return put_escape(buf, at, text, from);
     }
-    buf[at] = byte;
-    (at + 1, from + 1)
+    (put_byte(buf, at, byte), from + 1)
 }
 
 /// Stores a few bytes of a text, one by one, up to a place, or up to the end of a character that stands there.
@@ -171,4 +180,19 @@ pub(crate) fn put_escaped(
         done = step.1;
     }
     put_few(buf, end, text, done, to)
+}
+
+/// Stores the same: at once, where none of these bytes may need an escape.
+#[inline(always)]
+pub(crate) fn put_between(
+    buf: &mut [u8],
+    at: usize,
+    text: &[u8],
+    from: usize,
+    to: usize,
+) -> (usize, usize) {
+    if from <= to && put_plain(buf, at, &text[from..to]) {
+        return (at + (to - from), to);
+    }
+    put_escaped(buf, at, text, from, to)
 }

@@ -5,8 +5,8 @@
 //! a name and a number in one call, and escapes in parts.
 
 use crate::rattle::prelude::Vec;
-use crate::shown::block::put_text;
-use crate::shown::escape::put_escaped;
+use crate::shown::block::{put_byte, put_plain, put_text};
+use crate::shown::escape::{put_between, put_escaped};
 use crate::rattle::itoa::Buffer;
 use crate::rattle::alloc::AllocError;
 
@@ -38,13 +38,6 @@ fn reserve(bytes: &mut Vec<u8>, len: usize, more: usize) -> Result<(), AllocErro
     grow(bytes, len, more)
 }
 
-/// Stores a byte.
-#[inline(always)]
-pub(crate) fn put_byte(buf: &mut [u8], at: usize, byte: u8) -> usize {
-    buf[at] = byte;
-    at + 1
-}
-
 /// Stores a comma, where one is due.
 #[inline(always)]
 fn put_comma(buf: &mut [u8], at: usize, is_due: bool) -> usize {
@@ -64,14 +57,43 @@ fn put_quote(buf: &mut [u8], at: usize, comma: bool) -> usize {
     quote + 1
 }
 
+/// Stores a text where none of its bytes may need an escape. Of a key this is known, and no byte is looked at.
+#[inline(always)]
+fn put_known<const IS_KEY: bool>(buf: &mut [u8], at: usize, text: &[u8]) -> bool {
+    if IS_KEY {
+        put_text(buf, at, text);
+        return true;
+    }
+    put_plain(buf, at, text)
+}
+
 /// Stores a text in quotes, where none of its bytes may need an escape.
 #[inline(always)]
-fn put_quoted(buf: &mut [u8], at: usize, comma: bool, text: &[u8]) -> Option<usize> {
+fn put_quoted<const IS_KEY: bool>(
+    buf: &mut [u8],
+    at: usize,
+    comma: bool,
+    text: &[u8],
+) -> Option<usize> {
     let start = put_quote(buf, at, comma);
-    if !put_text(buf, start, text) {
+    if !put_known::<IS_KEY>(buf, start, text) {
         return None;
     }
     Some(put_byte(buf, start + text.len(), b'"'))
+}
+
+/// Stores a name in quotes and a colon, where none of its bytes may need an escape.
+#[inline(always)]
+fn put_name<const IS_KEY: bool>(
+    buf: &mut [u8],
+    at: usize,
+    comma: bool,
+    name: &[u8],
+) -> Option<usize> {
+    match put_quoted::<IS_KEY>(buf, at, comma, name) {
+        Some(end) => Some(put_byte(buf, end, b':')),
+        None => None,
+    }
 }
 
 /// Stores the digit of a number below 10.
@@ -127,25 +149,6 @@ pub(crate) fn put_number(buf: &mut [u8], at: usize, value: u64) -> usize {
     put_digits(buf, at, value)
 }
 
-/// Stores a name in quotes and a colon, where none of its bytes may need an escape. Of a key this is known, and no byte
-/// is looked at.
-#[inline(always)]
-fn put_name<const IS_KEY: bool>(
-    buf: &mut [u8],
-    at: usize,
-    comma: bool,
-    name: &[u8],
-) -> Option<usize> {
-    let start = put_quote(buf, at, comma);
-    let is_plain = put_text(buf, start, name);
-    let stands = IS_KEY | is_plain;
-    if !stands {
-        return None;
-    }
-    let end = put_byte(buf, start + name.len(), b'"');
-    Some(put_byte(buf, end, b':'))
-}
-
 /// Adds a name and, after a colon, a number, where there is room and the name needs no escape; else nothing.
 #[inline(always)]
 pub(crate) fn try_numbered<const IS_KEY: bool>(
@@ -182,7 +185,7 @@ pub(crate) fn try_named<const IS_KEY: bool>(
     }
     let buf = bytes.as_mut_slice();
     match put_name::<IS_KEY>(buf, len, comma, front) {
-        Some(start) => put_quoted(buf, start, false, text),
+        Some(start) => put_quoted::<false>(buf, start, false, text),
         None => None,
     }
 }
@@ -224,7 +227,7 @@ pub(crate) fn try_string(bytes: &mut Vec<u8>, len: usize, comma: bool, text: &[u
     if text.len() + 3 > bytes.len() - len {
         return None;
     }
-    put_quoted(bytes.as_mut_slice(), len, comma, text)
+    put_quoted::<false>(bytes.as_mut_slice(), len, comma, text)
 }
 
 /// Adds a byte, after a comma where one is due.
@@ -266,7 +269,7 @@ fn add_part(
     to: usize,
 ) -> Result<(usize, usize), AllocError> {
     reserve(bytes, len, (to.saturating_sub(from) + 2) * 6)?;
-    Ok(put_escaped(bytes.as_mut_slice(), len, text, from, to))
+    Ok(put_between(bytes.as_mut_slice(), len, text, from, to))
 }
 
 /// Adds a text with the escapes that it needs, part after part: no room is made that its escapes may not fill.
@@ -331,8 +334,8 @@ pub(crate) fn add_name(
     let text = name.as_bytes();
     reserve(bytes, len, text.len() + 4)?;
     let buf = bytes.as_mut_slice();
-    match put_quoted(buf, len, comma, text) {
-        Some(end) => Ok(put_byte(buf, end, b':')),
+    match put_name::<false>(buf, len, comma, text) {
+        Some(end) => Ok(end),
         None => add_escaped_name(bytes, len, comma, text),
     }
 }
@@ -393,8 +396,7 @@ pub(crate) fn add_numbered(
     let text = name.as_bytes();
     reserve(bytes, len, text.len() + 4 + DIGITS)?;
     let buf = bytes.as_mut_slice();
-    if let Some(end) = put_quoted(buf, len, comma, text) {
-        let start = put_byte(buf, end, b':');
+    if let Some(start) = put_name::<false>(buf, len, comma, text) {
         return Ok(put_number(buf, start, value));
     }
     add_escaped_numbered(bytes, len, comma, text, value)
