@@ -12,8 +12,8 @@ to=$folder/$name
 mkdir -p "$to" out
 echo 'include dist/Makefile' >"$to/Makefile"
 cp -r --parents README.md LICENSE CHANGELOG.md completions dist docs examples include man programs rust \
-    python/*.{py,toml} python/linkw*/*.py python/linkwire/py.typed tests/c tests/self_test.sh tests/program/said.* \
-    tests/second/{*.c,*.txt,streams.sh,watched.sh} "$to"
+    python/*.{py,toml} python/linkw*/*.py python/linkwire/py.typed tests/c tests/self_test.sh \
+    tests/program/{said.*,lenient.txt} tests/second/{*.c,*.txt,streams.sh,watched.sh} "$to"
 rm -rf "$to"/rust/target "$to"/rust/*/target
 read -ra programs <<<"$(sed -n 's/^PROGRAMS = //p' dist/Makefile)"
 for program in "${programs[@]}"; do
