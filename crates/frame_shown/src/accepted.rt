@@ -122,7 +122,7 @@ fn show_front(
         (attribute_members cx.now family (accepted false family bytes.now))) page.old) }
 {
     let list = accepted(alloc, bytes, family, false)?;
-    page.begin("before", Nest::Object)?;
+    page.keyed_begin("before", Nest::Object)?;
     show_attributes(cx, page, family, list.as_slice())?;
     page.end()
 }
@@ -138,7 +138,7 @@ pub fn show_before(
     ensures { OnOk result (page.new ≡ with_members (before_members cx.now bytes.now) page.old) }
 {
     let family = u8_at(bytes, 0);
-    page.number("ifi-family", family.into())?;
+    page.keyed_number("ifi-family", family.into())?;
     show_index(page, bytes)?;
     show_front(cx, page, alloc, family, rest_of(bytes))
 }

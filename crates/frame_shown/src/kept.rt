@@ -2,6 +2,7 @@
 
 ghost use Rattle.std.specs.Prelude.{◌≡◌, [], ◌∷◌, OnOk};
 ghost use Rattle.frame_shown.specs.Kept.{frame_members, text_unless_empty};
+ghost use Rattle.shown.specs.Keys.{IsKey};
 ghost use Rattle.shown.specs.Drafts.{with_value, with_members, object_of};
 
 use nla_wire::{NLA_F_NESTED, NLA_F_NET_BYTEORDER, NLA_TYPE_MASK};
@@ -15,13 +16,14 @@ const FRAME_FLAGS: [(u64, &str); 2] = [
 
 /// Adds a text where it is not empty.
 fn show_text(page: &mut Page, name: &str, text: &str) -> Result<(), AllocError>
+    requires key { IsKey name.now }
     ensures { OnOk result
         (page.new ≡ with_members (text_unless_empty name.now text.now) page.old) }
 {
     if text.is_empty() {
         return Ok(());
     }
-    page.string(name, text)
+    page.keyed_string(name, text)
 }
 
 /// Adds an attribute as it is, to a list: its number, the name that the number has, if any, its flags and its payload.
@@ -32,7 +34,7 @@ pub fn show_kept(page: &mut Page, name: &str, kind: u16, payload: &[u8]) -> Resu
         (page.new ≡ with_value [] (object_of (frame_members name.now kind payload.now)) page.old) }
 {
     page.begin("", Nest::Object)?;
-    page.number("number", (kind & NLA_TYPE_MASK).into())?;
+    page.keyed_number("number", (kind & NLA_TYPE_MASK).into())?;
     show_text(page, "name", name)?;
     page.flags(
         "flags",

@@ -105,7 +105,7 @@ fn show_texts(page: &mut Page, old: &[u8], new: &[u8]) -> Result<(), AllocError>
         (objects (change_item (state_change old.now new.now) ∷ [])) page.old) }
 {
     page.begin("", Nest::Object)?;
-    page.string("path", "state")?;
+    page.keyed_string("path", "state")?;
     page.hex("old", old)?;
     page.hex("new", new)?;
     page.end()

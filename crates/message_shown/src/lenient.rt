@@ -59,7 +59,7 @@ fn show_holder(page: &mut Page, numbers: &[u16], kind: u16) -> Result<(), AllocE
     ensures { OnOk result (page.new ≡ with_members (holder_members numbers.now kind) page.old) }
 {
     match numbers {
-        [_, _, ..] => page.string("in", name_of(kind)),
+        [_, _, ..] => page.keyed_string("in", name_of(kind)),
         _ => Ok(()),
     }
 }
@@ -83,10 +83,10 @@ fn show_refusal(page: &mut Page, refusal: &Refusal<'_>) -> Result<(), AllocError
     let error = refusal.error();
     let path = refusal.path();
     page.begin("", Nest::Object)?;
-    page.string("at", error.place)?;
-    page.string("fault", cause_name(&error.cause))?;
+    page.keyed_string("at", error.place)?;
+    page.keyed_string("fault", cause_name(&error.cause))?;
     show_cause(page, &error.cause)?;
-    page.number("offset", path.offset as u64)?;
+    page.keyed_number("offset", path.offset as u64)?;
     show_attribute(page, refusal, path.numbers())?;
     page.end()
 }

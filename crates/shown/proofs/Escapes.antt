@@ -3,8 +3,13 @@ use Rattle.std.proofs.Common.{◌≡◌, ℕ, zero, suc, ◌+◌, ◌-◌, ◌<�
 use Rattle.std.proofs.Common.{List, [], ◌∷◌, ◌++◌}
 use Rattle.std.proofs.Common.{length, take, drop, get_or, nat_lt, refl, ap, sym, ◌∙◌, subst, arith, length-drop}
 use Rattle.std.proofs.Common.{append_assoc, append-nil, get_or-drop, length-take-le, Bool, ◌||◌, ◌⊎◌, inl, inr}
+use Rattle.std.specs.Prelude.{◌&&◌, Option, Some, None}
+use Rattle.std.specs.List.{slice_get}
 use Rattle.std.specs.Bool.{OnTrue}
-use Rattle.std.proofs.lemmas.Bool.{agree_below_at, eqb-false, eqb-true, ltb-false, not-true, or_cases, or_parts}
+use Rattle.std.proofs.lemmas.Option.{slice_get_read}
+use Rattle.shown.specs.declared.escape.TheConstants.{CONTROLS}
+use Rattle.std.proofs.lemmas.Bool.{agree_below_at, and_parts, eqb-false, eqb-true, ltb-false, ltb-true}
+use Rattle.std.proofs.lemmas.Bool.{not-true, or_cases, or_parts, true≢false}
 use Rattle.std.proofs.lemmas.List.{drop_all, drop_more, drop-drop, take_all}
 use Rattle.json.specs.Filled.{Placed}
 use Rattle.json.proofs.Printed.Places.{Placed-then}
@@ -96,6 +101,45 @@ plain_part text from n within h =
     (λ k low high. ap (λ x. not (may_escape x)) (get_or-drop from text k 0) ∙ h (from + k) (omega arith) (omega arith))
     ∙ ap (λ l. take n (drop from text) ++ escape l) (drop-drop n from text)
 
+-- ** one byte
+
+pub plain_byte : (x : ℕ) → (x == 34) || (x == 92) ≡ false → 32 ≤ x → escape_byte x ≡ x ∷ []
+plain_byte x h high =
+    let parts = or_parts (x == 34) (x == 92) h in
+    escape_byte_plain x (eqb-false x 34 parts.0) (eqb-false x 92 parts.1) high
+
+are_same : List ℕ → List ℕ → Bool
+are_same [] [] = true
+are_same [] (y ∷ ys) = false
+are_same (x ∷ xs) [] = false
+are_same (x ∷ xs) (y ∷ ys) = (x == y) && are_same xs ys
+
+same : (xs ys : List ℕ) → are_same xs ys ≡ true → xs ≡ ys
+unfolding are_same
+same [] [] h = refl
+same [] (y ∷ ys) h = absurd (true≢false (sym h))
+same (x ∷ xs) [] h = absurd (true≢false (sym h))
+same (x ∷ xs) (y ∷ ys) h =
+    let parts = and_parts (x == y) (are_same xs ys) h in
+    λ i. eqb-true x y parts.0 i ∷ same xs ys parts.1 i
+
+is_right : ℕ → Option (List ℕ × ℕ) → Bool
+is_right x None = false
+is_right x (Some row) = are_same (take row.1 row.0) (escape_byte x) && nat_lt row.1 7
+
+-- all rows of the table at once
+right_row : (x : ℕ) → x < 32 → is_right x (slice_get CONTROLS x) ≡ true
+unfolding escape_byte are_same is_right
+right_row x low = agree_below_at (λ y. is_right y (slice_get CONTROLS y)) (λ y. true) 32 x refl low
+
+pub control : (x : ℕ) (row : List ℕ × ℕ) → x < 32 → row ≡ get_or CONTROLS x row
+    → (take row.1 row.0 ≡ escape_byte x) × (row.1 ≤ 6)
+unfolding is_right
+control x row low is =
+    let here = slice_get_read CONTROLS 32 x row refl low is in
+    let both = and_parts _ _ (subst (λ r. is_right x r ≡ true) here (right_row x low)) in
+    (same _ _ both.0, omega (arith, ltb-true row.1 7 both.1))
+
 -- ** what was stored
 
 pub none_stored : (a text : List ℕ) (at from : ℕ) → Escaped a a at at text from from
@@ -153,7 +197,7 @@ part_stored {a} {b} {at} text from to onwards within plain placed =
     (subst (λ n. Placed a b at (take (to - from) (drop from text)) (at + n)) long placed))
 
 -- a quote or a backslash has a backslash before it
-slashed : (x : ℕ) → (x == 34) || (x == 92) ≡ true → escape_byte x ≡ 92 ∷ x ∷ []
+pub slashed : (x : ℕ) → (x == 34) || (x == 92) ≡ true → escape_byte x ≡ 92 ∷ x ∷ []
 unfolding escape_byte
 slashed x h = go (or_cases (x == 34) (x == 92) h)
   where

@@ -10,7 +10,7 @@ use Rattle.frame_shown.proofs.accepted.show_before.Goals as goal
 pub returns : goal.returns
 returns c =
     let cx = c.args.cx.now in
-    let family = then_number (codes "ifi-family") _ _ _ _ _ c.in_ok-number.ensures
+    let family = then_number (codes "ifi-family") _ _ _ _ _ c.in_ok-keyed_number.ensures
     (c.into.ensures ∙ c.u8_at-family.ensures) refl in
     let index = then_value (codes "ifi-index") _ _ _ _ c.in_ok-show_index.ensures family in
     on_ok_weaker c.show_front.result (λ is. then_value (codes "before") _ _ _ _

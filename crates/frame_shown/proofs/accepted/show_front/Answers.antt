@@ -13,7 +13,7 @@ returns c =
     let members = attribute_members cx family (accepted false family c.args.bytes.now) in
     on_ok_weaker c.end.result (λ ends. object_ended _ members c.args.page.now _ _
     (c.in_ok-show_attributes.ensures
-    ∙ ap (λ list. with_members (attribute_members cx family list) c.begin.new.self)
+    ∙ ap (λ list. with_members (attribute_members cx family list) c.keyed_begin.new.self)
     (c.as_slice.ensures.value ∙ c.in_ok-list.ensures)
-    ∙ ap (with_members members) c.in_ok-begin.ensures) ends)
+    ∙ ap (with_members members) c.in_ok-keyed_begin.ensures) ends)
     c.end.ensures

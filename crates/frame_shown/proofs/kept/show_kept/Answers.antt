@@ -20,7 +20,7 @@ returns c =
     let behind : Members =
     (codes "flags", bits) ∷ (codes "payload", string (encode_lower c.args.payload.now) ∷ []) ∷ [] in
     let number_told = with_value (codes "number") (number (decimal (bit_and kind 0x3fff)) ∷ []) begun in
-    let numbered : c.number.new.self ≡ number_told = cc (c.in_ok-begin.ensures, c.in_ok-number.ensures) in
+    let numbered : c.keyed_number.new.self ≡ number_told = cc (c.in_ok-begin.ensures, c.in_ok-keyed_number.ensures) in
     let flagged : c.flags.new.self ≡ with_value (codes "flags") bits c.show_text.new.page = cc
     c.in_ok-flags.ensures in
     let filled : c.hex.new.self ≡ with_members (frame_members c.args.name.now kind c.args.payload.now) begun =

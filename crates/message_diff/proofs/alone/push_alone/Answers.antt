@@ -13,7 +13,7 @@ returns c =
     let head = head_of c.args.text.now in
     alone_meant c.args.front.now c.args.change.now c.args.text.now c.args.out.now.items c.push.new.self.items
     (object_told (words ++ member ∷ head) c.show_interface.new.page _ _ _
-    (members_then words [] head member c.in_ok-page.page c.show_told.new.page c.string.new.self
-    c.show_interface.new.page c.in_ok-page.ensures c.in_ok-show_told.ensures c.in_ok-string.ensures
+    (members_then words [] head member c.in_ok-page.page c.show_told.new.page c.keyed_string.new.self
+    c.show_interface.new.page c.in_ok-page.ensures c.in_ok-show_told.ensures c.in_ok-keyed_string.ensures
     c.in_ok-show_interface.ensures)
     c.in_ok-finish.ensures c.in_ok-push.ensures.items)

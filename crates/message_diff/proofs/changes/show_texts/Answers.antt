@@ -18,6 +18,6 @@ returns c =
     ∙ ap (with_value (codes "new") (string (encode_lower c.args.new.now) ∷ []))
     (c.in_ok-hex.ensures
     ∙ ap (with_value (codes "old") (string (encode_lower c.args.old.now) ∷ []))
-    (c.in_ok-string.ensures
+    (c.in_ok-keyed_string.ensures
     ∙ ap (with_value (codes "path") (string (codes "state") ∷ [])) c.in_ok-begin.ensures))) ends)
     c.end.ensures

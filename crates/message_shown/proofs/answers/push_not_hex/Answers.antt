@@ -20,7 +20,7 @@ returns-then-is_empty c =
 
 pub returns : goal.returns
 returns c =
-    object_told (words_shown c.args.front.now ++ nothex_member ∷ []) c.string.new.self _ _ _
+    object_told (words_shown c.args.front.now ++ nothex_member ∷ []) c.keyed_string.new.self _ _ _
     (member_last (words_shown c.args.front.now) nothex_member c.in_ok-page.page c.show_words.new.page _
-    c.in_ok-page.ensures c.in_ok-show_words.ensures c.in_ok-string.ensures)
+    c.in_ok-page.ensures c.in_ok-show_words.ensures c.in_ok-keyed_string.ensures)
     c.in_ok-finish.ensures c.in_ok-push.ensures.items

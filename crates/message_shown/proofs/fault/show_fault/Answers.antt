@@ -13,12 +13,12 @@ returns-in_ok-show_rest c =
     let cause = cause_members c.args.error.now.cause in
     let all = with_members ((codes "at", string c.args.error.now.place.now ∷ []) ∷ cause) c.args.page.now in
     let begun : c.show_cause.new.page ≡ all =
-    c.in_ok-show_cause.ensures ∙ ap (with_members cause) c.in_ok-string.ensures in
+    c.in_ok-show_cause.ensures ∙ ap (with_members cause) c.in_ok-keyed_string.ensures in
     let rest = c.in_ok-show_rest.ensures in
     let at = c.in-Some.at in (
       c.args.error.now.place.now,
       numbered (codes "offset") at ∷ rest.0,
-      rest.1 ∙ ap (with_members rest.0) (c.in_ok-number.ensures
+      rest.1 ∙ ap (with_members rest.0) (c.in_ok-keyed_number.ensures
           ∙ ap (λ (d : Draft). with_value (codes "offset") (number (decimal at) ∷ []) d) begun),
       λ fault. behind_found c.args.cx.now c.args.bytes.now c.args.error.now.cause at rest.0 fault
           c.in-Some.ensures.found rest.2,
@@ -29,7 +29,7 @@ returns-in_default c =
     let cause = cause_members c.args.error.now.cause in
     let begun : c.show_cause.new.page
     ≡ with_members ((codes "at", string c.args.error.now.place.now ∷ []) ∷ cause) c.args.page.now =
-    c.in_ok-show_cause.ensures ∙ ap (with_members cause) c.in_ok-string.ensures in
+    c.in_ok-show_cause.ensures ∙ ap (with_members cause) c.in_ok-keyed_string.ensures in
     let meant = c.in_default.ensures.found in (
       c.args.error.now.place.now,
       [],

@@ -16,17 +16,18 @@ returns c =
     let t = c.args.refusal.now in
     let place = c.error-error.result.place.now in
     let path = c.path-path.result in
-    let at = c.in_ok-string.ensures
+    let at = c.in_ok-keyed_string.ensures
     ∙ ap (λ (d : Draft). with_value (codes "at") (string place ∷ []) d) c.in_ok-begin.ensures in
-    let why = c.in_ok-string-2.ensures
-    ∙ ap (λ text. with_value (codes "fault") (string text ∷ []) c.string.new.self)
+    let why = c.in_ok-keyed_string-2.ensures
+    ∙ ap (λ text. with_value (codes "fault") (string text ∷ []) c.keyed_string.new.self)
     (c.cause_name.ensures ∙ ap cause_text c.error-error.ensures) in
     let counts = c.in_ok-show_cause.ensures
-    ∙ ap (λ (k : Cause). with_members (cause_members k) c.string-2.new.self) c.error-error.ensures in
+    ∙ ap (λ (k : Cause). with_members (cause_members k) c.keyed_string-2.new.self) c.error-error.ensures in
     let bytes = c.in_ok-show_attribute.ensures
-    ∙ ap (λ ns. with_members (frame_told ns t.frame) c.number.new.self) c.numbers.ensures.all in
-    let page = one_page place path t (with_begun [] Object c.args.page.now) c.string.new.self c.string-2.new.self
-    c.show_cause.new.page c.number.new.self c.show_attribute.new.page at why counts c.in_ok-number.ensures bytes in
+    ∙ ap (λ ns. with_members (frame_told ns t.frame) c.keyed_number.new.self) c.numbers.ensures.all in
+    let page = one_page place path t (with_begun [] Object c.args.page.now) c.keyed_string.new.self
+    c.keyed_string-2.new.self c.show_cause.new.page c.keyed_number.new.self c.show_attribute.new.page at why counts
+    c.in_ok-keyed_number.ensures bytes in
     on_ok_weaker c.end.result (λ ends. (
       refusal_members place path t,
       (place, path, c.path-path.ensures, refl),
