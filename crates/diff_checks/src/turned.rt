@@ -272,7 +272,7 @@ const TURNS: [Turn; 32] = [
         1,
         Compared::State,
         &[
-            r#"[{"path":"af-spec.vlan-info.flags","old":["pvid","untagged"],"#,
+            r#"[{"path":"af-spec.vlan-info.0.flags","old":["pvid","untagged"],"#,
             r#""new":["master","pvid","untagged"]}]"#,
         ],
     ),

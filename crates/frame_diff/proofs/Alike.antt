@@ -1,5 +1,5 @@
 -- What stands in the other message as it is tells nothing, and records with the same names are told in step.
-use Rattle.std.proofs.Common.{◌≡◌, ℕ, ◌+◌, Bool, true, false, List, [], ◌∷◌, ◌++◌, append_assoc, refl, sym, ap, ◌∙◌}
+use Rattle.std.proofs.Common.{◌≡◌, ℕ, Bool, true, false, List, [], ◌∷◌, ◌++◌, append_assoc, refl, sym, ap, ◌∙◌}
 use Rattle.std.proofs.Common.{map}
 use Rattle.std.specs.Prelude.{Option, Some, None, cond, option_map}
 use Rattle.shown.specs.Drafts.{Draft, Members, with_members}

@@ -14,7 +14,7 @@ use Rattle.shown.specs.Drafts.{Members}
 use Rattle.frame_shown.specs.Frames.{levels}
 use Rattle.frame_shown.specs.Kept.{frame_members}
 use Rattle.frame_shown.specs.Messages.{address_len, header_members, with_address_len}
-use Rattle.frame_shown.specs.Tables.{Known, entry_list, is_kept, kind_shown, row_in}
+use Rattle.frame_shown.specs.Tables.{Known, entry_list, is_kept, kind_shown, row_in, lists_in, is_each}
 use Rattle.frame_shown.specs.Values.{behind_settings, counter_names, counter_width, counters_shown, event_in}
 use Rattle.frame_shown.specs.Values.{fields_in, fields_shown, hexadecimal, info_of}
 use Rattle.frame_shown.specs.Values.{ipv6_named}
@@ -32,12 +32,14 @@ use Rattle.frame_diff.specs.Counters.{action_in, fields_left, is_clear, is_passe
 use Rattle.frame_diff.specs.Forests.{AreApart, Forest, Held, Member, Step, comes, find, forest, is_step, left_of}
 use Rattle.frame_diff.specs.Forests.{rest_step}
 use Rattle.frame_diff.specs.Members.{Inner, Reading, alone, as_object, attributes_in, earlier, entries_in, entry_of}
+use Rattle.frame_diff.specs.Members.{is_unnamed, array_at, arrays_in, arrays_of, value_with, values_with}
 use Rattle.frame_diff.specs.Members.{fields, fields_kept, form_inside, frame_member, held_by, held_inside}
-use Rattle.frame_diff.specs.Members.{ipv6_inside, is_nest}
+use Rattle.frame_diff.specs.Members.{are_plain, ipv6_inside, values_inside}
 use Rattle.frame_diff.specs.Members.{is_some}
 use Rattle.frame_diff.specs.Members.{kept_by, kept_in, list_at, list_members, meaning_inside, members_in}
 use Rattle.frame_diff.specs.Members.{message_forest, message_members, named, named_by, named_in, placed, placed_one}
 use Rattle.frame_diff.specs.Members.{Parts, places, reading, refused_in, refused_step, unless_none, way_inside}
+use Rattle.frame_shown.specs.Items.{Lists}
 
 -- ** those of a list of members
 
@@ -107,11 +109,7 @@ each_held F [] h = tt
 each_held F (x ∷ xs) h = held_append (F x) (flat_map F xs) (h x) (each_held F xs h)
 
 one_apart : (n : ℕ) (held : Held) → AreApart held.1 → AllApart (placed_one n (Some held))
-one_apart n held h = by (is_nest held.0)
-  where
-    by : (b : Bool) → AllApart (cond b ((Step.place n, held) ∷ []) [])
-    by true = (h, tt)
-    by false = tt
+one_apart n held h = (h, tt)
 
 placed_apart : (n : ℕ) (hs : List (Option Held)) → HeldApart hs → AllApart (placed n hs)
 placed_apart n [] h = tt
@@ -126,6 +124,13 @@ unless_apart : (s : Step) (value : List Token) (f : Forest) → AreApart f → A
 unless_apart s value Forest.none h = tt
 unless_apart s value Forest.passed h = tt
 unless_apart s value (Forest.tree a b c d) h = (h, tt)
+
+inside_apart : (hs : List (Option Held)) → HeldApart hs → AreApart (values_inside hs)
+inside_apart hs h = by (are_plain hs)
+  where
+    by : (b : Bool) → AreApart (cond b Forest.none (places hs))
+    by true = tt
+    by false = places_apart hs h
 
 list_apart : (s : Step) (hs : List (Option Held)) → HeldApart hs → AllApart (list_at s hs)
 list_apart s hs h = unless_apart s _ (places hs) (places_apart hs h)
@@ -199,7 +204,7 @@ held_apart inner cx action way p h = by (is_clear action)
 
 named_by_apart : (r : Reading) (action : Action) (row : Known) (f : Frame) → InnerApart r.inner
     → AllApart (named_by r action row f)
-named_by_apart r action row f h = by (is_kept row.1 f.payload)
+named_by_apart r action row f h = by (is_unnamed row.1 f.payload)
   where
     by : (b : Bool) → AllApart (cond b [] ((Step.name row.0, held_by r action row.1 f.payload) ∷ []))
     by true = tt
@@ -211,6 +216,7 @@ named_in_apart r list fs h = each_apart (frame_member r list) fs
 
 alone_apart : (s : Step) (held : Held) → AreApart held.1 → HeldApart (alone (s, held) ∷ [])
 alone_apart (Step.name name) held h = ((refl, h, tt), tt)
+alone_apart (Step.array name) held h = tt
 alone_apart (Step.part sort text) held h = tt
 alone_apart (Step.place n) held h = tt
 alone_apart Step.repeated held h = tt
@@ -241,12 +247,39 @@ kept_in_apart r list fs =
     each_held (λ f. kept_by (is_passed r.is_state list (number f)) r.around (row_in r.around list (number f)) f) fs
     (λ f. kept_by_apart (is_passed r.is_state list (number f)) r.around (row_in r.around list (number f)) f)
 
+value_with_apart : (r : Reading) (list : Shape) (n : ℕ) → InnerApart r.inner → (f : Frame)
+    → HeldApart (value_with r list n f)
+value_with_apart r list n h f = by (number f == n) (is_each row.1)
+  where
+    row : Known
+    row = row_in r.around list (number f)
+
+    action : Action
+    action = action_in r.is_state list (number f)
+
+    by : (b c : Bool) → HeldApart (cond b (cond c (Some (held_by r action row.1 f.payload) ∷ []) []) [])
+    by true true = (held_apart r.inner r.around action row.1 f.payload h, tt)
+    by true false = tt
+    by false c = tt
+
+array_apart : (name : List ℕ) (hs : List (Option Held)) → HeldApart hs → AllApart (array_at name hs)
+array_apart name [] h = tt
+array_apart name (x ∷ hs) h = (inside_apart (x ∷ hs) h, tt)
+
+arrays_apart : (r : Reading) (list : Shape) (lists : Lists) (fs : List Frame) → InnerApart r.inner
+    → AllApart (arrays_of r list lists fs)
+arrays_apart r list lists fs h = each_apart (λ l. array_at l.1 (values_with r list l.0 fs)) lists
+    (λ l. array_apart l.1 (values_with r list l.0 fs)
+    (each_held (value_with r list l.0) fs (value_with_apart r list l.0 h)))
+
 members_apart : (r : Reading) (list : Shape) (fs : List Frame) → InnerApart r.inner
     → AllApart (members_in r list fs)
 members_apart r list fs h =
     let ms = named_in r list fs in
-    append_apart (ms ++ list_at Step.repeated (earlier ms)) (list_at Step.other (kept_in r list fs))
-    (append_apart ms (list_at Step.repeated (earlier ms)) (named_in_apart r list fs h)
+    let lists = arrays_in r list fs in
+    append_apart (ms ++ lists ++ list_at Step.repeated (earlier ms)) (list_at Step.other (kept_in r list fs))
+    (append_apart (ms ++ lists) (list_at Step.repeated (earlier ms))
+    (append_apart ms lists (named_in_apart r list fs h) (arrays_apart r list (lists_in r.around list) fs h))
     (list_apart Step.repeated (earlier ms) (earlier_apart ms (named_in_apart r list fs h))))
     (list_apart Step.other (kept_in r list fs) (kept_in_apart r list fs))
 
@@ -270,13 +303,13 @@ entries_apart r list fs h = each_held (λ f. cond (number f == 1) (Some (entry_o
 pub list_members_apart : (r : Reading) (list : Shape) (fs : List Frame) → InnerApart r.inner
     → AllApart (list_members r list fs)
 list_members_apart r (Shapes.Listed group table) fs h = (
-  places_apart (map (λ (m : Member). Some m.1) (named_in r (Shapes.Listed group table) fs))
+  inside_apart (map (λ (m : Member). Some m.1) (named_in r (Shapes.Listed group table) fs))
       (values_apart (named_in r (Shapes.Listed group table) fs) (named_in_apart r (Shapes.Listed group table) fs h)),
   list_apart (rest_step (codes "other")) (kept_in r (Shapes.Listed group table) fs)
       (kept_in_apart r (Shapes.Listed group table) fs),
 )
 list_members_apart r (Shapes.Entries group) fs h =
-    (places_apart (entries_in r (entry_list group) fs) (entries_apart r (entry_list group) fs h), tt)
+    (inside_apart (entries_in r (entry_list group) fs) (entries_apart r (entry_list group) fs h), tt)
 list_members_apart r (Shapes.Message family) fs h = members_apart r (Shapes.Message family) fs h
 list_members_apart r (Shapes.Own table) fs h = members_apart r (Shapes.Own table) fs h
 list_members_apart r (Shapes.Of place) fs h = members_apart r (Shapes.Of place) fs h

@@ -2,13 +2,13 @@
 use Rattle.std.proofs.Common.{◌≡◌, ℕ, Bool, true, false, List, [], ◌∷◌, ◌++◌, refl, sym, ap, ◌∙◌}
 use Rattle.std.specs.Prelude.{Option, Some, None, cond, not, option_map, ◌&&◌}
 use Rattle.nla_wire.specs.Frames.{Frame, number}
-use Rattle.frame_shown.specs.Tables.{is_kept, row_in}
+use Rattle.frame_shown.specs.Tables.{row_in}
 use Rattle.frame_shown.specs.Values.{Nesting}
 use Rattle.frame_shown.specs.declared.form.Around.{Around}
 use Rattle.frame_shown.specs.declared.form.List.{List as Shape}
 use Rattle.frame_diff.specs.Beside.{held_of, is_named, last_named}
 use Rattle.frame_diff.specs.Forests.{Forest, Held, Member, Step, comes, find, forest, is_step, is_text}
-use Rattle.frame_diff.specs.Members.{Inner, Reading, named_in}
+use Rattle.frame_diff.specs.Members.{Inner, Reading, named_in, is_unnamed}
 use Rattle.frame_diff.proofs.Apart.{find_none}
 use Rattle.frame_diff.proofs.Steps.{step_same}
 
@@ -98,7 +98,7 @@ module _ (cx : Around) (list : Shape) (name : List ℕ) where
         → last_at (Step.name name) (named_in r list fs) ≡ option_map (held_of r list) (last_of None fs)
     last_is [] = refl
     last_is (f ∷ fs) =
-        by (is_kept (row_in cx list (number f)).1 f.payload) (is_text (row_in cx list (number f)).0 name) refl
+        by (is_unnamed (row_in cx list (number f)).1 f.payload) (is_text (row_in cx list (number f)).0 name) refl
         (last_is fs)
       where
         by : (kept same : Bool) → is_text (row_in cx list (number f)).0 name ≡ same

@@ -5,17 +5,18 @@ use Rattle.json.specs.Token.{Token}
 use Rattle.nla_wire.specs.Frames.{Frame}
 use Rattle.nla_wire.specs.Items.{items}
 use Rattle.link_info.specs.Tables.{frames_in}
-use Rattle.frame_shown.specs.Tables.{group_name}
+use Rattle.frame_shown.specs.Items.{Lists}
+use Rattle.frame_shown.specs.Tables.{group_name, lists_in}
 use Rattle.frame_shown.specs.declared.form.Around.{Around}
 use Rattle.frame_shown.specs.declared.form.List.{List as Shape}
 use Rattle.frame_shown.specs.declared.form.List.TheVariants as Shapes
-use Rattle.frame_diff.specs.Forests.{Forest, Held, Member, Step, field_step, find}
+use Rattle.frame_diff.specs.Forests.{Forest, Held, Member, Step, comes, field_step, find}
 use Rattle.frame_diff.specs.Forests.{forest, is_step, left_of, rest_step, values_step}
 use Rattle.frame_diff.specs.Groups.{is_group}
 use Rattle.frame_diff.specs.Inside.{HoldsNoField, above, has_none, inside_list, is_of_object}
 use Rattle.frame_diff.specs.Items.{items_told}
-use Rattle.frame_diff.specs.Members.{Reading, earlier, group_of, is_some, kept_in, list_at, list_members}
-use Rattle.frame_diff.specs.Members.{members_in, named_in, places, unless_none}
+use Rattle.frame_diff.specs.Members.{Reading, earlier, group_of, is_some, kept_in, list_at, list_members, arrays_in}
+use Rattle.frame_diff.specs.Members.{arrays_of, members_in, named_in, places, unless_none}
 use Rattle.frame_diff.specs.Repeated.{members_at}
 use Rattle.frame_diff.specs.Walked.{Holding, HoldsApart, Showing, reading_at}
 use Rattle.frame_diff.specs.declared.side.Side.{Side}
@@ -24,7 +25,7 @@ use Rattle.frame_diff.proofs.Apart.{find_none, left_apart, list_members_apart}
 use Rattle.frame_diff.proofs.Inside.{AreAt, append_at, at_weaker, find_left, forest_all, forest_some}
 use Rattle.frame_diff.proofs.Inside.{left_some}
 use Rattle.frame_diff.proofs.Inside.{left_told, none_at, same_told}
-use Rattle.frame_diff.proofs.Parts.{AreNames, named_names}
+use Rattle.frame_diff.proofs.Parts.{AreArrays, AreNames, arrays_arrays, named_names}
 
 -- ** steps
 
@@ -34,11 +35,13 @@ IsOfObject s = is_of_object s ≡ true
 
 object_not_part : (s t : Step) → is_of_object s ≡ true → is_of_object t ≡ false → is_step s t ≡ false
 object_not_part (Step.name a) (Step.part n b) h k = refl
+object_not_part (Step.array a) (Step.part n b) h k = refl
 object_not_part (Step.place m) (Step.part n b) h k = refl
 object_not_part Step.repeated (Step.part n b) h k = refl
 object_not_part Step.other (Step.part n b) h k = refl
 object_not_part (Step.part m a) (Step.part n b) h k = absurd cc
 object_not_part s (Step.name b) h k = absurd cc
+object_not_part s (Step.array b) h k = absurd cc
 object_not_part s (Step.place n) h k = absurd cc
 object_not_part s Step.repeated h k = absurd cc
 object_not_part s Step.other h k = absurd cc
@@ -57,11 +60,18 @@ names_of_object : (ms : List Member) → AreNames ms → AreAt IsOfObject ms
 names_of_object [] names = tt
 names_of_object (m ∷ ms) names = (ap is_of_object names.0.1, names_of_object ms names.1)
 
+arrays_of_object : (ms : List Member) → AreArrays ms → AreAt IsOfObject ms
+arrays_of_object [] arrays = tt
+arrays_of_object (m ∷ ms) arrays = (ap is_of_object arrays.0.1, arrays_of_object ms arrays.1)
+
 pub members_of_object : (r : Reading) (list : Shape) (fs : List Frame) → AreAt IsOfObject (members_in r list fs)
 members_of_object r list fs =
     let ms = named_in r list fs in
-    append_at IsOfObject (ms ++ list_at Step.repeated (earlier ms)) (list_at Step.other (kept_in r list fs))
-    (append_at IsOfObject ms (list_at Step.repeated (earlier ms)) (names_of_object ms (named_names r list fs))
+    let lists = arrays_in r list fs in
+    append_at IsOfObject (ms ++ lists ++ list_at Step.repeated (earlier ms)) (list_at Step.other (kept_in r list fs))
+    (append_at IsOfObject (ms ++ lists) (list_at Step.repeated (earlier ms))
+    (append_at IsOfObject ms lists (names_of_object ms (named_names r list fs))
+    (arrays_of_object lists (arrays_arrays r list (lists_in r.around list) fs)))
     (list_steps IsOfObject Step.repeated (earlier ms) refl))
     (list_steps IsOfObject Step.other (kept_in r list fs) refl)
 
@@ -132,6 +142,15 @@ above_apart nest inner apart is_state cx list p =
 
 -- ** a list without members
 
+no_arrays : (r : Reading) (list : Shape) (lists : Lists) → arrays_of r list lists [] ≡ []
+no_arrays r list [] = refl
+no_arrays r list (l ∷ lists) = no_arrays r list lists
+
+none_without : (r : Reading) (list : Shape) → has_none (left_of false (members_in r list [])) ≡ true
+none_without r list =
+    ap (λ ms. has_none (left_of false (ms ++ list_at Step.repeated [] ++ list_at Step.other [])))
+    (no_arrays r list (lists_in r.around list))
+
 without : (r : Reading) (list : Shape) (fs : List Frame)
     → has_none (inner_of r list fs) ≡ (not (is_group list) && not (is_some fs))
 without r (Shapes.Listed group table) fs =
@@ -143,9 +162,9 @@ without r (Shapes.Message family) [] = refl
 without r (Shapes.Message family) (f ∷ fs) = left_some (list_members r (Shapes.Message family) (f ∷ fs))
 without r (Shapes.Own table) [] = refl
 without r (Shapes.Own table) (f ∷ fs) = left_some (list_members r (Shapes.Own table) (f ∷ fs))
-without r (Shapes.Of place) [] = refl
+without r (Shapes.Of place) [] = none_without r (Shapes.Of place)
 without r (Shapes.Of place) (f ∷ fs) = left_some (list_members r (Shapes.Of place) (f ∷ fs))
-without r Shapes.ProtoInet6 [] = refl
+without r Shapes.ProtoInet6 [] = none_without r Shapes.ProtoInet6
 without r Shapes.Refused [] = refl
 without r Shapes.ProtoInet6 (f ∷ fs) = left_some (list_members r Shapes.ProtoInet6 (f ∷ fs))
 without r Shapes.Refused (f ∷ fs) = left_some (list_members r Shapes.Refused (f ∷ fs))
@@ -158,7 +177,59 @@ above_without nest inner is_state cx list p = without (reading_at nest inner is_
 
 -- ** objects beside each other
 
+part_apart : (n : ℕ) (text : List ℕ) (s : Step) → is_of_object s ≡ true → is_step (Step.part n text) s ≡ false
+part_apart n text (Step.part m other) of = absurd cc
+part_apart n text (Step.name name) of = refl
+part_apart n text (Step.array name) of = refl
+part_apart n text (Step.place m) of = refl
+part_apart n text Step.repeated of = refl
+part_apart n text Step.other of = refl
+
+-- a list of values has no member of an object
+group_lacks : (r : Reading) (list : Shape) (fs : List Frame) (s : Step) → is_group list ≡ true
+    → is_of_object s ≡ true → comes s (list_members r list fs) ≡ false
+group_lacks r (Shapes.Listed group table) fs s is of =
+    none_at s (list_members r (Shapes.Listed group table) fs) (
+      part_apart 2 (group_name group) s of,
+      list_steps (λ t. is_step t s ≡ false) (rest_step (codes "other")) (kept_in r (Shapes.Listed group table) fs)
+          (part_apart 3 (codes "other") s of),
+    )
+group_lacks r (Shapes.Entries group) fs s is of =
+    none_at s (list_members r (Shapes.Entries group) fs) (part_apart 1 (group_name group) s of, tt)
+group_lacks r (Shapes.Message family) fs s is of = absurd cc
+group_lacks r (Shapes.Own table) fs s is of = absurd cc
+group_lacks r (Shapes.Of place) fs s is of = absurd cc
+group_lacks r Shapes.ProtoInet6 fs s is of = absurd cc
+group_lacks r Shapes.Refused fs s is of = absurd cc
+group_lacks r (Shapes.Info link port) fs s is of = absurd cc
+
 module _ (nest : Showing) (inner : Holding) (is_state : Bool) where
+  pub object_found : (other : Attributes) (s : Step) → is_group other.list ≡ false
+      → find s (forest (members_at nest inner is_state other))
+      ≡ find s (inside_list (above nest inner) is_state (Some other))
+  object_found other s object =
+      let r = reading_at nest inner is_state other.around.now in
+      let fs = frames_in (items other.bytes.now) in
+      ap (λ ms. find s (forest ms)) (sym (object_members r other.list fs object))
+      ∙ sym (find_left s (is_some fs) (list_members r other.list fs))
+
+  -- where no object stands beside
+  pub nothing_found : (a : Attributes) (s : Step) → items a.bytes.now ≡ []
+      → find s (forest (members_at nest inner is_state a)) ≡ None
+  nothing_found a s none =
+      let r = reading_at nest inner is_state a.around.now in
+      ap (λ xs. find s (forest (members_in r a.list (frames_in xs)))) none
+      ∙ ap (λ ms. find s (forest (ms ++ list_at Step.repeated [] ++ list_at Step.other [])))
+      (no_arrays r a.list (lists_in a.around.now a.list))
+
+  pub group_found : (other : Attributes) (s : Step) → is_group other.list ≡ true → is_of_object s ≡ true
+      → find s (inside_list (above nest inner) is_state (Some other)) ≡ None
+  group_found other s is of =
+      let r = reading_at nest inner is_state other.around.now in
+      let fs = frames_in (items other.bytes.now) in
+      find_left s (is_some fs) (list_members r other.list fs)
+      ∙ find_none s (list_members r other.list fs) (group_lacks r other.list fs s is of)
+
   pub object_told : (side : Side) (text : List ℕ) (own others : Attributes) (beside : Option Attributes)
       → is_group own.list ≡ false
       → ((s : Step) → is_of_object s ≡ true → find s (forest (members_at nest inner is_state others))

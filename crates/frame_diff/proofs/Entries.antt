@@ -11,7 +11,7 @@ use Rattle.link_info.specs.Tables.{frames_in}
 use Rattle.shown.specs.Drafts.{Draft, Members, object_of, with_members, with_value}
 use Rattle.frame_shown.specs.Items.{objects}
 use Rattle.frame_shown.specs.Kept.{frame_members}
-use Rattle.frame_shown.specs.Tables.{is_kept, kind_shown, row_in}
+use Rattle.frame_shown.specs.Tables.{row_in}
 use Rattle.frame_shown.specs.declared.form.Around.{Around}
 use Rattle.frame_shown.specs.declared.form.List.{List as Shape}
 use Rattle.frame_shown.proofs.Items.{on_next}
@@ -19,7 +19,7 @@ use Rattle.frame_diff.specs.Counters.{is_passed}
 use Rattle.frame_diff.specs.Differences.{inside_in}
 use Rattle.frame_diff.specs.Forests.{Forest, Held, Step, comes, find, forest}
 use Rattle.frame_diff.specs.Items.{items_told, joined}
-use Rattle.frame_diff.specs.Members.{as_object, fields, is_nest, kept_by, placed, places}
+use Rattle.frame_diff.specs.Members.{as_object, fields, kept_by, placed, places}
 use Rattle.frame_diff.specs.Values.{IsKeptBeside, KeepsOnAt, entry_held, entry_items, has_place, kept_among, kept_at}
 use Rattle.frame_diff.specs.Values.{kept_from, kept_members, kept_of, more_by, nth}
 use Rattle.frame_diff.specs.Walked.{held_items}
@@ -113,30 +113,20 @@ below k n less = by (k == n) refl
 pub later : (n k : ℕ) → n < k → (hs : List (Option Held)) → comes (Step.place n) (placed k hs) ≡ false
 later n k less [] = refl
 later n k less (None ∷ hs) = later n (k + 1) (omega arith) hs
-later n k less (Some held ∷ hs) = by (is_nest held.0) (later n (k + 1) (omega arith) hs)
-  where
-    by : (b : Bool) → comes (Step.place n) (placed (k + 1) hs) ≡ false
-        → comes (Step.place n) (cond b ((Step.place k, held) ∷ []) [] ++ placed (k + 1) hs) ≡ false
-    by true h = ap (λ x. cond x true (comes (Step.place n) (placed (k + 1) hs))) (not_same k n less) ∙ h
-    by false h = h
+later n k less (Some held ∷ hs) =
+    ap (λ x. cond x true (comes (Step.place n) (placed (k + 1) hs))) (not_same k n less)
+    ∙ later n (k + 1) (omega arith) hs
 
--- each is an object or a list
-abbrev pub AreNests : List (Option Held) → Type 0
-AreNests [] = Unit {0}
-AreNests (None ∷ hs) = AreNests hs
-AreNests (Some held ∷ hs) = (is_nest held.0 ≡ true) × AreNests hs
-
-pub found_place : (hs : List (Option Held)) → AreNests hs → (n m k : ℕ) → k ≡ n + m
+pub found_place : (hs : List (Option Held)) (n m k : ℕ) → k ≡ n + m
     → find (Step.place k) (forest (placed m hs)) ≡ nth n hs
-found_place [] nests n m k is = refl
-found_place (None ∷ hs) nests zero m k is =
+found_place [] n m k is = refl
+found_place (None ∷ hs) zero m k is =
     find_none (Step.place k) (placed (m + 1) hs) (later k (m + 1) (omega (arith, is)) hs)
-found_place (None ∷ hs) nests (suc n) m k is = found_place hs nests n (m + 1) k (omega (arith, is))
-found_place (Some held ∷ hs) nests n m k is =
-    ap (λ b. find (Step.place k) (forest (cond b ((Step.place m, held) ∷ []) [] ++ placed (m + 1) hs))) nests.0
-    ∙ ap (λ b. find (Step.place k) (cond b (forest (placed (m + 1) hs))
+found_place (None ∷ hs) (suc n) m k is = found_place hs n (m + 1) k (omega (arith, is))
+found_place (Some held ∷ hs) n m k is =
+    ap (λ b. find (Step.place k) (cond b (forest (placed (m + 1) hs))
     (Forest.tree (Step.place m) held.0 held.1 (forest (placed (m + 1) hs))))) (later m (m + 1) (omega arith) hs)
-    ∙ by n is (λ i h. found_place hs nests.1 i (m + 1) k h)
+    ∙ by n is (λ i h. found_place hs i (m + 1) k h)
   where
     by : (i : ℕ) → k ≡ i + m
         → ((j : ℕ) → k ≡ j + (m + 1) → find (Step.place k) (forest (placed (m + 1) hs)) ≡ nth j hs)
@@ -149,23 +139,6 @@ found_place (Some held ∷ hs) nests n m k is =
         ap (λ b. cond b (Some held) (find (Step.place k) (forest (placed (m + 1) hs)))) other
         ∙ rest i (omega (arith, h))
 
-kept_nests : (is_state : Bool) (cx : Around) (list : Shape) (fs : List Frame)
-    → AreNests (kept_among is_state cx list fs)
-kept_nests is_state cx list [] = tt
-kept_nests is_state cx list (f ∷ fs) =
-    by (is_kept (row_in cx list (number f)).1 f.payload) (is_passed is_state list (number f))
-    (kept_nests is_state cx list fs)
-  where
-    own : Held
-    own = as_object (frame_members (row_in cx list (number f)).0 (kind_shown (row_in cx list (number f)).1 f.kind)
-        f.payload)
-
-    by : (kept passed : Bool) → AreNests (kept_among is_state cx list fs)
-        → AreNests (cond kept (cond passed None (Some own) ∷ []) [] ++ kept_among is_state cx list fs)
-    by false passed rest = rest
-    by true true rest = rest
-    by true false rest = (refl, rest)
-
 -- ** what one tells at its place, and those behind it
 
 object_told : (side : Side) (text : List ℕ) (v : List Token) (name : List ℕ) (kind : ℕ) (p : List ℕ)
@@ -175,12 +148,12 @@ object_told : (side : Side) (text : List ℕ) (v : List Token) (name : List ℕ)
 object_told side text v [] kind p beside = refl
 object_told side text v (x ∷ name) kind p beside = refl
 
-entry_told : (side : Side) (text : List ℕ) (e : Entry) (n : ℕ) (hs gs : List (Option Held)) → AreNests gs
+entry_told : (side : Side) (text : List ℕ) (e : Entry) (n : ℕ) (hs gs : List (Option Held))
     → items_told side text (forest (placed n (entry_held e ++ hs))) (places gs)
     ≡ entry_items side text n gs e ++ items_told side text (forest (placed (more_by e n) hs)) (places gs)
-entry_told side text Entries.Named n hs gs nests = refl
-entry_told side text Entries.Passed n hs gs nests = refl
-entry_told side text (Entries.Kept k) n hs gs nests =
+entry_told side text Entries.Named n hs gs = refl
+entry_told side text Entries.Passed n hs gs = refl
+entry_told side text (Entries.Kept k) n hs gs =
     let own : Held = as_object (kept_members k) in
     let rest = items_told side text (forest (placed (n + 1) hs)) (places gs) in
     last_further side text (places gs) (Step.place n, own) (placed (n + 1) hs)
@@ -190,7 +163,7 @@ entry_told side text (Entries.Kept k) n hs gs nests =
     ∙ object_told side (joined text (decimal n)) own.0 k.name.now k.kind k.payload.now
     (find (Step.place n) (places gs))
     ∙ ap (λ h. items_told side (joined text (decimal n)) (fields (kept_members k)) (inside_in h))
-    (found_place gs nests n 0 n (omega arith)))
+    (found_place gs n 0 n (omega arith)))
 
 pub entry_next : (is_state : Bool) (cx : Around) (list : Shape) (f : Frame) (e : Entry) (it next : List Item)
     → it ≡ Ok f ∷ next
@@ -213,7 +186,7 @@ entry_next is_state cx list f e it next here looked theirs shape gs side text n 
     (places others))) (objects told) (objects rest) page new all
     (ap (λ xs. objects (items_told side text (forest (placed n xs)) (places others)))
     (kept_split is_state cx list f e it next here looked)
-    ∙ ap objects (entry_told side text e n hs others (kept_nests is_state theirs shape gs)
+    ∙ ap objects (entry_told side text e n hs others
     ∙ ap (λ k. told ++ items_told side text (forest (placed k hs)) (places others)) (sym more))
     ∙ map-append (λ o. ([], object_of o)) told rest)
     was then

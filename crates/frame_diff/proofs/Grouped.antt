@@ -1,7 +1,8 @@
 -- Lists of values beside each other, place by place.
 use Rattle.std.proofs.Common.{◌≡◌, ℕ, ◌+◌, ◌<◌, ◌≤◌, Bool, true, false, List, [], ◌∷◌, ◌++◌, refl, subst}
 use Rattle.std.proofs.Common.{sym, ap, ◌∙◌, Ok, append-nil, arith, eq-eqb, map}
-use Rattle.std.specs.Prelude.{IfSome, Option, Some, None, ◌==◌, ◌&&◌, codes, cond, decimal, nat_lt, not, option_map}
+use Rattle.std.specs.Prelude.{IfSome, Option, Some, None, ◌==◌, ◌&&◌, ◌||◌, codes, cond, decimal, nat_lt, not}
+use Rattle.std.specs.Prelude.{option_map}
 use Rattle.std.specs.List.{flat_map}
 use Rattle.std.specs.Option.{is_some as is_some_value}
 use Rattle.std.proofs.lemmas.List.{map-append}
@@ -12,8 +13,9 @@ use Rattle.link_info.specs.Tables.{frames_in}
 use Rattle.shown.specs.Drafts.{Draft, list_of, object_of, with_members}
 use Rattle.frame_shown.specs.Frames.{by_row, frame_item}
 use Rattle.frame_shown.specs.Items.{Item as Shown, named_ones, objects}
-use Rattle.frame_shown.specs.Items.{values_of as texts_of}
+use Rattle.frame_shown.specs.Items.{values_of as texts_of, values_with as shown_values}
 use Rattle.frame_shown.specs.Tables.{Known, entry_list, group_name, is_kept, kind_shown, no_row, row_found, row_in}
+use Rattle.frame_shown.specs.Tables.{is_each}
 use Rattle.frame_shown.specs.declared.form.Around.{Around}
 use Rattle.frame_shown.specs.declared.form.Form.TheVariants as Forms
 use Rattle.frame_shown.specs.declared.form.Group.{Group}
@@ -25,15 +27,17 @@ use Rattle.frame_shown.proofs.Items.{on_next}
 use Rattle.frame_diff.specs.Counters.{action_in}
 use Rattle.frame_diff.specs.Forests.{Forest, Held, Member, Step, comes, entries_step, find, forest, is_step, is_text}
 use Rattle.frame_diff.specs.Forests.{left_of, rest_step, values_step}
-use Rattle.frame_diff.specs.Groups.{IsFlat, are_plain, first_by, first_of, group_at, group_by, group_held, group_step}
-use Rattle.frame_diff.specs.Groups.{group_values, is_entries, is_group, is_nested, is_same_group, nest_in}
+use Rattle.frame_diff.specs.Groups.{IsFlat, first_by, first_of, group_at, group_by, group_held, group_step}
+use Rattle.frame_diff.specs.Groups.{flat_shown, is_valued, picked_by, picked_values}
+use Rattle.frame_diff.specs.Groups.{group_values, is_entries, is_group, is_same_group}
 use Rattle.frame_diff.specs.Groups.{next_place, picked, place_items, rest_by, rest_forest, rest_of, value_at}
 use Rattle.frame_diff.specs.Groups.{values_by, values_of}
 use Rattle.frame_diff.specs.Inside.{has_none}
 use Rattle.frame_diff.specs.Items.{items_told, joined, leaf_items, step_text}
-use Rattle.frame_diff.specs.Members.{Reading, entries_in, entry_of, frame_member, group_of, held_by, is_nest, is_some}
+use Rattle.frame_diff.specs.Members.{Reading, entries_in, entry_of, frame_member, group_of, held_by, is_some}
+use Rattle.frame_diff.specs.Members.{values_with}
 use Rattle.frame_diff.specs.Members.{kept_in, list_at, list_members, named_by, named_in, placed, placed_one, places}
-use Rattle.frame_diff.specs.Members.{value_in}
+use Rattle.frame_diff.specs.Members.{are_plain, is_nested, value_in, values_inside}
 use Rattle.frame_diff.specs.Values.{kept_among, listed_shown}
 use Rattle.frame_diff.specs.Walked.{Holding, Showing, held_items, reading_at}
 use Rattle.frame_diff.specs.declared.side.Side.{Side}
@@ -42,10 +46,11 @@ use Rattle.frame_diff.specs.declared.walk.Attributes.{Attributes}
 use Rattle.frame_diff.proofs.Apart.{find_none}
 use Rattle.frame_diff.proofs.Classes.{list_steps, none_in_object}
 use Rattle.frame_diff.proofs.Entries.{below, later}
-use Rattle.frame_diff.proofs.Inside.{AreAt, append_at, forest_all, forest_some, same_told, same_written}
+use Rattle.frame_diff.proofs.Inside.{AreAt, forest_all, forest_some, same_told, same_written}
 use Rattle.frame_diff.proofs.Nested.{text_flat}
 use Rattle.frame_diff.proofs.Parts.{find_back, list_lacks, list_told}
 use Rattle.frame_diff.proofs.Walked.{last_further}
+use Rattle.frame_diff.proofs.Values.{texts_are, values_agree}
 
 -- ** the values of a list, one attribute further
 
@@ -64,39 +69,36 @@ group_further r Shapes.ProtoInet6 f fs = named_further r Shapes.ProtoInet6 f fs
 group_further r Shapes.Refused f fs = named_further r Shapes.Refused f fs
 group_further r (Shapes.Info link port) f fs = named_further r (Shapes.Info link port) f fs
 
+pub picked_further : (r : Reading) (picks : Option ℕ) (list : Shape) (f : Frame) (fs : List Frame)
+    → picked_values r picks list (f ∷ fs) ≡ picked_by r picks list f ++ picked_values r picks list fs
+picked_further r None list f fs = group_further r list f fs
+picked_further r (Some n) list f fs = refl
+
 -- ** one of them
 
 module _ (nest : Showing) (inner : Holding) (is_state : Bool) where
-  pub list_split : (list : Shape) (cx : Around) (f : Frame) (e : Option Attribute) (it next : List Item)
+  pub list_split : (picks : Option ℕ) (list : Shape) (cx : Around) (f : Frame) (e : Option Attribute)
+      (it next : List Item)
       → it ≡ Ok f ∷ next
-      → picked nest inner is_state e ≡ values_by (reading_at nest inner is_state cx) list f
-      → group_values (reading_at nest inner is_state cx) list (frames_in it)
-      ≡ picked nest inner is_state e ++ group_values (reading_at nest inner is_state cx) list (frames_in next)
-  list_split list cx f e it next here looked =
+      → picked nest inner is_state e ≡ picked_by (reading_at nest inner is_state cx) picks list f
+      → picked_values (reading_at nest inner is_state cx) picks list (frames_in it)
+      ≡ picked nest inner is_state e ++ picked_values (reading_at nest inner is_state cx) picks list (frames_in next)
+  list_split picks list cx f e it next here looked =
       let r = reading_at nest inner is_state cx in
-      ap (λ xs. group_values r list (frames_in xs)) here
-      ∙ group_further r list f (frames_in next)
-      ∙ ap (λ hs. hs ++ group_values r list (frames_in next)) (sym looked)
+      ap (λ xs. picked_values r picks list (frames_in xs)) here
+      ∙ picked_further r picks list f (frames_in next)
+      ∙ ap (λ hs. hs ++ picked_values r picks list (frames_in next)) (sym looked)
 
 -- ** at a place
 
-nest_found : (n : ℕ) (gs : List (Option Held))
-    → find (Step.place n) (forest (placed n gs)) ≡ nest_in (first_of gs)
-nest_found n [] = refl
-nest_found n (None ∷ gs) = find_none (Step.place n) (placed (n + 1) gs) (later n (n + 1) (omega arith) gs)
-nest_found n (Some g ∷ gs) =
-    by (is_nest g.0) (later n (n + 1) (omega arith) gs)
-    (find_none (Step.place n) (placed (n + 1) gs) (later n (n + 1) (omega arith) gs))
-  where
-    behind : Forest
-    behind = forest (placed (n + 1) gs)
-
-    by : (b : Bool) → comes (Step.place n) (placed (n + 1) gs) ≡ false → find (Step.place n) behind ≡ None
-        → find (Step.place n) (forest (cond b ((Step.place n, g) ∷ []) [] ++ placed (n + 1) gs)) ≡ cond b (Some g) None
-    by true once none =
-        ap (λ b. find (Step.place n) (cond b behind (Forest.tree (Step.place n) g.0 g.1 behind))) once
-        ∙ ap (λ b. cond b (Some g) (find (Step.place n) behind)) (eq-eqb n n refl)
-    by false once none = none
+first_found : (n : ℕ) (gs : List (Option Held)) → find (Step.place n) (forest (placed n gs)) ≡ first_of gs
+first_found n [] = refl
+first_found n (None ∷ gs) = find_none (Step.place n) (placed (n + 1) gs) (later n (n + 1) (omega arith) gs)
+first_found n (Some g ∷ gs) =
+    let behind : Forest = forest (placed (n + 1) gs) in
+    ap (λ b. find (Step.place n) (cond b behind (Forest.tree (Step.place n) g.0 g.1 behind)))
+    (later n (n + 1) (omega arith) gs)
+    ∙ ap (λ b. cond b (Some g) (find (Step.place n) behind)) (eq-eqb n n refl)
 
 -- behind a place
 abbrev pub IsBehind : ℕ → Step → Type 0
@@ -106,20 +108,11 @@ placed_behind : (n m : ℕ) → n < m → (hs : List (Option Held)) → AreAt (I
 placed_behind n m less [] = tt
 placed_behind n m less (None ∷ hs) = placed_behind n (m + 1) (omega (arith, less)) hs
 placed_behind n m less (Some h ∷ hs) =
-    append_at (IsBehind n) (placed_one m (Some h)) (placed (m + 1) hs) (by (is_nest h.0))
-    (placed_behind n (m + 1) (omega (arith, less)) hs)
-  where
-    by : (b : Bool) → AreAt (IsBehind n) (cond b ((Step.place m, h) ∷ []) [])
-    by true = ((m, refl, less), tt)
-    by false = tt
+    ((m, refl, less), placed_behind n (m + 1) (omega (arith, less)) hs)
 
 one_lacks : (n k : ℕ) → n < k → (g : Option Held) → comes (Step.place k) (placed_one n g) ≡ false
 one_lacks n k less None = refl
-one_lacks n k less (Some g) = by (is_nest g.0)
-  where
-    by : (b : Bool) → comes (Step.place k) (cond b ((Step.place n, g) ∷ []) []) ≡ false
-    by true = ap (λ b. cond b true false) (below n k less)
-    by false = refl
+one_lacks n k less (Some g) = ap (λ b. cond b true false) (below n k less)
 
 behind_found : (n : ℕ) (gs : List (Option Held)) (s : Step) → IsBehind n s
     → find s (forest (placed n gs)) ≡ find s (forest (placed (n + 1) (rest_of gs)))
@@ -140,23 +133,10 @@ pair_told : (side : Side) (text : List ℕ) (n : ℕ) (h : Held) (hs gs : List (
     → items_told side text (forest (placed n (Some h ∷ hs))) (forest (placed n gs))
     ≡ place_items side text n (Some h) (first_of gs)
     ++ items_told side text (forest (placed (n + 1) hs)) (forest (placed (n + 1) (rest_of gs)))
-pair_told side text n h hs gs = by (is_nest h.0)
-  where
-    others : Forest
-    others = forest (placed n gs)
-
-    path : List ℕ
-    path = joined text (decimal n)
-
-    by : (b : Bool)
-        → items_told side text (forest (cond b ((Step.place n, h) ∷ []) [] ++ placed (n + 1) hs)) others
-        ≡ cond b (held_items side path h (nest_in (first_of gs))) []
-        ++ items_told side text (forest (placed (n + 1) hs)) (forest (placed (n + 1) (rest_of gs)))
-    by true =
-        last_further side text others (Step.place n, h) (placed (n + 1) hs)
-        ∙ (λ k. cond (later n (n + 1) (omega arith) hs k) [] (held_items side path h (nest_found n gs k))
-        ++ rest_told side text n hs gs k)
-    by false = rest_told side text n hs gs
+pair_told side text n h hs gs =
+    last_further side text (forest (placed n gs)) (Step.place n, h) (placed (n + 1) hs)
+    ∙ (λ k. cond (later n (n + 1) (omega arith) hs k) [] (held_items side (joined text (decimal n)) h
+    (first_found n gs k)) ++ rest_told side text n hs gs k)
 
 -- ** the loop over them
 
@@ -168,27 +148,28 @@ module _ (nest : Showing) (inner : Holding) (is_state : Bool) (side : Side) (tex
   picked_told None n hs gs = refl
   picked_told (Some a) n hs gs = pair_told side text n (value_at nest inner is_state a) hs gs
 
-  pub places_next : (list : Shape) (cx : Around) (f : Frame) (e : Option Attribute) (it next : List Item)
+  pub places_next : (picks : Option ℕ) (list : Shape) (cx : Around) (f : Frame) (e : Option Attribute)
+      (it next : List Item)
       → it ≡ Ok f ∷ next
-      → picked nest inner is_state e ≡ values_by (reading_at nest inner is_state cx) list f
+      → picked nest inner is_state e ≡ picked_by (reading_at nest inner is_state cx) picks list f
       → (gs left : List (Option Held)) (beside : Option Held) → beside ≡ first_by e gs → left ≡ rest_by e gs
       → (n m : ℕ) (page new all : Draft) → m ≡ next_place e n
       → new ≡ with_members (objects (place_items side text n (option_map (value_at nest inner is_state) e) beside)) page
       → with_members (objects (items_told side text
-      (forest (placed n (group_values (reading_at nest inner is_state cx) list (frames_in it))))
+      (forest (placed n (picked_values (reading_at nest inner is_state cx) picks list (frames_in it))))
       (forest (placed n gs)))) page ≡ all
       → with_members (objects (items_told side text
-      (forest (placed m (group_values (reading_at nest inner is_state cx) list (frames_in next))))
+      (forest (placed m (picked_values (reading_at nest inner is_state cx) picks list (frames_in next))))
       (forest (placed m left)))) new ≡ all
-  places_next list cx f e it next here looked gs left beside first behind n m page new all more then was =
+  places_next picks list cx f e it next here looked gs left beside first behind n m page new all more then was =
       let r = reading_at nest inner is_state cx in
-      let hs = group_values r list (frames_in next) in
+      let hs = picked_values r picks list (frames_in next) in
       let told = place_items side text n (option_map (value_at nest inner is_state) e) beside in
       let rest = items_told side text (forest (placed m hs)) (forest (placed m left)) in
-      on_next (objects (items_told side text (forest (placed n (group_values r list (frames_in it))))
+      on_next (objects (items_told side text (forest (placed n (picked_values r picks list (frames_in it))))
       (forest (placed n gs)))) (objects told) (objects rest) page new all
       (ap (λ vs. objects (items_told side text (forest (placed n vs)) (forest (placed n gs))))
-      (list_split nest inner is_state list cx f e it next here looked)
+      (list_split nest inner is_state picks list cx f e it next here looked)
       ∙ ap objects (picked_told e n hs gs
       ∙ (λ k. place_items side text n (option_map (value_at nest inner is_state) e) (sym first k)
       ++ items_told side text (forest (placed (sym more k) hs)) (forest (placed (sym more k) (sym behind k)))))
@@ -214,7 +195,7 @@ plain_append (x ∷ xs) ys = by (is_nested x) (plain_append xs ys)
     by false h = h
 
 -- alternative names are texts
-pub names_flat : (group : Group) → IsFlat (Shapes.Listed group Tables.Props)
+pub names_flat : (group : Group) → IsFlat None (Shapes.Listed group Tables.Props)
 names_flat group r [] = refl
 names_flat group r (f ∷ fs) = by (nat_lt (number f) 256) (53 == number f) (names_flat group r fs)
   where
@@ -231,18 +212,24 @@ names_flat group r (f ∷ fs) = by (nat_lt (number f) 256) (53 == number f) (nam
     by true false rest = rest
     by false c rest = rest
 
-placed_plain : (n : ℕ) (hs : List (Option Held)) → has_none (forest (placed n hs)) ≡ are_plain hs
-placed_plain n [] = refl
-placed_plain n (None ∷ hs) = placed_plain (n + 1) hs
-placed_plain n (Some h ∷ hs) = by (is_nest h.0) (placed_plain (n + 1) hs)
-  where
-    by : (b : Bool) → has_none (forest (placed (n + 1) hs)) ≡ are_plain hs
-        → has_none (forest (cond b ((Step.place n, h) ∷ []) [] ++ placed (n + 1) hs)) ≡ (not b && are_plain hs)
-    by true rest = forest_some (Step.place n, h) (placed (n + 1) hs)
-    by false rest = rest
+placed_some : (n : ℕ) (hs : List (Option Held)) → are_plain hs ≡ false → has_none (forest (placed n hs)) ≡ false
+placed_some n [] some = absurd cc
+placed_some n (None ∷ hs) some = placed_some (n + 1) hs some
+placed_some n (Some h ∷ hs) some = forest_some (Step.place n, h) (placed (n + 1) hs)
 
-pub places_plain : (hs : List (Option Held)) → has_none (places hs) ≡ are_plain hs
-places_plain hs = placed_plain 0 hs
+pub inside_plain : (hs : List (Option Held)) → has_none (values_inside hs) ≡ are_plain hs
+inside_plain hs = by (are_plain hs) refl
+  where
+    by : (b : Bool) → are_plain hs ≡ b → has_none (cond b Forest.none (places hs)) ≡ b
+    by true is = refl
+    by false is = placed_some 0 hs is
+
+-- what is inside a list of which some are
+pub inside_places : (hs : List (Option Held)) → are_plain hs ≡ false → values_inside hs ≡ places hs
+inside_places hs some = ap (λ b. cond b Forest.none (places hs)) some
+
+pub inside_none : (hs : List (Option Held)) → are_plain hs ≡ true → values_inside hs ≡ Forest.none
+inside_none hs plain = ap (λ b. cond b Forest.none (places hs)) plain
 
 -- as one value they are what is shown
 
@@ -254,7 +241,7 @@ module _ (nest : Showing) (inner : Holding) (is_state : Bool) (cx : Around) wher
       → flat_map value_in (values_of (named_in r list fs))
       ≡ flat_map texts_of (named_ones (map (frame_item (nest cx) cx list) fs))
   listed_texts list [] = refl
-  listed_texts list (f ∷ fs) = by (is_kept row.1 f.payload) (listed_texts list fs)
+  listed_texts list (f ∷ fs) = by (is_kept row.1 f.payload) (is_each row.1) (listed_texts list fs)
     where
       row : Known
       row = row_in cx list (number f)
@@ -262,16 +249,17 @@ module _ (nest : Showing) (inner : Holding) (is_state : Bool) (cx : Around) wher
       own : Member
       own = (Step.name row.0, held_by r (action_in is_state list (number f)) row.1 f.payload)
 
-      by : (kept : Bool)
+      by : (kept each : Bool)
           → flat_map value_in (values_of (named_in r list fs))
           ≡ flat_map texts_of (named_ones (map (frame_item (nest cx) cx list) fs))
-          → flat_map value_in (values_of (cond kept [] (own ∷ []) ++ named_in r list fs))
+          → flat_map value_in (values_of (cond (kept || each) [] (own ∷ []) ++ named_in r list fs))
           ≡ flat_map texts_of (named_ones (cond kept
           (Shown.as_is row.0 (kind_shown row.1 f.kind) f.payload)
-          (Shown.named (number f) ((row.0, own.1.0) ∷ []))
+          (cond each (Shown.each (number f) own.1.0) (Shown.named (number f) ((row.0, own.1.0) ∷ [])))
           ∷ map (frame_item (nest cx) cx list) fs))
-      by true rest = rest
-      by false rest = (λ k. sym (append-nil own.1.0) k ++ rest k)
+      by true each rest = rest
+      by false true rest = rest
+      by false false rest = (λ k. sym (append-nil own.1.0) k ++ rest k)
 
   no_entries : (list : Shape) (fs : List Frame) → are_plain (entries_in r list fs) ≡ true → entries_in r list fs ≡ []
   no_entries list [] plain = refl
@@ -308,6 +296,15 @@ module _ (nest : Showing) (inner : Holding) (is_state : Bool) (cx : Around) wher
   plain_shown Shapes.ProtoInet6 p h plain = absurd cc
   plain_shown Shapes.Refused p h plain = absurd cc
   plain_shown (Shapes.Info link port) p h plain = absurd cc
+
+  pub valued_shown : (picks : Option ℕ) (list : Shape) (p : List ℕ) → is_valued picks list ≡ true
+      → are_plain (picked_values r picks list (frames_in (items p))) ≡ true
+      → flat_shown (nest cx) cx picks list p ≡ (group_by (picked_values r picks list (frames_in (items p)))).0
+  valued_shown None list p h plain = plain_shown list p h plain
+  valued_shown (Some n) list p h plain =
+      ap list_of (sym (texts_are (values_with r list n (frames_in (items p)))
+      (shown_values n (map (frame_item (nest cx) cx list) (frames_in (items p))))
+      (values_agree is_state (nest cx) (inner is_state cx) cx list n (frames_in (items p)))))
 
 -- ** a list of values among the members of its list
 
@@ -463,62 +460,67 @@ none_there None h = refl
 none_there (Some a) h = absurd cc
 
 module _ (nest : Showing) (inner : Holding) (is_state : Bool) where
-  pub value_taken : (list : Shape) (cx : Around) (f : Frame) (e : Option Attribute) (it next : List Item)
+  pub value_taken : (picks : Option ℕ) (list : Shape) (cx : Around) (f : Frame) (e : Option Attribute)
+      (it next : List Item)
       (all : List (Option Held)) → it ≡ Ok f ∷ next
-      → picked nest inner is_state e ≡ values_by (reading_at nest inner is_state cx) list f
-      → group_values (reading_at nest inner is_state cx) list (frames_in it) ≡ all → is_some_value e ≡ true
+      → picked nest inner is_state e ≡ picked_by (reading_at nest inner is_state cx) picks list f
+      → picked_values (reading_at nest inner is_state cx) picks list (frames_in it) ≡ all → is_some_value e ≡ true
       → option_map (value_at nest inner is_state) e ≡ first_of all
-  value_taken list cx f None it next all here looked was some = absurd cc
-  value_taken list cx f (Some a) it next all here looked was some =
-      ap first_of (sym (list_split nest inner is_state list cx f (Some a) it next here looked) ∙ was)
+  value_taken picks list cx f None it next all here looked was some = absurd cc
+  value_taken picks list cx f (Some a) it next all here looked was some =
+      ap first_of (sym (list_split nest inner is_state picks list cx f (Some a) it next here looked) ∙ was)
 
-  pub rest_taken : (list : Shape) (cx : Around) (f : Frame) (e : Option Attribute) (it next : List Item)
+  pub rest_taken : (picks : Option ℕ) (list : Shape) (cx : Around) (f : Frame) (e : Option Attribute)
+      (it next : List Item)
       (p : List ℕ) (all : List (Option Held)) → it ≡ Ok f ∷ next
-      → picked nest inner is_state e ≡ values_by (reading_at nest inner is_state cx) list f
-      → group_values (reading_at nest inner is_state cx) list (frames_in it) ≡ all → items p ≡ next
+      → picked nest inner is_state e ≡ picked_by (reading_at nest inner is_state cx) picks list f
+      → picked_values (reading_at nest inner is_state cx) picks list (frames_in it) ≡ all → items p ≡ next
       → is_some_value e ≡ true
-      → group_values (reading_at nest inner is_state cx) list (frames_in (items p)) ≡ rest_of all
-  rest_taken list cx f None it next p all here looked was left some = absurd cc
-  rest_taken list cx f (Some a) it next p all here looked was left some =
-      ap (λ xs. group_values (reading_at nest inner is_state cx) list (frames_in xs)) left
-      ∙ ap rest_of (sym (list_split nest inner is_state list cx f (Some a) it next here looked) ∙ was)
+      → picked_values (reading_at nest inner is_state cx) picks list (frames_in (items p)) ≡ rest_of all
+  rest_taken picks list cx f None it next p all here looked was left some = absurd cc
+  rest_taken picks list cx f (Some a) it next p all here looked was left some =
+      ap (λ xs. picked_values (reading_at nest inner is_state cx) picks list (frames_in xs)) left
+      ∙ ap rest_of (sym (list_split nest inner is_state picks list cx f (Some a) it next here looked) ∙ was)
 
-  pub none_taken : (list : Shape) (cx : Around) (f : Frame) (e : Option Attribute) (it next : List Item)
+  pub none_taken : (picks : Option ℕ) (list : Shape) (cx : Around) (f : Frame) (e : Option Attribute)
+      (it next : List Item)
       (all : List (Option Held)) → it ≡ Ok f ∷ next
-      → picked nest inner is_state e ≡ values_by (reading_at nest inner is_state cx) list f → e ≡ None
-      → group_values (reading_at nest inner is_state cx) list (frames_in it) ≡ all
-      → group_values (reading_at nest inner is_state cx) list (frames_in next) ≡ all
-  none_taken list cx f e it next all here looked none was =
-      sym (list_split nest inner is_state list cx f e it next here looked
-      ∙ ap (λ o. picked nest inner is_state o ++ group_values (reading_at nest inner is_state cx) list
+      → picked nest inner is_state e ≡ picked_by (reading_at nest inner is_state cx) picks list f → e ≡ None
+      → picked_values (reading_at nest inner is_state cx) picks list (frames_in it) ≡ all
+      → picked_values (reading_at nest inner is_state cx) picks list (frames_in next) ≡ all
+  none_taken picks list cx f e it next all here looked none was =
+      sym (list_split nest inner is_state picks list cx f e it next here looked
+      ∙ ap (λ o. picked nest inner is_state o ++ picked_values (reading_at nest inner is_state cx) picks list
       (frames_in next)) none)
       ∙ was
 
   -- ** none of them is an object or a list
 
-  pub plain_next : (list : Shape) (cx : Around) (f : Frame) (e : Option Attribute) (it next : List Item) (all : Bool)
+  pub plain_next : (picks : Option ℕ) (list : Shape) (cx : Around) (f : Frame) (e : Option Attribute)
+      (it next : List Item) (all : Bool)
       → it ≡ Ok f ∷ next
-      → picked nest inner is_state e ≡ values_by (reading_at nest inner is_state cx) list f
+      → picked nest inner is_state e ≡ picked_by (reading_at nest inner is_state cx) picks list f
       → are_plain (picked nest inner is_state e) ≡ true
-      → are_plain (group_values (reading_at nest inner is_state cx) list (frames_in it)) ≡ all
-      → are_plain (group_values (reading_at nest inner is_state cx) list (frames_in next)) ≡ all
-  plain_next list cx f e it next all here looked plain was =
-      let behind = group_values (reading_at nest inner is_state cx) list (frames_in next) in
-      sym (ap are_plain (list_split nest inner is_state list cx f e it next here looked)
+      → are_plain (picked_values (reading_at nest inner is_state cx) picks list (frames_in it)) ≡ all
+      → are_plain (picked_values (reading_at nest inner is_state cx) picks list (frames_in next)) ≡ all
+  plain_next picks list cx f e it next all here looked plain was =
+      let behind = picked_values (reading_at nest inner is_state cx) picks list (frames_in next) in
+      sym (ap are_plain (list_split nest inner is_state picks list cx f e it next here looked)
       ∙ plain_append (picked nest inner is_state e) behind
       ∙ ap (λ b. b && are_plain behind) plain)
       ∙ was
 
-  pub not_plain : (list : Shape) (cx : Around) (f : Frame) (e : Option Attribute) (it next : List Item) (all : Bool)
+  pub not_plain : (picks : Option ℕ) (list : Shape) (cx : Around) (f : Frame) (e : Option Attribute)
+      (it next : List Item) (all : Bool)
       → it ≡ Ok f ∷ next
-      → picked nest inner is_state e ≡ values_by (reading_at nest inner is_state cx) list f
+      → picked nest inner is_state e ≡ picked_by (reading_at nest inner is_state cx) picks list f
       → are_plain (picked nest inner is_state e) ≡ false
-      → are_plain (group_values (reading_at nest inner is_state cx) list (frames_in it)) ≡ all
+      → are_plain (picked_values (reading_at nest inner is_state cx) picks list (frames_in it)) ≡ all
       → all ≡ false
-  not_plain list cx f e it next all here looked nested was =
-      let behind = group_values (reading_at nest inner is_state cx) list (frames_in next) in
+  not_plain picks list cx f e it next all here looked nested was =
+      let behind = picked_values (reading_at nest inner is_state cx) picks list (frames_in next) in
       sym was
-      ∙ ap are_plain (list_split nest inner is_state list cx f e it next here looked)
+      ∙ ap are_plain (list_split nest inner is_state picks list cx f e it next here looked)
       ∙ plain_append (picked nest inner is_state e) behind
       ∙ ap (λ b. b && are_plain behind) nested
 
@@ -535,13 +537,13 @@ module _ (nest : Showing) (inner : Holding) (is_state : Bool) (side : Side) (tex
   held a = group_held nest inner is_state a
 
   abbrev shown : Attributes → List Token
-  shown a = listed_shown (nest a.around.now) a.around.now a.list a.bytes.now
+  shown a = flat_shown (nest a.around.now) a.around.now a.number a.list a.bytes.now
 
   abbrev pub IsPlain : Attributes → Type 0
-  IsPlain a = (is_group a.list ≡ true) × (are_plain (group_at nest inner is_state a) ≡ true)
+  IsPlain a = (is_valued a.number a.list ≡ true) × (are_plain (group_at nest inner is_state a) ≡ true)
 
   shown_is : (a : Attributes) → IsPlain a → shown a ≡ (held a).0
-  shown_is a plain = plain_shown nest inner is_state a.around.now a.list a.bytes.now plain.0 plain.1
+  shown_is a plain = valued_shown nest inner is_state a.around.now a.number a.list a.bytes.now plain.0 plain.1
 
   pub flat_some : (own other : Attributes) (there : Option Attributes) (beside : Option (List Token))
       (page new : Draft) → IsPlain own → there ≡ Some other → IfSome there IsPlain

@@ -128,6 +128,7 @@ fields_all ms = forest_all (λ s. is_field s ≡ true) (named ms) (named_at ms)
 
 field_apart : (s : Step) (text : List ℕ) → is_field s ≡ false → is_step (field_step text) s ≡ false
 field_apart (Step.name a) text h = refl
+field_apart (Step.array a) text h = refl
 field_apart (Step.part zero a) text h = absurd cc
 field_apart (Step.part (suc n) a) text h = ap (λ b. b && is_text text a) (below 0 (suc n) (omega arith))
 field_apart (Step.place n) text h = refl
@@ -152,6 +153,7 @@ first_other (Step.part zero text) v i rest h =
     absurd cc
 first_other (Step.part (suc n) text) v i rest h = refl
 first_other (Step.name text) v i rest h = refl
+first_other (Step.array text) v i rest h = refl
 first_other (Step.place n) v i rest h = refl
 first_other Step.repeated v i rest h = refl
 first_other Step.other v i rest h = refl
@@ -178,6 +180,7 @@ field_found : (g h : Forest) → ((name : List ℕ) → find (field_step name) g
 field_found g h same (Step.part zero text) is = same text
 field_found g h same (Step.part (suc n) text) is = absurd cc
 field_found g h same (Step.name text) is = absurd cc
+field_found g h same (Step.array text) is = absurd cc
 field_found g h same (Step.place n) is = absurd cc
 field_found g h same Step.repeated is = absurd cc
 field_found g h same Step.other is = absurd cc

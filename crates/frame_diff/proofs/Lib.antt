@@ -1,4 +1,7 @@
 pub mod Steps
+pub mod Unnamed
+pub mod Values
+pub mod ListRows
 pub mod Leaves
 pub mod Once
 pub mod Silent
@@ -17,6 +20,7 @@ pub mod Inside
 pub mod Classes
 pub mod Nested
 pub mod Grouped
+pub mod ArraysTold
 pub mod Sorts
 pub mod Told
 pub mod Names

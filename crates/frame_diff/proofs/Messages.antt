@@ -1,14 +1,14 @@
 -- What is told of two messages.
-use Rattle.std.proofs.Common.{◌≡◌, true, false, [], ◌∷◌, ◌++◌, refl, ap}
-use Rattle.std.specs.Prelude.{cond}
+use Rattle.std.proofs.Common.{◌≡◌, true, false, [], ◌∷◌, ◌++◌, refl, ap, ◌∙◌, eq-eqb}
+use Rattle.std.specs.Prelude.{Some, cond}
 use Rattle.nla_wire.specs.Frames.{Frame, number}
-use Rattle.frame_shown.specs.Tables.{is_kept, row_in}
+use Rattle.frame_shown.specs.Tables.{row_in, is_each}
 use Rattle.frame_shown.specs.declared.form.List.{List as Shape}
 use Rattle.frame_diff.specs.Beside.{held_of}
 use Rattle.frame_diff.specs.Counters.{action_in, is_passed}
 use Rattle.frame_diff.specs.Forests.{Forest, Step}
 use Rattle.frame_diff.specs.Laws.{CountersArePassed, MessagesAreTold}
-use Rattle.frame_diff.specs.Members.{Reading, frame_member, message_forest, way_inside}
+use Rattle.frame_diff.specs.Members.{Reading, frame_member, message_forest, value_with, way_inside, is_unnamed}
 use Rattle.frame_diff.specs.declared.side.Side.TheVariants.{Old, New}
 use Rattle.frame_diff.proofs.Apart.{message_apart}
 use Rattle.frame_diff.proofs.Leaves.{all_told}
@@ -32,9 +32,16 @@ module _ (r : Reading) (list : Shape) (f : Frame) where
   inside = way_inside r.inner r.around (action_in r.is_state list (number f)) (row_in r.around list (number f)).1
       f.payload
 
-  member_one : is_kept (row_in r.around list (number f)).1 f.payload ≡ false
+  member_one : is_unnamed (row_in r.around list (number f)).1 f.payload ≡ false
       → frame_member r list f ≡ (Step.name (row_in r.around list (number f)).0, held_of r list f) ∷ []
   member_one = ap (λ b. cond b [] ((Step.name (row_in r.around list (number f)).0, held_of r list f) ∷ []))
+
+  value_one : is_each (row_in r.around list (number f)).1 ≡ true
+      → value_with r list (number f) f ≡ Some (held_of r list f) ∷ []
+  value_one each =
+      ap (λ b. cond b (cond (is_each (row_in r.around list (number f)).1) (Some (held_of r list f) ∷ []) []) [])
+      (eq-eqb (number f) (number f) refl)
+      ∙ ap (λ b. cond b (Some (held_of r list f) ∷ []) []) each
 
   passed_one : is_passed r.is_state list (number f) ≡ true → (held_of r list f).1 ≡ Forest.passed
   passed_one = ap (λ b. cond b Forest.passed inside)
@@ -45,6 +52,7 @@ module _ (r : Reading) (list : Shape) (f : Frame) where
 pub counters_passed : CountersArePassed
 counters_passed = record {
   member = member_one;
+  value = value_one;
   passed = passed_one;
   told = told_one;
   whole = λ list n. refl;

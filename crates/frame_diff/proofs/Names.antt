@@ -27,9 +27,10 @@ use Rattle.frame_shown.specs.declared.form.Way.TheVariants as Ways
 use Rattle.frame_shown.specs.declared.tables.TheConstants.{KERNEL_NAMES, MESSAGE}
 use Rattle.frame_diff.specs.Forests.{is_text}
 use Rattle.frame_diff.specs.Names.{NamesAreApart}
-use Rattle.frame_diff.specs.Shown.{HasNamesApart}
+use Rattle.frame_diff.specs.Shown.{HasNamesApart, AreNumbersApart}
 use Rattle.frame_diff.proofs.Shown.{lists_shown}
 use Rattle.frame_diff.proofs.Steps.{text_is}
+use Rattle.frame_diff.proofs.ListRows.{lists_apart}
 
 -- ** numbers and their names
 
@@ -105,7 +106,7 @@ module _ (cx : Around) (list : Shape) (rows : Keys)
       by true h = told n p h
       by false h = absurd cc
 
-  apart_by : are_apart (names rows) ≡ true → HasNamesApart cx list
+  apart_by : are_apart (names rows) ≡ true → AreNumbersApart cx list
   apart_by apart m n p q h k same =
       one_number rows apart m n (row_in cx list n).0 (in_row m p h ∙ ap Some same) (in_row n q k)
 
@@ -396,24 +397,27 @@ module _ (cx : Around) (link port : Option Place) (n : ℕ) (p : List ℕ) where
 
 -- ** all lists
 
-all_apart : (cx : Around) (list : Shape) → AreAllRows cx.tables.now → HasNamesApart cx list
-all_apart cx (Shapes.Message family) all =
+numbers_apart : (cx : Around) (list : Shape) → AreAllRows cx.tables.now → AreNumbersApart cx list
+numbers_apart cx (Shapes.Message family) all =
     apart_by cx (Shapes.Message family) message_keys (message_told family) message_apart
-all_apart cx (Shapes.Own table) all =
+numbers_apart cx (Shapes.Own table) all =
     apart_by cx (Shapes.Own table) (table_keys (rows_in table)) (table_told (rows_in table)) (table_apart table)
-all_apart cx (Shapes.Listed group table) all =
+numbers_apart cx (Shapes.Listed group table) all =
     apart_by cx (Shapes.Listed group table) (table_keys (rows_in table)) (table_told (rows_in table))
     (table_apart table)
-all_apart cx (Shapes.Entries group) all = apart_by cx (Shapes.Entries group) [] (λ n p h. absurd cc) refl
-all_apart cx (Shapes.Of place) all =
+numbers_apart cx (Shapes.Entries group) all = apart_by cx (Shapes.Entries group) [] (λ n p h. absurd cc) refl
+numbers_apart cx (Shapes.Of place) all =
     apart_by cx (Shapes.Of place) (place_keys (rows_of cx.tables.now place))
     (place_told (rows_of cx.tables.now place)) (place_apart cx all place)
-all_apart cx Shapes.ProtoInet6 all =
+numbers_apart cx Shapes.ProtoInet6 all =
     apart_by cx Shapes.ProtoInet6 (place_keys (rows_of cx.tables.now Places.Inet6)) (inet6_told cx all)
     (place_apart cx all Places.Inet6)
-all_apart cx (Shapes.Info link port) all =
+numbers_apart cx (Shapes.Info link port) all =
     apart_by cx (Shapes.Info link port) info_keys (info_told cx link port) refl
-all_apart cx Shapes.Refused all = apart_by cx Shapes.Refused refused_keys refused_told refused_apart
+numbers_apart cx Shapes.Refused all = apart_by cx Shapes.Refused refused_keys refused_told refused_apart
+
+all_apart : (cx : Around) (list : Shape) → AreAllRows cx.tables.now → HasNamesApart cx list
+all_apart cx list all = record { numbers = numbers_apart cx list all; lists = lists_apart cx all list }
 
 pub names_apart : NamesAreApart
 names_apart = record {

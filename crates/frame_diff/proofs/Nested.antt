@@ -7,6 +7,7 @@ use Rattle.json.specs.Token.{Token, string}
 use Rattle.nla_wire.specs.Fields.{number_at, zero_filled}
 use Rattle.link_info.specs.Meanings.{Meaning, Raw, Present, Number, Signed, Words, Hardware, Four, Six}
 use Rattle.link_info.specs.Meanings.{Members as Fields, Elements, Listed, Nested, read_as}
+use Rattle.link_info.specs.Styles.{plain_in}
 use Rattle.link_info.specs.declared.style.Plain.{Plain}
 use Rattle.link_info.specs.declared.style.Plain.TheVariants as P
 use Rattle.link_info.specs.declared.style.Style.{Style}
@@ -15,7 +16,7 @@ use Rattle.shown.specs.Values.{BitNames, hardware_address, name_else_number, nam
 use Rattle.shown.specs.Values.{named_number}
 use Rattle.frame_shown.specs.Values.{Nesting, choice_number, choice_token, choices, field_shown, form_shown}
 use Rattle.frame_shown.specs.Values.{hexadecimal}
-use Rattle.frame_shown.specs.Values.{ipv6_counters_shown, meaning_shown, number_shown, plain_in, plain_shown, texts_of}
+use Rattle.frame_shown.specs.Values.{ipv6_counters_shown, meaning_shown, number_shown, plain_shown, texts_of}
 use Rattle.frame_shown.specs.declared.form.Around.{Around}
 use Rattle.frame_shown.specs.declared.form.Choice.{Choice}
 use Rattle.frame_shown.specs.declared.form.Choice.TheVariants as Choices
@@ -28,7 +29,7 @@ use Rattle.frame_shown.specs.declared.form.Order.{Order}
 use Rattle.frame_shown.specs.declared.form.Order.TheVariants as Orders
 use Rattle.frame_shown.specs.declared.tables.TheConstants.{VF_LINK_STATES}
 use Rattle.frame_diff.specs.Members.{is_nest}
-use Rattle.frame_diff.specs.Nests.{are_flags, are_flags_in, nest_form, nest_meaning}
+use Rattle.frame_diff.specs.Nests.{are_flags, nest_form, nest_meaning}
 
 -- ** values that are written as one token
 
@@ -61,16 +62,6 @@ number_nest P.Ipv4 n = refl
 number_nest P.Ipv6 n = refl
 number_nest (P.Octets size) n = refl
 
-flags_in : (style : Style) → are_flags (plain_in style) ≡ are_flags_in style
-flags_in (S.Plain plain) = refl
-flags_in S.Bytes = refl
-flags_in S.Flag = refl
-flags_in S.Text = refl
-flags_in (S.Record members) = refl
-flags_in (S.Array plain) = refl
-flags_in (S.List plain) = refl
-flags_in (S.Nest place) = refl
-
 -- a value of one size that is no number of flags
 plain_flat : (plain : Plain) → are_flags plain ≡ false → (m : Meaning) → is_nest (plain_shown plain m) ≡ false
 plain_flat plain h (Number n) = number_nest plain n ∙ h
@@ -97,7 +88,7 @@ module _ (nest : Nesting) (deep : Bool) (lists : (list : Shape) (p : List ℕ) �
   meaning_nest style (Elements plain p) = refl
   meaning_nest style (Listed plain p) = refl
   meaning_nest style (Nested place p) = lists _ p
-  meaning_nest style (Number n) = number_nest (plain_in style) n ∙ flags_in style
+  meaning_nest style (Number n) = number_nest (plain_in style) n
   meaning_nest style (Raw p) = refl
   meaning_nest style Present = refl
   meaning_nest style (Signed z) = refl

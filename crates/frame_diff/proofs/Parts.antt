@@ -5,18 +5,21 @@ use Rattle.std.specs.Prelude.{Option, Some, None, codes, cond}
 use Rattle.json.specs.Token.{Token}
 use Rattle.nla_wire.specs.Frames.{Frame, number}
 use Rattle.shown.specs.Drafts.{Members}
-use Rattle.frame_shown.specs.Tables.{is_kept, row_in}
+use Rattle.frame_shown.specs.Tables.{row_in, lists_in}
 use Rattle.frame_shown.specs.declared.form.List.{List as Shape}
 use Rattle.frame_diff.specs.Beside.{held_of}
-use Rattle.frame_diff.specs.Forests.{Forest, Held, Member, Step, comes, find, forest, is_step}
+use Rattle.frame_diff.specs.Forests.{Forest, Held, Member, Step, comes, find, forest, is_step, is_text}
 use Rattle.frame_diff.specs.Items.{items_told, joined, member_items, step_text}
 use Rattle.frame_diff.specs.Members.{Reading, earlier, kept_in, list_at, members_in, named_in, places, unless_none}
+use Rattle.frame_diff.specs.Members.{is_unnamed, array_at, arrays_in, arrays_of, values_with}
 use Rattle.frame_diff.specs.Walked.{held_items, last_items}
 use Rattle.frame_diff.specs.declared.side.Side.{Side}
 use Rattle.frame_diff.proofs.Apart.{find_none}
 use Rattle.frame_diff.proofs.Beside.{found_last, last_at, or_else, or_none}
 use Rattle.frame_diff.proofs.Steps.{step_is}
 use Rattle.frame_diff.proofs.Walked.{last_further}
+use Rattle.frame_shown.specs.Items.{Lists}
+use Rattle.std.specs.List.{AllByRecursion}
 
 -- ** what stands at a step
 
@@ -58,7 +61,7 @@ module _ (side : Side) (text : List ℕ) where
   abbrev one : Forest → List Member → Member → List Members
   one others behind m = last_items side text behind m (find m.0 others)
 
-  told_parts : (others : Forest) (ms more : List Member) → NoneComes ms more
+  pub told_parts : (others : Forest) (ms more : List Member) → NoneComes ms more
       → items_told side text (forest (ms ++ more)) others
       ≡ items_told side text (forest ms) others ++ items_told side text (forest more) others
   told_parts others [] more none = refl
@@ -109,13 +112,37 @@ IsNoName s = (name : List ℕ) → (is_step s (Step.name name) ≡ false) × (is
 pub named_names : (r : Reading) (list : Shape) (fs : List Frame) → AreNames (named_in r list fs)
 named_names r list [] = tt
 named_names r list (f ∷ fs) =
-    by (is_kept (row_in r.around list (number f)).1 f.payload) (named_names r list fs)
+    by (is_unnamed (row_in r.around list (number f)).1 f.payload) (named_names r list fs)
   where
     by : (kept : Bool) → AreNames (named_in r list fs)
         → AreNames (cond kept [] ((Step.name (row_in r.around list (number f)).0, held_of r list f) ∷ [])
         ++ named_in r list fs)
     by true later = later
     by false later = (((row_in r.around list (number f)).0, refl), later)
+
+-- they are at lists of values
+abbrev pub AreArrays : List Member → Type 0
+AreArrays [] = Unit {0}
+AreArrays (m ∷ ms) = ((name : List ℕ) × (m.0 ≡ Step.array name)) × AreArrays ms
+
+-- and this step is none
+abbrev pub IsNoArray : Step → Type 0
+IsNoArray s = (name : List ℕ) → (is_step s (Step.array name) ≡ false) × (is_step (Step.array name) s ≡ false)
+
+arrays_append : (xs ys : List Member) → AreArrays xs → AreArrays ys → AreArrays (xs ++ ys)
+arrays_append [] ys h k = k
+arrays_append (x ∷ xs) ys h k = (h.0, arrays_append xs ys h.1 k)
+
+array_array : (name : List ℕ) (hs : List (Option Held)) → AreArrays (array_at name hs)
+array_array name [] = tt
+array_array name (h ∷ hs) = ((name, refl), tt)
+
+pub arrays_arrays : (r : Reading) (list : Shape) (lists : Lists) (fs : List Frame)
+    → AreArrays (arrays_of r list lists fs)
+arrays_arrays r list [] fs = tt
+arrays_arrays r list (l ∷ lists) fs =
+    arrays_append (array_at l.1 (values_with r list l.0 fs)) (arrays_of r list lists fs)
+    (array_array l.1 (values_with r list l.0 fs)) (arrays_arrays r list lists fs)
 
 pub list_lacks : (t s : Step) (hs : List (Option Held)) → is_step s t ≡ false → comes t (list_at s hs) ≡ false
 list_lacks t s hs other = by _ (places hs)
@@ -157,6 +184,66 @@ lists_lack s t hs gs other = by _ (places hs)
     by v Forest.none = tt
     by v Forest.passed = tt
     by v (Forest.tree a b c d) = (list_lacks s t gs other, tt)
+
+-- no name is a list of values
+no_arrays : (s : Step) (ms : List Member) → AreArrays ms → IsNoArray s → comes s ms ≡ false
+no_arrays s [] arrays none = refl
+no_arrays s (m ∷ ms) arrays none =
+    ap (λ t. cond (is_step t s) true (comes s ms)) arrays.0.1
+    ∙ ap (λ b. cond b true (comes s ms)) (none arrays.0.0).1
+    ∙ no_arrays s ms arrays.1 none
+
+pub names_lack_arrays : (ms lists : List Member) → AreNames ms → AreArrays lists → NoneComes ms lists
+names_lack_arrays [] lists names arrays = tt
+names_lack_arrays (m ∷ ms) lists names arrays = (
+  ap (λ s. comes s lists) names.0.1 ∙ no_arrays (Step.name names.0.0) lists arrays (λ name. (refl, refl)),
+  names_lack_arrays ms lists names.1 arrays,
+)
+
+pub arrays_lack_names : (lists ms : List Member) → AreArrays lists → AreNames ms → NoneComes lists ms
+arrays_lack_names [] ms arrays names = tt
+arrays_lack_names (l ∷ lists) ms arrays names = (
+  ap (λ s. comes s ms) arrays.0.1 ∙ no_names (Step.array arrays.0.0) ms names (λ name. (refl, refl)),
+  arrays_lack_names lists ms arrays.1 names,
+)
+
+pub arrays_lack : (ms : List Member) (s : Step) (hs : List (Option Held)) → AreArrays ms → IsNoArray s
+    → NoneComes ms (list_at s hs)
+arrays_lack [] s hs arrays none = tt
+arrays_lack (m ∷ ms) s hs arrays none = (
+  list_lacks m.0 s hs (ap (is_step s) arrays.0.1 ∙ (none arrays.0.0).0),
+  arrays_lack ms s hs arrays.1 none,
+)
+
+pub list_lacks_arrays : (s : Step) (hs : List (Option Held)) (ms : List Member) → AreArrays ms → IsNoArray s
+    → NoneComes (list_at s hs) ms
+list_lacks_arrays s hs ms arrays none = by _ (places hs)
+  where
+    by : (v : List Token) (f : Forest) → NoneComes (unless_none s v f) ms
+    by v Forest.none = tt
+    by v Forest.passed = tt
+    by v (Forest.tree a b c d) = (no_arrays s ms arrays none, tt)
+
+-- no list of a name is among those of other names
+array_lacks : (s : Step) (name : List ℕ) (hs : List (Option Held)) → is_step (Step.array name) s ≡ false
+    → comes s (array_at name hs) ≡ false
+array_lacks s name [] other = refl
+array_lacks s name (h ∷ hs) other = ap (λ b. cond b true false) other
+
+pub lists_lack_name : (r : Reading) (list : Shape) (name : List ℕ) (lists : Lists) (fs : List Frame)
+    → AllByRecursion (λ m. is_text m.1 name ≡ false) lists
+    → comes (Step.array name) (arrays_of r list lists fs) ≡ false
+lists_lack_name r list name [] fs none = refl
+lists_lack_name r list name (l ∷ lists) fs none =
+    comes_append (Step.array name) (array_at l.1 (values_with r list l.0 fs)) (arrays_of r list lists fs)
+    (lists_lack_name r list name lists fs none.1)
+    ∙ array_lacks (Step.array name) l.1 (values_with r list l.0 fs) none.0
+
+pub array_apart : (r : Reading) (list : Shape) (name : List ℕ) (hs : List (Option Held)) (lists : Lists)
+    (fs : List Frame) → AllByRecursion (λ m. is_text m.1 name ≡ false) lists
+    → NoneComes (array_at name hs) (arrays_of r list lists fs)
+array_apart r list name [] lists fs none = tt
+array_apart r list name (h ∷ hs) lists fs none = (lists_lack_name r list name lists fs none, tt)
 
 -- beside members that are all passed over as beside none
 pub lacking : (side : Side) (text : List ℕ) (f : Forest)
@@ -203,34 +290,61 @@ no_name_again name = (refl, refl)
 no_name_other : IsNoName Step.other
 no_name_other name = (refl, refl)
 
+no_array_again : IsNoArray Step.repeated
+no_array_again name = (refl, refl)
+
+no_array_other : IsNoArray Step.other
+no_array_other name = (refl, refl)
+
 pub members_told : (r s : Reading) (list shape : Shape) (fs gs : List Frame) (side : Side) (text : List ℕ)
     → items_told side text (forest (members_in r list fs)) (forest (members_in s shape gs))
     ≡ items_told side text (forest (named_in r list fs)) (forest (named_in s shape gs))
+    ++ (items_told side text (forest (arrays_in r list fs)) (forest (arrays_in s shape gs))
     ++ (items_told side (joined text (codes "repeated")) (places (earlier (named_in r list fs)))
     (places (earlier (named_in s shape gs)))
-    ++ items_told side (joined text (codes "other")) (places (kept_in r list fs)) (places (kept_in s shape gs)))
+    ++ items_told side (joined text (codes "other")) (places (kept_in r list fs)) (places (kept_in s shape gs))))
 members_told r s list shape fs gs side text =
     let ms = named_in r list fs in
     let ns = named_in s shape gs in
     let names = named_names r list fs in
     let names_too = named_names s shape gs in
+    let lists = arrays_in r list fs in
+    let lists_too = arrays_in s shape gs in
+    let are = arrays_arrays r list (lists_in r.around list) fs in
+    let are_too = arrays_arrays s shape (lists_in s.around shape) gs in
     let again = list_at Step.repeated (earlier ms) in
     let again_too = list_at Step.repeated (earlier ns) in
     let kept = list_at Step.other (kept_in r list fs) in
     let kept_too = list_at Step.other (kept_in s shape gs) in
-    both_parts side text (ms ++ again) kept (ns ++ again_too) kept_too
-    (both_lack ms again kept (names_lack ms Step.other (kept_in r list fs) names no_name_other)
+    let told = items_told side text (forest ms) (forest ns) in
+    let told_lists = items_told side text (forest lists) (forest lists_too) in
+    let told_again = items_told side text (forest again) (forest again_too) in
+    let told_kept = items_told side text (forest kept) (forest kept_too) in
+    both_parts side text (ms ++ lists ++ again) kept (ns ++ lists_too ++ again_too) kept_too
+    (both_lack (ms ++ lists) again kept
+    (both_lack ms lists kept (names_lack ms Step.other (kept_in r list fs) names no_name_other)
+    (arrays_lack lists Step.other (kept_in r list fs) are no_array_other))
     (lists_lack Step.repeated Step.other (earlier ms) (kept_in r list fs) refl))
-    (both_lack ms again kept_too (names_lack ms Step.other (kept_in s shape gs) names no_name_other)
+    (both_lack (ms ++ lists) again kept_too
+    (both_lack ms lists kept_too (names_lack ms Step.other (kept_in s shape gs) names no_name_other)
+    (arrays_lack lists Step.other (kept_in s shape gs) are no_array_other))
     (lists_lack Step.repeated Step.other (earlier ms) (kept_in s shape gs) refl))
-    (lacks_both kept ns again_too (list_lacks_names Step.other (kept_in r list fs) ns names_too no_name_other)
+    (lacks_both kept (ns ++ lists_too) again_too
+    (lacks_both kept ns lists_too (list_lacks_names Step.other (kept_in r list fs) ns names_too no_name_other)
+    (list_lacks_arrays Step.other (kept_in r list fs) lists_too are_too no_array_other))
     (lists_lack Step.other Step.repeated (kept_in r list fs) (earlier ns) refl))
-    ∙ ap (λ l. l ++ items_told side text (forest kept) (forest kept_too))
-    (both_parts side text ms again ns again_too (names_lack ms Step.repeated (earlier ms) names no_name_again)
-    (names_lack ms Step.repeated (earlier ns) names no_name_again)
-    (list_lacks_names Step.repeated (earlier ms) ns names_too no_name_again))
-    ∙ append_assoc (items_told side text (forest ms) (forest ns)) (items_told side text (forest again)
-    (forest again_too)) (items_told side text (forest kept) (forest kept_too))
-    ∙ (λ k. items_told side text (forest ms) (forest ns)
-    ++ (list_told side text Step.repeated (earlier ms) (earlier ns) k
-    ++ list_told side text Step.other (kept_in r list fs) (kept_in s shape gs) k))
+    ∙ ap (λ l. l ++ told_kept)
+    (both_parts side text (ms ++ lists) again (ns ++ lists_too) again_too
+    (both_lack ms lists again (names_lack ms Step.repeated (earlier ms) names no_name_again)
+    (arrays_lack lists Step.repeated (earlier ms) are no_array_again))
+    (both_lack ms lists again_too (names_lack ms Step.repeated (earlier ns) names no_name_again)
+    (arrays_lack lists Step.repeated (earlier ns) are no_array_again))
+    (lacks_both again ns lists_too (list_lacks_names Step.repeated (earlier ms) ns names_too no_name_again)
+    (list_lacks_arrays Step.repeated (earlier ms) lists_too are_too no_array_again)))
+    ∙ ap (λ l. l ++ told_again ++ told_kept)
+    (both_parts side text ms lists ns lists_too (names_lack_arrays ms lists names are)
+    (names_lack_arrays ms lists_too names are_too) (arrays_lack_names lists ns are names_too))
+    ∙ append_assoc (told ++ told_lists) told_again told_kept
+    ∙ append_assoc told told_lists (told_again ++ told_kept)
+    ∙ (λ k. told ++ (told_lists ++ (list_told side text Step.repeated (earlier ms) (earlier ns) k
+    ++ list_told side text Step.other (kept_in r list fs) (kept_in s shape gs) k)))

@@ -6,25 +6,43 @@ use Rattle.std.proofs.lemmas.Bool.{and_from, and_parts, or_parts, not-true}
 use Rattle.std.proofs.lemmas.Fmt.{decimal_by_steps, decimal_injective}
 use Rattle.std.specs.Prelude.{◌==◌, ◌&&◌, codes, cond, not}
 use Rattle.std.specs.List.{list_any}
-use Rattle.frame_diff.specs.Forests.{Path, Step, entries_step, field_step, is_text, rest_step, values_step}
+use Rattle.frame_diff.specs.Forests.{Path, Step, entries_step, field_step, is_step, is_text, rest_step, values_step}
 use Rattle.frame_diff.specs.Items.{path_text, step_text, text_behind}
 use Rattle.frame_diff.specs.Members.{refused_step}
+use Rattle.frame_diff.proofs.Steps.{step_same}
 
 -- ** the sorts of members beside each other
 
+-- attributes of a function, of a list of addresses, or all others, and with them the header of a message
+pub data Whose : Type 0 where
+  function : Whose
+  addresses : Whose
+  other : Whose
+
 -- none; fields of a record, which hold no others, so that their names may be any; values of a list; a list of entries;
--- a list of those that have a name; attributes of a function, or all others, and with them the header of a message
+-- a list of those that have a name; attributes
 pub data Sort : Type 0 where
   nothing : Sort
   fields : Sort
   values : Sort → Sort
   entries : Sort
   listed : Sort
-  attributes : (of_function : Bool) → Sort
+  attributes : Whose → Sort
+
+-- the lists that attributes are the values of
+abbrev pub array_steps : Whose → List Step
+array_steps Whose.function = []
+array_steps Whose.addresses = Step.array (codes "macaddr") ∷ []
+array_steps Whose.other =
+    Step.array (codes "vlan-info")
+    ∷ Step.array (codes "vlan-tunnel-info")
+    ∷ Step.array (codes "entry")
+    ∷ Step.array (codes "mapping")
+    ∷ []
 
 -- the steps beside attributes that are no names
-abbrev pub own_steps : List Step
-own_steps =
+abbrev pub own_steps : Whose → List Step
+own_steps whose =
     Step.repeated
     ∷ Step.other
     ∷ refused_step
@@ -33,7 +51,7 @@ own_steps =
     ∷ field_step (codes "ifi-index")
     ∷ field_step (codes "ifi-flags")
     ∷ field_step (codes "ifi-change")
-    ∷ []
+    ∷ array_steps whose
 
 -- the step of a text among these, or the name
 abbrev pub step_among : List Step → List ℕ → Step
@@ -47,59 +65,70 @@ step_at Sort.fields text = field_step text
 step_at (Sort.values sort) text = Step.other
 step_at Sort.entries text = entries_step text
 step_at Sort.listed text = cond (is_text (codes "other") text) (rest_step text) (values_step text)
-step_at (Sort.attributes of_function) text = step_among own_steps text
+step_at (Sort.attributes whose) text = step_among (own_steps whose) text
 
 -- names of attributes that hold others than fields: of those of a function, and of all others
 abbrev pub attribute_sorts : List (List ℕ × Sort)
 attribute_sorts =
-    (codes "refused", Sort.attributes false)
-    ∷ (codes "linkinfo", Sort.attributes false)
+    (codes "refused", Sort.attributes Whose.other)
+    ∷ (codes "linkinfo", Sort.attributes Whose.other)
     ∷ (codes "vfinfo-list", Sort.entries)
     ∷ (codes "vf-ports", Sort.entries)
-    ∷ (codes "port-self", Sort.attributes false)
-    ∷ (codes "af-spec", Sort.attributes false)
-    ∷ (codes "protinfo", Sort.attributes false)
-    ∷ (codes "xdp", Sort.attributes false)
+    ∷ (codes "port-self", Sort.attributes Whose.other)
+    ∷ (codes "af-spec", Sort.attributes Whose.other)
+    ∷ (codes "protinfo", Sort.attributes Whose.other)
+    ∷ (codes "xdp", Sort.attributes Whose.other)
     ∷ (codes "prop-list", Sort.listed)
-    ∷ (codes "proto-down-reason", Sort.attributes false)
-    ∷ (codes "devlink-port", Sort.attributes false)
-    ∷ (codes "dpll-pin", Sort.attributes false)
-    ∷ (codes "inet", Sort.attributes false)
-    ∷ (codes "inet6", Sort.attributes false)
-    ∷ (codes "mctp", Sort.attributes false)
-    ∷ (codes "data", Sort.attributes false)
-    ∷ (codes "slave-data", Sort.attributes false)
-    ∷ (codes "egress-qos", Sort.attributes false)
-    ∷ (codes "ingress-qos", Sort.attributes false)
-    ∷ (codes "ad-info", Sort.attributes false)
-    ∷ (codes "mcast-querier-state", Sort.attributes false)
-    ∷ (codes "macaddr-data", Sort.attributes false)
-    ∷ (codes "tdc", Sort.attributes false)
-    ∷ (codes "ctrlmode-ext", Sort.attributes false)
-    ∷ (codes "vlan-tunnel-info", Sort.attributes false)
-    ∷ (codes "mst", Sort.attributes false)
-    ∷ (codes "entry", Sort.attributes false)
+    ∷ (codes "proto-down-reason", Sort.attributes Whose.other)
+    ∷ (codes "devlink-port", Sort.attributes Whose.other)
+    ∷ (codes "dpll-pin", Sort.attributes Whose.other)
+    ∷ (codes "inet", Sort.attributes Whose.other)
+    ∷ (codes "inet6", Sort.attributes Whose.other)
+    ∷ (codes "mctp", Sort.attributes Whose.other)
+    ∷ (codes "data", Sort.attributes Whose.other)
+    ∷ (codes "slave-data", Sort.attributes Whose.other)
+    ∷ (codes "mapping", Sort.values Sort.fields)
+    ∷ (codes "egress-qos", Sort.attributes Whose.other)
+    ∷ (codes "ingress-qos", Sort.attributes Whose.other)
+    ∷ (codes "ad-info", Sort.attributes Whose.other)
+    ∷ (codes "mcast-querier-state", Sort.attributes Whose.other)
+    ∷ (codes "macaddr-data", Sort.attributes Whose.addresses)
+    ∷ (codes "macaddr", Sort.values Sort.fields)
+    ∷ (codes "tdc", Sort.attributes Whose.other)
+    ∷ (codes "ctrlmode-ext", Sort.attributes Whose.other)
+    ∷ (codes "vlan-info", Sort.values Sort.fields)
+    ∷ (codes "vlan-tunnel-info", Sort.values (Sort.attributes Whose.other))
+    ∷ (codes "mst", Sort.attributes Whose.other)
+    ∷ (codes "entry", Sort.values (Sort.attributes Whose.other))
     ∷ []
 
 abbrev pub function_sorts : List (List ℕ × Sort)
-function_sorts = (codes "stats", Sort.attributes false) ∷ (codes "vlan-list", Sort.listed) ∷ []
+function_sorts = (codes "stats", Sort.attributes Whose.other) ∷ (codes "vlan-list", Sort.listed) ∷ []
+
+abbrev pub sorts_of : Whose → List (List ℕ × Sort)
+sorts_of Whose.function = function_sorts
+sorts_of Whose.addresses = attribute_sorts
+sorts_of Whose.other = attribute_sorts
 
 -- the sort of a name
 abbrev pub sort_among : List (List ℕ × Sort) → List ℕ → Sort
 sort_among [] text = Sort.fields
 sort_among (row ∷ rows) text = cond (is_text row.0 text) row.1 (sort_among rows text)
 
+-- that of an entry, by the name of its list
+abbrev pub whose_entry : List ℕ → Whose
+whose_entry text = cond (is_text (codes "info") text) Whose.function Whose.other
+
 -- the sort of the members inside the one of this text
 abbrev pub within : Sort → List ℕ → Sort
 within Sort.nothing text = Sort.nothing
 within Sort.fields text = Sort.nothing
 within (Sort.values sort) text = sort
-within Sort.entries text = Sort.values (Sort.attributes (is_text (codes "info") text))
+within Sort.entries text = Sort.values (Sort.attributes (whose_entry text))
 within Sort.listed text = Sort.values Sort.fields
-within (Sort.attributes of_function) text =
-    cond (is_text (codes "repeated") text) (Sort.values (Sort.attributes of_function))
-    (cond (is_text (codes "other") text) (Sort.values Sort.fields)
-    (sort_among (cond of_function function_sorts attribute_sorts) text))
+within (Sort.attributes whose) text =
+    cond (is_text (codes "repeated") text) (Sort.values (Sort.attributes whose))
+    (cond (is_text (codes "other") text) (Sort.values Sort.fields) (sort_among (sorts_of whose) text))
 
 -- ** texts without a point
 
@@ -117,8 +146,12 @@ lacks [] h = absurd cc
 lacks (x ∷ text) h = h
 
 -- a plain text that is that of no other step
-abbrev pub is_name : List ℕ → Bool
-is_name text = is_plain text && not (list_any (λ s. is_text (step_text s) text) own_steps)
+abbrev pub is_name : Whose → List ℕ → Bool
+is_name whose text = is_plain text && not (list_any (λ s. is_text (step_text s) text) (own_steps whose))
+
+-- a plain text that is that of a list of values
+abbrev pub is_array : Whose → List ℕ → Bool
+is_array whose text = is_plain text && is_step (step_among (own_steps whose) text) (Step.array text)
 
 digit_lacks : (n : ℕ) → n < 10 → lacks_point ((48 + n) ∷ []) ≡ true
 digit_lacks n less = (λ k. not (ne_eqb (48 + n) 46 (λ same. omega (arith, same)) k) && true)
@@ -145,18 +178,19 @@ Stands Sort.fields s = s ≡ field_step (step_text s)
 Stands (Sort.values sort) s = (n : ℕ) × (n < 2 ^ 64) × (s ≡ Step.place n)
 Stands Sort.entries s = IsAt Sort.entries s
 Stands Sort.listed s = IsAt Sort.listed s
-Stands (Sort.attributes of_function) s = IsAt (Sort.attributes of_function) s
+Stands (Sort.attributes whose) s = IsAt (Sort.attributes whose) s
 
 abbrev pub StandsIn : Sort → Path → Type 0
 StandsIn sort [] = Unit {0}
 StandsIn sort (s ∷ path) = Stands sort s × StandsIn (within sort (step_text s)) path
 
 -- a name that is no other step
-pub name_stands : (of_function : Bool) (name : List ℕ) → is_name name ≡ true
-    → Stands (Sort.attributes of_function) (Step.name name)
-name_stands of_function name h =
-    let both = and_parts (is_plain name) (not (list_any (λ s. is_text (step_text s) name) own_steps)) h in
-    (sym (among own_steps (not-true (list_any (λ s. is_text (step_text s) name) own_steps) both.1)), both.0)
+pub name_stands : (whose : Whose) (name : List ℕ) → is_name whose name ≡ true
+    → Stands (Sort.attributes whose) (Step.name name)
+name_stands whose name h =
+    let steps = own_steps whose in
+    let both = and_parts (is_plain name) (not (list_any (λ s. is_text (step_text s) name) steps)) h in
+    (sym (among steps (not-true (list_any (λ s. is_text (step_text s) name) steps) both.1)), both.0)
   where
     among : (steps : List Step) → list_any (λ s. is_text (step_text s) name) steps ≡ false
         → step_among steps name ≡ Step.name name
@@ -164,6 +198,13 @@ name_stands of_function name h =
     among (s ∷ steps) none =
         let both = or_parts (is_text (step_text s) name) (list_any (λ t. is_text (step_text t) name) steps) none in
         ap (λ b. cond b s (step_among steps name)) both.0 ∙ among steps both.1
+
+-- and one that is a list of values
+pub array_stands : (whose : Whose) (name : List ℕ) → is_array whose name ≡ true
+    → Stands (Sort.attributes whose) (Step.array name)
+array_stands whose name h =
+    let both = and_parts (is_plain name) (is_step (step_among (own_steps whose) name) (Step.array name)) h in
+    (sym (step_same (step_among (own_steps whose) name) (Step.array name) both.1), both.0)
 
 -- ** texts that are the same
 
@@ -233,8 +274,8 @@ one_step Sort.fields s t (x ∷ p) q h k f g same = absurd f.0
 one_step (Sort.values sort) s t p q h k f g same = place_same s t h.0 k.0 p q h.1 k.1 h.2 k.2 same
 one_step Sort.entries s t p q h k f g same = at_same Sort.entries s t p q h k same
 one_step Sort.listed s t p q h k f g same = at_same Sort.listed s t p q h k same
-one_step (Sort.attributes of_function) s t p q h k f g same =
-    at_same (Sort.attributes of_function) s t p q h k same
+one_step (Sort.attributes whose) s t p q h k f g same =
+    at_same (Sort.attributes whose) s t p q h k same
 
 paths_same : (sort : Sort) (p q : Path) → StandsIn sort p → StandsIn sort q → behind p ≡ behind q → p ≡ q
 paths_same sort [] [] f g same = refl
@@ -248,7 +289,7 @@ paths_same sort (s ∷ p) (t ∷ q) f g same =
     (λ k. both.0 k ∷ rest k)
 
 -- beside the attributes of a message
-pub path_of_text : (p q : Path) → StandsIn (Sort.attributes false) p → StandsIn (Sort.attributes false) q
+pub path_of_text : (p q : Path) → StandsIn (Sort.attributes Whose.other) p → StandsIn (Sort.attributes Whose.other) q
     → path_text p ≡ path_text q → p ≡ q
 path_of_text [] [] f g same = refl
 path_of_text [] (t ∷ q) f g same =
@@ -258,5 +299,5 @@ path_of_text (s ∷ p) [] f g same =
     let clash : [] ≡ step_text s ++ behind p = sym same ∙ begins (step_text s) p f.0.1 in
     absurd (not_empty (step_text s) (behind p) f.0.1 clash)
 path_of_text (s ∷ p) (t ∷ q) f g same =
-    paths_same (Sort.attributes false) (s ∷ p) (t ∷ q) f g
+    paths_same (Sort.attributes Whose.other) (s ∷ p) (t ∷ q) f g
     (ap (λ text. 46 ∷ text) (sym (begins (step_text s) p f.0.1) ∙ same ∙ begins (step_text t) q g.0.1))

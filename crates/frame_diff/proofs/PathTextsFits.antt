@@ -16,6 +16,7 @@ use Rattle.link_info.specs.Meanings.{text_or_bytes}
 use Rattle.link_info.specs.Styles.{are_frames, are_frames_of, is_multiple, plain_size, record_size, Form as Spelling}
 use Rattle.link_info.specs.Styles.{Host, form}
 use Rattle.link_info.specs.Tables.{frames_in}
+use Rattle.link_info.specs.declared.style.Element.TheVariants as E
 use Rattle.link_info.specs.declared.style.Style.{Style}
 use Rattle.link_info.specs.declared.style.Style.TheVariants as S
 use Rattle.link_state.specs.Table.{Action}
@@ -35,11 +36,12 @@ use Rattle.frame_shown.specs.declared.form.Way.TheVariants as Ways
 use Rattle.frame_diff.specs.Counters.{fields_left, is_clear}
 use Rattle.frame_diff.specs.Forests.{Forest, Held, Member, Step, comes, forest, left_of}
 use Rattle.frame_diff.specs.Items.{step_text}
-use Rattle.frame_diff.specs.Members.{Inner, fields, fields_kept, form_inside, held_inside, ipv6_inside, is_nest}
+use Rattle.frame_diff.specs.Members.{Inner, fields, fields_kept, form_inside, held_inside, ipv6_inside}
 use Rattle.frame_diff.specs.Members.{is_some, meaning_inside, named, placed, placed_one, places, unless_none}
-use Rattle.frame_diff.specs.Members.{way_inside}
-use Rattle.frame_diff.proofs.PathTexts.{Sort, Stands, within}
-use Rattle.frame_diff.proofs.PathTextsNames.{form_fits, is_known, is_same, same_sort, sort_of, style_fits, way_fits}
+use Rattle.frame_diff.specs.Members.{are_plain, values_inside, way_inside}
+use Rattle.frame_diff.proofs.PathTexts.{Sort, Stands, Whose, within}
+use Rattle.frame_diff.proofs.PathTextsNames.{form_fits, info_known, is_known, is_same, same_sort, sort_of, style_fits}
+use Rattle.frame_diff.proofs.PathTextsNames.{way_fits, whose_place}
 
 -- ** members of a sort
 
@@ -101,17 +103,21 @@ placed_fit : (sort : Sort) (n : ℕ) (hs : List (Option Held)) → n + length hs
 placed_fit sort n [] few h = tt
 placed_fit sort n (None ∷ hs) few h = placed_fit sort (n + 1) hs (omega (arith, few)) h
 placed_fit sort n (Some held ∷ hs) few h =
-    append_fits (Sort.values sort) (placed_one n (Some held)) (placed (n + 1) hs) (by (is_nest held.0))
-    (placed_fit sort (n + 1) hs (omega (arith, few)) h.1)
-  where
-    by : (b : Bool) → AllFit (Sort.values sort) (cond b ((Step.place n, held) ∷ []) [])
-    by true = ((n, omega (arith, few), refl), h.0, tt)
-    by false = tt
+    append_fits (Sort.values sort) (placed_one n (Some held)) (placed (n + 1) hs)
+    ((n, omega (arith, few), refl), h.0, tt) (placed_fit sort (n + 1) hs (omega (arith, few)) h.1)
 
 pub places_fit : (sort : Sort) (hs : List (Option Held)) → length hs < 2 ^ 64 → HeldFit sort hs
     → Fits (Sort.values sort) (places hs)
 places_fit sort hs few h =
     forest_fits (Sort.values sort) (placed 0 hs) (placed_fit sort 0 hs (omega (arith, few)) h)
+
+pub inside_fit : (sort : Sort) (hs : List (Option Held)) → length hs < 2 ^ 64 → HeldFit sort hs
+    → Fits (Sort.values sort) (values_inside hs)
+inside_fit sort hs few h = by (are_plain hs)
+  where
+    by : (b : Bool) → Fits (Sort.values sort) (cond b Forest.none (places hs))
+    by true = tt
+    by false = places_fit sort hs few h
 
 pub unless_fits : (sort : Sort) (s : Step) (v : List Token) (f : Forest) → Stands sort s
     → Fits (within sort (step_text s)) f → AllFit sort (unless_none s v f)
@@ -160,7 +166,7 @@ InnerFits inner = (list : Shape) (p : List ℕ) → is_known list ≡ true → I
 
 abbrev MeaningFits : Sort → Meaning → Type 0
 MeaningFits sort (Fields members p) = sort ≡ Sort.fields
-MeaningFits sort (Nested place p) = (sort ≡ Sort.attributes false) × IsShort p
+MeaningFits sort (Nested place p) = (sort ≡ Sort.attributes (whose_place place)) × IsShort p
 MeaningFits sort _ = Unit {0}
 
 form_none : (sort : Sort) (spelling : Spelling) (p : List ℕ) → MeaningFits sort (form_meaning spelling p)
@@ -191,7 +197,15 @@ read_fits sort (S.Array plain) p short h =
 read_fits sort (S.List plain) p short h =
     raw_or sort (are_frames_of (plain_size plain) (items p)) (Listed plain p) p tt
 read_fits sort (S.Nest place) p short h =
-    raw_or sort (are_frames (items p)) (Nested place p) p (same_sort sort (Sort.attributes false) h, short)
+    raw_or sort (are_frames (items p)) (Nested place p) p
+    (same_sort sort (Sort.attributes (whose_place place)) h, short)
+read_fits sort (S.Each (E.Plain plain)) p short h =
+    raw_or sort (length p == plain_size plain) (form_meaning (form plain) p) p (form_none sort (form plain) p)
+read_fits sort (S.Each (E.Record members)) p short h =
+    raw_or sort (record_size members.now == length p) (Fields members.now p) p (same_sort sort Sort.fields h)
+read_fits sort (S.Each (E.Nest place)) p short h =
+    raw_or sort (are_frames (items p)) (Nested place p) p
+    (same_sort sort (Sort.attributes (whose_place place)) h, short)
 
 module _ (inner : Inner) (fit : InnerFits inner) (sort : Sort) where
   as_same : (own : Sort) (f : Forest) → sort ≡ own → Fits own f → Fits sort f
@@ -206,7 +220,7 @@ module _ (inner : Inner) (fit : InnerFits inner) (sort : Sort) where
       as_same Sort.fields (meaning_inside inner action (Fields members p)) h
       (kept_fields_fit action (map (λ m. plain_size m.1) members) (record_shown members p))
   meaning_fits action (Nested place p) h =
-      as_same (Sort.attributes false) (inner (Shapes.Of place) p) h.0 (fit (Shapes.Of place) p refl h.1)
+      as_same (Sort.attributes (whose_place place)) (inner (Shapes.Of place) p) h.0 (fit (Shapes.Of place) p refl h.1)
   meaning_fits action meaning h = tt
 
   ipv6_fits : (order : Order) (p : List ℕ) → is_same sort Sort.fields ≡ true → Fits sort (ipv6_inside order p)
@@ -229,8 +243,8 @@ module _ (inner : Inner) (fit : InnerFits inner) (sort : Sort) where
       let both = and_parts (is_known list) (is_same sort (sort_of list)) h in
       as_same (sort_of list) (inner list p) (same_sort sort (sort_of list) both.1) (fit list p both.0 short)
   inside_fits cx action Forms.Info p short h =
-      as_same (Sort.attributes false) (inner (info_of p) p) (same_sort sort (Sort.attributes false) h)
-      (fit (info_of p) p refl short)
+      as_same (Sort.attributes Whose.other) (inner (info_of p) p) (same_sort sort (Sort.attributes Whose.other) h)
+      (fit (info_of p) p (info_known p) short)
   inside_fits cx action form p short h = tt
 
   way_inside_fits : (cx : Around) (action : Action) (way : Way) (p : List ℕ) → IsShort p → way_fits sort way ≡ true

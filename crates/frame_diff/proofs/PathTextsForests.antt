@@ -1,8 +1,10 @@
 -- The members of a message are of their sorts, at every level, and so are the paths of its leaves.
 use Rattle.std.proofs.Common.{◌≡◌, ℕ, zero, suc, ◌≤◌, Bool, true, false, List, [], ◌∷◌, ◌++◌, map, arith, length}
 use Rattle.std.proofs.Common.{length-append, refl}
+use Rattle.std.proofs.Common.{◌∙◌, ◌<◌, ◌^◌, ap, eqb-true}
+use Rattle.std.proofs.lemmas.Bool.{and_parts}
 use Rattle.std.proofs.lemmas.List.{length-map}
-use Rattle.std.specs.Prelude.{Option, Some, None, codes, cond, slice_index, ◌==◌}
+use Rattle.std.specs.Prelude.{Option, Some, None, codes, cond, slice_index, ◌==◌, ◌&&◌}
 use Rattle.nla_wire.specs.Frames.{Frame, number}
 use Rattle.nla_wire.specs.Items.{items}
 use Rattle.link_info.specs.Rows.{AreAllRows}
@@ -10,26 +12,33 @@ use Rattle.link_info.specs.Tables.{frames_in}
 use Rattle.shown.specs.Drafts.{Members}
 use Rattle.frame_shown.specs.Kept.{frame_members}
 use Rattle.frame_shown.specs.Messages.{address_len, header_members, with_address_len}
-use Rattle.frame_shown.specs.Tables.{Known, entry_list, group_name, is_kept, kind_shown, row_in}
+use Rattle.frame_shown.specs.Tables.{Known, entry_list, group_name, is_kept, kind_shown, row_in, is_each, lists_in}
 use Rattle.frame_shown.specs.declared.form.Around.{Around}
 use Rattle.frame_shown.specs.declared.form.Group.{Group}
 use Rattle.frame_shown.specs.declared.form.Group.TheVariants as Groups
 use Rattle.frame_shown.specs.declared.form.List.{List as Shape}
 use Rattle.frame_shown.specs.declared.form.List.TheVariants as Shapes
 use Rattle.frame_diff.specs.Counters.{action_in, is_passed}
-use Rattle.frame_diff.specs.Forests.{Forest, Held, Leaf, Member, Path, Step, comes, entries_step, is_text, leaves}
+use Rattle.frame_diff.specs.Forests.{Forest, Held, Leaf, Member, Path, Step, comes, entries_step, leaves}
 use Rattle.frame_diff.specs.Forests.{leaves_at, rest_step, under, values_step}
 use Rattle.frame_diff.specs.Items.{step_text}
 use Rattle.frame_diff.specs.Members.{Parts, Reading, alone, as_object, attributes_in, earlier, entries_in, entry_of}
+use Rattle.frame_diff.specs.Members.{is_unnamed, array_at, arrays_in, arrays_of, value_with, values_with}
 use Rattle.frame_diff.specs.Members.{frame_member, held_by, is_some, kept_by, kept_in, list_at, list_members}
 use Rattle.frame_diff.specs.Members.{members_in, message_forest, message_members, named, named_in, places, reading}
-use Rattle.frame_diff.specs.Members.{refused_in, refused_step}
+use Rattle.frame_diff.specs.Members.{refused_in, refused_step, values_inside}
 use Rattle.frame_diff.specs.PathTexts.{IsRead}
-use Rattle.frame_diff.proofs.PathTexts.{Sort, Stands, StandsIn, name_stands, within}
-use Rattle.frame_diff.proofs.PathTextsNames.{is_known, row_fits, row_named, rows_suit, sort_of, value_fits, value_named}
-use Rattle.frame_diff.proofs.PathTextsFits.{AllFit, AreFew, AreShort, Fits, HeldFit, InnerFits, IsShort, append_fits}
+use Rattle.frame_diff.proofs.PathTexts.{Sort, Stands, StandsIn, Whose, array_stands, is_array, name_stands}
+use Rattle.frame_diff.proofs.PathTexts.{whose_entry, within}
+use Rattle.frame_diff.proofs.PathTextsNames.{AllFit as ListsFit, is_known, is_values, lists_fit, row_fits, row_named}
+use Rattle.frame_diff.proofs.PathTextsNames.{rows_suit}
+use Rattle.frame_diff.proofs.PathTextsNames.{sort_of, sort_of_each, value_fits, value_named, way_fits, whose_place}
+use Rattle.frame_diff.proofs.PathTextsNames.{whose_table}
+use Rattle.frame_diff.proofs.PathTextsFits.{AllFit, AreFew, AreShort, Fits, HeldFit, InnerFits}
+use Rattle.frame_diff.proofs.PathTextsFits.{IsShort, append_fits, inside_fit}
 use Rattle.frame_diff.proofs.PathTextsFits.{each_held, few_each, few_in, fields_fit, forest_fits, held_append}
 use Rattle.frame_diff.proofs.PathTextsFits.{held_fits, left_fits, places_fit, unless_fits}
+use Rattle.frame_shown.specs.Items.{Lists}
 
 -- ** attributes
 
@@ -38,15 +47,15 @@ module _ (r : Reading) (fit : InnerFits r.inner) (list : Shape) where
   row f = row_in r.around list (number f)
 
   -- what has a name is a member of it
-  module _ (of_function : Bool)
-      (rows : (n : ℕ) → row_fits (Sort.attributes of_function) (row_in r.around list n) ≡ true) where
+  module _ (whose : Whose)
+      (rows : (n : ℕ) → row_fits (Sort.attributes whose) (row_in r.around list n) ≡ true) where
     abbrev own : Sort
-    own = Sort.attributes of_function
+    own = Sort.attributes whose
 
     named_one : (f : Frame) → IsShort f.payload → AllFit own (frame_member r list f)
-    named_one f short = by (is_kept (row f).1 f.payload) refl
+    named_one f short = by (is_unnamed (row f).1 f.payload) refl
       where
-        by : (b : Bool) → is_kept (row f).1 f.payload ≡ b
+        by : (b : Bool) → is_unnamed (row f).1 f.payload ≡ b
             → AllFit own (cond b [] ((
               Step.name (row f).0,
               held_by r (action_in r.is_state list (number f)) (row f).1 f.payload,
@@ -54,7 +63,7 @@ module _ (r : Reading) (fit : InnerFits r.inner) (list : Shape) where
         by true is = tt
         by false is =
             let both = row_named own (row f) f.payload (rows (number f)) is in (
-              name_stands of_function (row f).0 both.0,
+              name_stands whose (row f).0 both.0,
               held_fits r.inner fit (within own (row f).0) r.around (action_in r.is_state list (number f)) (row f).1
                   f.payload short both.1,
               tt,
@@ -69,9 +78,9 @@ module _ (r : Reading) (fit : InnerFits r.inner) (list : Shape) where
   module _ (rows : (n : ℕ) → value_fits (row_in r.around list n) ≡ true) where
     value_one : (f : Frame) → IsShort f.payload
         → HeldFit Sort.fields (map (λ (m : Member). Some m.1) (frame_member r list f))
-    value_one f short = by (is_kept (row f).1 f.payload) refl
+    value_one f short = by (is_unnamed (row f).1 f.payload) refl
       where
-        by : (b : Bool) → is_kept (row f).1 f.payload ≡ b
+        by : (b : Bool) → is_unnamed (row f).1 f.payload ≡ b
             → HeldFit Sort.fields (map (λ (m : Member). Some m.1) (cond b [] ((
               Step.name (row f).0,
               held_by r (action_in r.is_state list (number f)) (row f).1 f.payload,
@@ -95,11 +104,74 @@ module _ (r : Reading) (fit : InnerFits r.inner) (list : Shape) where
         held_both [] ys h k = k
         held_both (x ∷ xs) ys h k = (h.0, held_both xs ys h.1 k)
 
+-- ** attributes that are the values of lists
+
+module _ (r : Reading) (fit : InnerFits r.inner) (list : Shape) where
+  module _ (n : ℕ) (sort : Sort) (way : way_fits sort (row_in r.around list n).1 ≡ true) where
+    each_fit : (f : Frame) → IsShort f.payload → HeldFit sort (value_with r list n f)
+    each_fit f short = by (number f == n) refl (is_each (row_in r.around list (number f)).1)
+      where
+        by : (b : Bool) → (number f == n) ≡ b → (c : Bool)
+            → HeldFit sort (cond b (cond c (Some (held_by r (action_in r.is_state list (number f))
+            (row_in r.around list (number f)).1 f.payload) ∷ []) []) [])
+        by true is true = (
+          held_fits r.inner fit sort r.around (action_in r.is_state list (number f))
+              (row_in r.around list (number f)).1 f.payload short
+              (ap (λ k. way_fits sort (row_in r.around list k).1) (eqb-true (number f) n is) ∙ way),
+          tt,
+        )
+        by true is false = tt
+        by false is c = tt
+
+    each_all : (fs : List Frame) → AreShort fs → HeldFit sort (values_with r list n fs)
+    each_all [] short = tt
+    each_all (f ∷ fs) short =
+        held_append sort (value_with r list n f) (values_with r list n fs) (each_fit f short.0) (each_all fs short.1)
+
+  each_few : (n : ℕ) (fs : List Frame) → length (values_with r list n fs) ≤ length fs
+  each_few n fs = few_each (value_with r list n) fs one
+    where
+      by : (held : Held) (b c : Bool) → length (cond b (cond c (Some held ∷ []) []) []) ≤ 1
+      by held true true = omega arith
+      by held true false = omega arith
+      by held false c = omega arith
+
+      one : (f : Frame) → length (value_with r list n f) ≤ 1
+      one f =
+          by (held_by r (action_in r.is_state list (number f)) (row_in r.around list (number f)).1 f.payload)
+          (number f == n) (is_each (row_in r.around list (number f)).1)
+
+  values_places : (sort : Sort) (hs : List (Option Held)) → is_values sort ≡ true → length hs < 2 ^ 64
+      → HeldFit (sort_of_each sort) hs → Fits sort (values_inside hs)
+  values_places (Sort.values sort) hs is few h = inside_fit sort hs few h
+  values_places sort hs is few h = absurd cc
+
+  array_fits : (whose : Whose) (name : List ℕ) (hs : List (Option Held)) → is_array whose name ≡ true
+      → Fits (within (Sort.attributes whose) name) (values_inside hs)
+      → AllFit (Sort.attributes whose) (array_at name hs)
+  array_fits whose name [] is h = tt
+  array_fits whose name (x ∷ hs) is h = (array_stands whose name is, h, tt)
+
+  arrays_fit : (whose : Whose) (lists : Lists) → ListsFit whose (row_in r.around list) lists → (fs : List Frame)
+      → AreFew fs → AllFit (Sort.attributes whose) (arrays_of r list lists fs)
+  arrays_fit whose [] all fs few = tt
+  arrays_fit whose (l ∷ lists) all fs few =
+      let own = within (Sort.attributes whose) l.1 in
+      let hs = values_with r list l.0 fs in
+      let way = way_fits (sort_of_each own) (row_in r.around list l.0).1 in
+      let first = and_parts (is_array whose l.1) (is_values own && way) all.0 in
+      let second = and_parts (is_values own) way first.1 in
+      append_fits (Sort.attributes whose) (array_at l.1 hs) (arrays_of r list lists fs)
+      (array_fits whose l.1 hs first.0 (values_places own hs second.0 (omega (arith, few.0, each_few l.0 fs))
+      (each_all l.0 (sort_of_each own) second.1 fs few.1)))
+      (arrays_fit whose lists all.1 fs few)
+
 -- ** those of a name that stand before the last one, and those that are kept as they are
 
 alone_fits : (sort : Sort) (s : Step) (held : Held) → Stands sort s → Fits (within sort (step_text s)) held.1
     → HeldFit sort (alone (s, held) ∷ [])
 alone_fits sort (Step.name name) held is h = ((is, h, tt), tt)
+alone_fits sort (Step.array name) held is h = tt
 alone_fits sort (Step.part n words) held is h = tt
 alone_fits sort (Step.place n) held is h = tt
 alone_fits sort Step.repeated held is h = tt
@@ -131,7 +203,7 @@ named_few r list (f ∷ fs) =
     omega (
       arith,
       by (Step.name known.0, held_by r (action_in r.is_state list (number f)) known.1 f.payload)
-          (is_kept known.1 f.payload),
+          (is_unnamed known.1 f.payload),
       named_few r list fs,
       length-append (frame_member r list f) (named_in r list fs),
     )
@@ -175,34 +247,38 @@ module _ (r : Reading) (list : Shape) where
 -- ** lists of attributes
 
 module _ (r : Reading) (fit : InnerFits r.inner) where
-  members_fit : (list : Shape) (of_function : Bool)
-      → ((n : ℕ) → row_fits (Sort.attributes of_function) (row_in r.around list n) ≡ true) → (fs : List Frame)
-      → AreFew fs → AllFit (Sort.attributes of_function) (members_in r list fs)
-  members_fit list of_function rows fs few =
-      let own = Sort.attributes of_function in
+  members_fit : (list : Shape) (whose : Whose)
+      → ((n : ℕ) → row_fits (Sort.attributes whose) (row_in r.around list n) ≡ true)
+      → ListsFit whose (row_in r.around list) (lists_in r.around list) → (fs : List Frame)
+      → AreFew fs → AllFit (Sort.attributes whose) (members_in r list fs)
+  members_fit list whose rows lists fs few =
+      let own = Sort.attributes whose in
       let ms = named_in r list fs in
-      let all = named_all r fit list of_function rows fs few.1 in
-      append_fits own (ms ++ list_at Step.repeated (earlier ms)) (list_at Step.other (kept_in r list fs))
-      (append_fits own ms (list_at Step.repeated (earlier ms)) all
+      let arrays = arrays_in r list fs in
+      let all = named_all r fit list whose rows fs few.1 in
+      append_fits own (ms ++ arrays ++ list_at Step.repeated (earlier ms)) (list_at Step.other (kept_in r list fs))
+      (append_fits own (ms ++ arrays) (list_at Step.repeated (earlier ms))
+      (append_fits own ms arrays all (arrays_fit r fit list whose (lists_in r.around list) lists fs few))
       (unless_fits own Step.repeated _ (places (earlier ms)) (refl, refl)
       (places_fit own (earlier ms) (omega (arith, few.0, earlier_few ms, named_few r list fs))
       (earlier_fit own ms all))))
       (unless_fits own Step.other _ (places (kept_in r list fs)) (refl, refl)
       (places_fit Sort.fields (kept_in r list fs) (omega (arith, few.0, kept_few r list fs)) (kept_fit r list fs)))
 
-  entries_fit : (list : Shape) (of_function : Bool)
-      → ((n : ℕ) → row_fits (Sort.attributes of_function) (row_in r.around list n) ≡ true) → (fs : List Frame)
-      → AreShort fs → HeldFit (Sort.attributes of_function) (entries_in r list fs)
-  entries_fit list of_function rows [] short = tt
-  entries_fit list of_function rows (f ∷ fs) short =
-      held_append (Sort.attributes of_function) (cond (number f == 1) (Some (entry_of r list f.payload) ∷ []) [])
-      (entries_in r list fs) (by (number f == 1)) (entries_fit list of_function rows fs short.1)
+  entries_fit : (list : Shape) (whose : Whose)
+      → ((n : ℕ) → row_fits (Sort.attributes whose) (row_in r.around list n) ≡ true)
+      → ListsFit whose (row_in r.around list) (lists_in r.around list) → (fs : List Frame)
+      → AreShort fs → HeldFit (Sort.attributes whose) (entries_in r list fs)
+  entries_fit list whose rows lists [] short = tt
+  entries_fit list whose rows lists (f ∷ fs) short =
+      held_append (Sort.attributes whose) (cond (number f == 1) (Some (entry_of r list f.payload) ∷ []) [])
+      (entries_in r list fs) (by (number f == 1)) (entries_fit list whose rows lists fs short.1)
     where
-      by : (b : Bool) → HeldFit (Sort.attributes of_function) (cond b (Some (entry_of r list f.payload) ∷ []) [])
+      by : (b : Bool) → HeldFit (Sort.attributes whose) (cond b (Some (entry_of r list f.payload) ∷ []) [])
       by true = (
-        left_fits (Sort.attributes of_function) (is_some (frames_in (items f.payload)))
+        left_fits (Sort.attributes whose) (is_some (frames_in (items f.payload)))
             (members_in r list (frames_in (items f.payload)))
-            (members_fit list of_function rows (frames_in (items f.payload)) (few_in f.payload short.0)),
+            (members_fit list whose rows lists (frames_in (items f.payload)) (few_in f.payload short.0)),
         tt,
       )
       by false = tt
@@ -217,20 +293,23 @@ module _ (r : Reading) (fit : InnerFits r.inner) where
 
   module _ (all : AreAllRows r.around.tables.now) where
     group_fits : (group : Group) (fs : List Frame) → AreFew fs
-        → Fits (Sort.values (Sort.attributes (is_text (codes "info") (group_name group))))
-        (places (entries_in r (entry_list group) fs))
+        → Fits (Sort.values (Sort.attributes (whose_entry (group_name group))))
+        (values_inside (entries_in r (entry_list group) fs))
     group_fits Groups.AltIfname fs few =
         let list = entry_list Groups.AltIfname in
-        places_fit (Sort.attributes false) (entries_in r list fs) (omega (arith, few.0, entries_few list fs))
-        (entries_fit list false (rows_suit r.around all list refl) fs few.1)
+        inside_fit (Sort.attributes Whose.other) (entries_in r list fs) (omega (arith, few.0, entries_few list fs))
+        (entries_fit list Whose.other (rows_suit r.around all list refl)
+        (lists_fit r.around all list Whose.other refl) fs few.1)
     group_fits Groups.Info fs few =
         let list = entry_list Groups.Info in
-        places_fit (Sort.attributes true) (entries_in r list fs) (omega (arith, few.0, entries_few list fs))
-        (entries_fit list true (rows_suit r.around all list refl) fs few.1)
+        inside_fit (Sort.attributes Whose.function) (entries_in r list fs) (omega (arith, few.0, entries_few list fs))
+        (entries_fit list Whose.function (rows_suit r.around all list refl)
+        (lists_fit r.around all list Whose.function refl) fs few.1)
     group_fits Groups.Port fs few =
         let list = entry_list Groups.Port in
-        places_fit (Sort.attributes false) (entries_in r list fs) (omega (arith, few.0, entries_few list fs))
-        (entries_fit list false (rows_suit r.around all list refl) fs few.1)
+        inside_fit (Sort.attributes Whose.other) (entries_in r list fs) (omega (arith, few.0, entries_few list fs))
+        (entries_fit list Whose.other (rows_suit r.around all list refl)
+        (lists_fit r.around all list Whose.other refl) fs few.1)
 
     group_is : (group : Group) → Stands Sort.entries (entries_step (group_name group))
     group_is Groups.AltIfname = (refl, refl)
@@ -245,13 +324,15 @@ module _ (r : Reading) (fit : InnerFits r.inner) where
     list_fits : (list : Shape) → is_known list ≡ true → (fs : List Frame) → AreFew fs
         → AllFit (sort_of list) (list_members r list fs)
     list_fits (Shapes.Message family) known fs few =
-        members_fit (Shapes.Message family) false (rows_suit r.around all (Shapes.Message family) known) fs few
+        members_fit (Shapes.Message family) Whose.other (rows_suit r.around all (Shapes.Message family) known)
+        (lists_fit r.around all (Shapes.Message family) Whose.other refl) fs few
     list_fits (Shapes.Own table) known fs few =
-        members_fit (Shapes.Own table) _ (rows_suit r.around all (Shapes.Own table) known) fs few
+        members_fit (Shapes.Own table) (whose_table table) (rows_suit r.around all (Shapes.Own table) known)
+        (lists_fit r.around all (Shapes.Own table) (whose_table table) refl) fs few
     list_fits (Shapes.Listed group table) known fs few =
         let list = Shapes.Listed group table in (
           name_is group,
-          places_fit Sort.fields (map (λ (m : Member). Some m.1) (named_in r list fs))
+          inside_fit Sort.fields (map (λ (m : Member). Some m.1) (named_in r list fs))
               (omega (arith, few.0, named_few r list fs, length-map (named_in r list fs) (λ (m : Member). Some m.1)))
               (values_all r fit list (rows_suit r.around all list known) fs few.1),
           unless_fits Sort.listed (rest_step (codes "other")) _ (places (kept_in r list fs)) (refl, refl)
@@ -260,13 +341,17 @@ module _ (r : Reading) (fit : InnerFits r.inner) where
         )
     list_fits (Shapes.Entries group) known fs few = (group_is group, group_fits group fs few, tt)
     list_fits (Shapes.Of place) known fs few =
-        members_fit (Shapes.Of place) false (rows_suit r.around all (Shapes.Of place) known) fs few
+        members_fit (Shapes.Of place) (whose_place place) (rows_suit r.around all (Shapes.Of place) known)
+        (lists_fit r.around all (Shapes.Of place) (whose_place place) refl) fs few
     list_fits Shapes.ProtoInet6 known fs few =
-        members_fit Shapes.ProtoInet6 false (rows_suit r.around all Shapes.ProtoInet6 known) fs few
+        members_fit Shapes.ProtoInet6 Whose.other (rows_suit r.around all Shapes.ProtoInet6 known)
+        (lists_fit r.around all Shapes.ProtoInet6 Whose.other refl) fs few
     list_fits (Shapes.Info link port) known fs few =
-        members_fit (Shapes.Info link port) false (rows_suit r.around all (Shapes.Info link port) known) fs few
+        members_fit (Shapes.Info link port) Whose.other (rows_suit r.around all (Shapes.Info link port) known)
+        (lists_fit r.around all (Shapes.Info link port) Whose.other refl) fs few
     list_fits Shapes.Refused known fs few =
-        members_fit Shapes.Refused false (rows_suit r.around all Shapes.Refused known) fs few
+        members_fit Shapes.Refused Whose.other (rows_suit r.around all Shapes.Refused known)
+        (lists_fit r.around all Shapes.Refused Whose.other refl) fs few
 
 reading_fits : (n : ℕ) (is_state : Bool) (cx : Around) → AreAllRows cx.tables.now
     → InnerFits (reading n is_state cx).inner
@@ -284,7 +369,7 @@ reading_fits (suc n) is_state cx all list p known short =
 
 -- ** a message
 
-header_fits : (bytes : List ℕ) → AllFit (Sort.attributes false) (named (header_members bytes))
+header_fits : (bytes : List ℕ) → AllFit (Sort.attributes Whose.other) (named (header_members bytes))
 header_fits bytes = (
   (refl, refl),
   tt,
@@ -292,20 +377,21 @@ header_fits bytes = (
 )
 
 pub message_fits : (is_state : Bool) (cx : Around) (m : Parts) → IsRead cx m
-    → Fits (Sort.attributes false) (message_forest is_state cx m)
+    → Fits (Sort.attributes Whose.other) (message_forest is_state cx m)
 unfolding message_members
 message_fits is_state cx m read =
     let family = slice_index m.header 0 in
     let fs = frames_in (items m.attributes) in
     let around = with_address_len cx (address_len fs) in
-    let others = Sort.attributes false in
+    let others = Sort.attributes Whose.other in
     let attributes = attributes_in is_state cx family m.attributes in
     let refused = refused_in is_state cx m.refused in
     forest_fits others (named (header_members m.header) ++ attributes ++ refused)
     (append_fits others (named (header_members m.header) ++ attributes) refused
     (append_fits others (named (header_members m.header)) attributes (header_fits m.header)
-    (members_fit (reading 5 is_state around) (reading_fits 5 is_state around read.0) (Shapes.Message family) false
-    (rows_suit around read.0 (Shapes.Message family) refl) fs (few_in m.attributes read.1)))
+    (members_fit (reading 5 is_state around) (reading_fits 5 is_state around read.0) (Shapes.Message family)
+    Whose.other (rows_suit around read.0 (Shapes.Message family) refl)
+    (lists_fit around read.0 (Shapes.Message family) Whose.other refl) fs (few_in m.attributes read.1)))
     (unless_fits others refused_step _ ((reading 1 is_state cx).inner Shapes.Refused m.refused) (refl, refl)
     (reading_fits 1 is_state cx read.0 Shapes.Refused m.refused refl read.2)))
 

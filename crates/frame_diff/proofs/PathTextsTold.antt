@@ -16,12 +16,12 @@ use Rattle.frame_diff.specs.declared.side.Side.TheVariants.{Old, New}
 use Rattle.frame_diff.proofs.Apart.{message_apart}
 use Rattle.frame_diff.proofs.Messages.{messages_told}
 use Rattle.frame_diff.proofs.Once.{StandOnce, leaves_once}
-use Rattle.frame_diff.proofs.PathTexts.{Sort, StandsIn, path_of_text}
+use Rattle.frame_diff.proofs.PathTexts.{Sort, StandsIn, path_of_text, Whose}
 use Rattle.frame_diff.proofs.PathTextsForests.{AllStand, append_stand, leaf_path, leaves_stand, message_fits}
 use Rattle.frame_diff.proofs.Steps.{path_is, path_same, text_same}
 
 abbrev others : Sort
-others = Sort.attributes false
+others = Sort.attributes Whose.other
 
 -- ** where each path stands once, so does each text
 

@@ -1,6 +1,6 @@
 -- What is compared of a message does not depend on where in memory the rows stand that it is read by.
 use Rattle.std.proofs.Common.{◌≡◌, ℕ, zero, suc, Bool, List, [], ◌∷◌, ◌++◌, refl, sym, ap, ◌∙◌}
-use Rattle.std.specs.Prelude.{◌==◌, Some, None, codes, cond, map, slice_index}
+use Rattle.std.specs.Prelude.{◌==◌, ◌||◌, Some, None, codes, cond, map, slice_index}
 use Rattle.std.specs.List.{flat_map}
 use Rattle.nla_wire.specs.Frames.{Frame, number}
 use Rattle.nla_wire.specs.Items.{items}
@@ -15,7 +15,7 @@ use Rattle.frame_shown.specs.Items.{members_of}
 use Rattle.frame_shown.specs.Kept.{frame_members}
 use Rattle.frame_shown.specs.Messages.{address_len, header_members, with_address_len}
 use Rattle.frame_shown.specs.Plain.{IsPlain}
-use Rattle.frame_shown.specs.Tables.{Known, entry_list, group_name, is_kept, row_in}
+use Rattle.frame_shown.specs.Tables.{Known, entry_list, group_name, row_in, is_each}
 use Rattle.frame_shown.specs.Values.{Nesting, fields_in}
 use Rattle.frame_shown.specs.declared.form.Around.{Around}
 use Rattle.frame_shown.specs.declared.form.Form.{Form}
@@ -26,12 +26,14 @@ use Rattle.frame_shown.specs.declared.form.List.TheVariants as Shapes
 use Rattle.frame_shown.specs.declared.form.Order.{Order}
 use Rattle.frame_shown.specs.declared.form.Way.{Way}
 use Rattle.frame_shown.specs.declared.form.Way.TheVariants as Ways
-use Rattle.frame_shown.proofs.Plain.{AreAlike, fields_same, items_same, kept_now, kind_now, known_now, levels_same}
+use Rattle.frame_shown.proofs.Plain.{AreAlike, each_now, fields_same, items_same, kept_now, kind_now, known_now}
+use Rattle.frame_shown.proofs.Plain.{levels_same, lists_same}
 use Rattle.frame_shown.proofs.Plain.{plainly_alike, row_same, way_now, way_same, way_shown_now, with_len_alike}
 use Rattle.frame_shown.proofs.PlainStyles.{meaning_now, read_now, record_now, size_now}
 use Rattle.frame_diff.specs.Counters.{action_in, is_clear, is_passed}
 use Rattle.frame_diff.specs.Forests.{Forest, Member, Step, entries_step, forest, left_of, rest_step, values_step}
 use Rattle.frame_diff.specs.Members.{Inner, Parts, Reading, as_object, attributes_in, earlier, entries_in, entry_of}
+use Rattle.frame_diff.specs.Members.{is_unnamed, each_by, value_with, array_at, arrays_in}
 use Rattle.frame_diff.specs.Members.{fields, fields_kept, form_inside, frame_member, group_of, held_by, inner_by}
 use Rattle.frame_diff.specs.Members.{ipv6_inside, is_some, kept_by, kept_in, list_at, list_members, listed_in}
 use Rattle.frame_diff.specs.Members.{meaning_inside, members_in, message_forest, message_members, named, named_by}
@@ -65,7 +67,13 @@ held_now r action way p = λ i. (
 named_now : (r : Reading) (action : Action) (row : Known) (f : Frame)
     → named_by r action (known_now row) f ≡ named_by r action row f
 named_now r action row f = λ i.
-    cond (kept_now row.1 f.payload i) [] ((Step.name row.0, held_now r action row.1 f.payload i) ∷ [])
+    cond (kept_now row.1 f.payload i || each_now row.1 i) []
+    ((Step.name row.0, held_now r action row.1 f.payload i) ∷ [])
+
+each_by_now : (r : Reading) (action : Action) (row : Known) (f : Frame)
+    → each_by r action (known_now row) f ≡ each_by r action row f
+each_by_now r action row f = λ i.
+    cond (each_now row.1 i) (Some (held_now r action row.1 f.payload i) ∷ []) []
 
 kept_by_now : (is_passed : Bool) (cx : Around) (row : Known) (f : Frame)
     → kept_by is_passed cx (known_now row) f ≡ kept_by is_passed cx row f
@@ -103,7 +111,7 @@ module _ (cx other : Around) (s : AreAlike cx other) where
     named_same : (action : Action) (row : Known) (f : Frame)
         → named_by (by cx) action row f ≡ named_by (by other) action row f
     named_same action row f = λ i.
-        cond (is_kept row.1 f.payload) []
+        cond (is_unnamed row.1 f.payload) []
         ((
           Step.name row.0,
           (
@@ -120,6 +128,28 @@ module _ (cx other : Around) (s : AreAlike cx other) where
         ∙ named_now (by cx) action (row_in other list (number f)) f
         ∙ named_same action (row_in other list (number f)) f
 
+    each_by_same : (action : Action) (row : Known) (f : Frame)
+        → each_by (by cx) action row f ≡ each_by (by other) action row f
+    each_by_same action row f = λ i.
+        cond (is_each row.1)
+        (Some (
+          way_same cx other s nest row.1 f.payload i,
+          cond (is_clear action) Forest.passed (way_inside_same inner action row.1 f.payload i),
+        ) ∷ []) []
+
+    value_same : (list : Shape) (n : ℕ) (f : Frame) → value_with (by cx) list n f ≡ value_with (by other) list n f
+    value_same list n f =
+        let action : Action = action_in is_state list (number f) in
+        ap (λ hs. cond (number f == n) hs [])
+        (sym (each_by_now (by cx) action (row_in cx list (number f)) f)
+        ∙ ap (λ (row : Known). each_by (by cx) action row f) (row_same cx other s list (number f))
+        ∙ each_by_now (by cx) action (row_in other list (number f)) f
+        ∙ each_by_same action (row_in other list (number f)) f)
+
+    arrays_same : (list : Shape) (fs : List Frame) → arrays_in (by cx) list fs ≡ arrays_in (by other) list fs
+    arrays_same list fs = λ i.
+        flat_map (λ l. array_at l.1 (flat_map (λ f. value_same list l.0 f i) fs)) (lists_same cx other s list i)
+
     named_in_same : (list : Shape) (fs : List Frame) → named_in (by cx) list fs ≡ named_in (by other) list fs
     named_in_same list fs = λ i. flat_map (λ f. member_same list f i) fs
 
@@ -128,7 +158,7 @@ module _ (cx other : Around) (s : AreAlike cx other) where
 
     members_same : (list : Shape) (fs : List Frame) → members_in (by cx) list fs ≡ members_in (by other) list fs
     members_same list fs = λ i.
-        named_in_same list fs i ++ list_at Step.repeated (earlier (named_in_same list fs i))
+        named_in_same list fs i ++ arrays_same list fs i ++ list_at Step.repeated (earlier (named_in_same list fs i))
         ++ list_at Step.other (kept_in_same list fs i)
 
     listed_same : (group : Group) (list : Shape) (fs : List Frame)
@@ -139,7 +169,7 @@ module _ (cx other : Around) (s : AreAlike cx other) where
 
     entry_same : (list : Shape) (p : List ℕ) → entry_of (by cx) list p ≡ entry_of (by other) list p
     entry_same list p = λ i. (
-      object_of (members_of (items_same cx other s nest nest refl list (items p) i)),
+      object_of (members_of (lists_same cx other s list i) (items_same cx other s nest nest refl list (items p) i)),
       left_of (is_some (frames_in (items p))) (members_same list (frames_in (items p)) i),
     )
 

@@ -9,14 +9,14 @@ use Rattle.nla_wire.specs.Items.{Item, frame_count}
 use Rattle.link_info.specs.Tables.{frames_in}
 use Rattle.shown.specs.Drafts.{Draft, object_of, with_members}
 use Rattle.frame_shown.specs.Items.{objects}
-use Rattle.frame_shown.specs.Tables.{is_kept, row_in}
+use Rattle.frame_shown.specs.Tables.{row_in}
 use Rattle.frame_shown.specs.declared.form.List.{List as Shape}
 use Rattle.frame_shown.proofs.Items.{on_next}
 use Rattle.frame_diff.specs.Beside.{held_of}
 use Rattle.frame_diff.specs.Differences.{inside_in}
 use Rattle.frame_diff.specs.Forests.{Held, Member, Step, comes, find, forest, is_text}
 use Rattle.frame_diff.specs.Items.{items_told, joined}
-use Rattle.frame_diff.specs.Members.{Reading, alone, earlier, named_in, placed, places}
+use Rattle.frame_diff.specs.Members.{Reading, alone, earlier, named_in, placed, places, is_unnamed}
 use Rattle.frame_diff.specs.Repeated.{GoesOnAt, IsBeside, IsSameAgain, again_held, again_in, again_items, alone_at}
 use Rattle.frame_diff.specs.Repeated.{earlier_at}
 use Rattle.frame_diff.specs.Repeated.{earlier_in, place_by}
@@ -27,7 +27,7 @@ use Rattle.frame_diff.specs.Walked.{held_items, reading_at}
 use Rattle.frame_diff.specs.declared.again.Named.{Named}
 use Rattle.frame_diff.specs.declared.side.Side.{Side}
 use Rattle.frame_diff.specs.declared.walk.Attributes.{Attributes}
-use Rattle.frame_diff.proofs.Entries.{AreNests, found_place, later}
+use Rattle.frame_diff.proofs.Entries.{found_place, later}
 use Rattle.frame_diff.proofs.Steps.{text_is}
 use Rattle.frame_diff.proofs.Walked.{last_further, names_of, row_by_number, same_untold}
 
@@ -36,7 +36,7 @@ use Rattle.frame_diff.proofs.Walked.{last_further, names_of, row_by_number, same
 pub further : (r : Reading) (list : Shape) (f : Frame) (fs : List Frame)
     → earlier (named_in r list (f ∷ fs)) ≡ again_in r list (named_in r list fs) f ++ earlier (named_in r list fs)
 further r list f fs =
-    by (is_kept (row_in r.around list (number f)).1 f.payload)
+    by (is_unnamed (row_in r.around list (number f)).1 f.payload)
   where
     behind : List Member
     behind = named_in r list fs
@@ -49,18 +49,6 @@ further r list f fs =
         ≡ cond kept [] (cond (comes own.0 behind) (alone own ∷ []) []) ++ earlier behind
     by true = refl
     by false = refl
-
-earlier_nests : (ms : List Member) → AreNests (earlier ms)
-earlier_nests [] = tt
-earlier_nests (m ∷ ms) = by (comes m.0 ms) m.0 (earlier_nests ms)
-  where
-    by : (b : Bool) (s : Step) → AreNests (earlier ms) → AreNests (cond b (alone (s, m.1) ∷ []) [] ++ earlier ms)
-    by false s rest = rest
-    by true (Step.name name) rest = (refl, rest)
-    by true (Step.part sort name) rest = rest
-    by true (Step.place n) rest = rest
-    by true Step.repeated rest = rest
-    by true Step.other rest = rest
 
 -- ** one after another
 
@@ -127,12 +115,12 @@ module _ (nest : Showing) (inner : Holding) (is_state : Bool) where
 
   -- ** what one tells at its place, and those behind it
 
-  again_told : (side : Side) (text : List ℕ) (e : Option Named) (n : ℕ) (hs gs : List (Option Held)) → AreNests gs
+  again_told : (side : Side) (text : List ℕ) (e : Option Named) (n : ℕ) (hs gs : List (Option Held))
       → items_told side text (forest (placed n (again_held nest inner is_state e ++ hs))) (places gs)
       ≡ again_items nest inner is_state side text n gs e
       ++ items_told side text (forest (placed (place_by e n) hs)) (places gs)
-  again_told side text None n hs gs nests = refl
-  again_told side text (Some own) n hs gs nests =
+  again_told side text None n hs gs = refl
+  again_told side text (Some own) n hs gs =
       let alone_one : Held = alone_at nest inner is_state own in
       let rest = items_told side text (forest (placed (n + 1) hs)) (places gs) in
       let path = joined text (decimal n) in
@@ -144,7 +132,7 @@ module _ (nest : Showing) (inner : Holding) (is_state : Bool) where
       (find (Step.name own.name.now) (inside_in (find (Step.place n) (places gs)))))
       ∙ ap (λ h. held_items side (joined path own.name.now) (held_at nest inner is_state own.attribute)
       (find (Step.name own.name.now) (inside_in h)))
-      (found_place gs nests n 0 n (omega arith)))
+      (found_place gs n 0 n (omega arith)))
 
   pub again_next : (list : Shape) (f : Frame) (r : Reading) (e : Option Named) (it next : List Item)
       → it ≡ Ok f ∷ next
@@ -163,7 +151,7 @@ module _ (nest : Showing) (inner : Holding) (is_state : Bool) where
       (places (earlier ms)))) (objects told) (objects rest) page new all
       (ap (λ xs. objects (items_told side text (forest (placed n xs)) (places (earlier ms))))
       (split list f r e it next here looked)
-      ∙ ap objects (again_told side text e n hs (earlier ms) (earlier_nests ms)
+      ∙ ap objects (again_told side text e n hs (earlier ms)
       ∙ ap (λ k. told ++ items_told side text (forest (placed k hs)) (places (earlier ms))) (sym more))
       ∙ map-append (λ o. ([], object_of o)) told rest)
       was then

@@ -10,9 +10,9 @@ use Rattle.link_info.specs.Tables.{frames_in}
 use Rattle.shown.specs.Drafts.{Members, list_of, object_of}
 use Rattle.frame_shown.specs.Frames.{frame_item, items_in, levels, way_shown}
 use Rattle.frame_shown.specs.Items.{Item, comes_in, earlier_ones, has_number, kept_ones, last_ones, list_under}
-use Rattle.frame_shown.specs.Items.{members_of}
+use Rattle.frame_shown.specs.Items.{Lists, arrays, members_of, values_with as shown_values}
 use Rattle.frame_shown.specs.Kept.{frame_members}
-use Rattle.frame_shown.specs.Tables.{Known, is_kept, kind_shown, row_in}
+use Rattle.frame_shown.specs.Tables.{Known, is_kept, kind_shown, row_in, is_each, lists_in}
 use Rattle.frame_shown.specs.declared.form.Around.{Around}
 use Rattle.frame_shown.specs.declared.form.List.{List as Shape}
 use Rattle.frame_diff.specs.Counters.{action_in}
@@ -20,11 +20,14 @@ use Rattle.frame_diff.specs.Forests.{Forest, Held, Member, Step, comes, field_st
 use Rattle.frame_diff.specs.Items.{step_text}
 use Rattle.frame_shown.specs.Values.{Nesting}
 use Rattle.frame_diff.specs.Members.{Inner, Reading, alone, as_object, earlier, fields, held_by, inner_by, kept_in}
+use Rattle.frame_diff.specs.Members.{array_at, arrays_in, arrays_of, values_with}
 use Rattle.frame_diff.specs.Members.{list_at, members_in, named, named_in, placed, placed_one, places, reading}
 use Rattle.frame_diff.specs.Members.{unless_none, value_in}
-use Rattle.frame_diff.specs.Shown.{AreNamedApart, HasNamesApart, MembersAreShown, shown_in}
-use Rattle.frame_diff.proofs.Parts.{NoneComes, both_lack, comes_append}
+use Rattle.frame_diff.specs.Shown.{AreNamedApart, HasNamesApart, MembersAreShown, shown_in, AreListsApart}
+use Rattle.frame_diff.proofs.Parts.{NoneComes, both_lack, comes_append, array_apart, arrays_arrays, arrays_lack}
+use Rattle.frame_diff.proofs.Parts.{names_lack_arrays, named_names}
 use Rattle.frame_diff.proofs.Steps.{text_is, text_same}
+use Rattle.frame_diff.proofs.Values.{AreValues, texts_are, values_agree}
 
 -- ** members behind which none of their step stands
 
@@ -90,6 +93,16 @@ list_is s (Some (v, i) ∷ hs) (o ∷ os) h =
     ∙ some_tree s (list_of (flat_map value_in (Some (v, i) ∷ hs))) (Step.place 0, (object_of o, i)) (placed 1 hs)
     ∙ ap (λ values. (step_text s, list_of values) ∷ []) all
 
+-- ** a list that attributes are the values of
+
+array_is : (name : List ℕ) (hs : List (Option Held)) (vs : List (List Token)) → AreValues hs vs
+    → lasts (array_at name hs) ≡ list_under name vs
+array_is name [] [] h = refl
+array_is name [] (v ∷ vs) h = absurd h
+array_is name (x ∷ hs) [] h = absurd h
+array_is name (x ∷ hs) (v ∷ vs) h =
+    ap (λ values. (name, list_of values) ∷ []) (texts_are (x ∷ hs) (v ∷ vs) h)
+
 -- ** attributes by name and by number
 
 or_is : (b x : Bool) → cond b true x ≡ (b || x)
@@ -100,20 +113,24 @@ module _ (nest : Nesting) (inner : Inner) (cx : Around) (list : Shape) (apart : 
   abbrev r : Reading
   r = record { is_state = false; nest = nest; inner = inner; around = cx }
 
-  -- the row of an attribute, whether it is kept, and what it is in both
+  -- the row of an attribute, whether it is kept, whether it is a value of a list, and what it is in both
   abbrev row : Frame → Known
   row f = row_in cx list (number f)
 
   abbrev kept : Frame → Bool
   kept f = is_kept (row f).1 f.payload
 
+  abbrev each : Frame → Bool
+  each f = is_each (row f).1
+
   abbrev ours : Frame → Bool → List Member
   ours f b = cond b [] ((Step.name (row f).0, held_by r (action_in false list (number f)) (row f).1 f.payload) ∷ [])
 
-  abbrev theirs : Frame → Bool → Item
-  theirs f b =
+  abbrev theirs : Frame → Bool → Bool → Item
+  theirs f b c =
       cond b (Item.as_is (row f).0 (kind_shown (row f).1 f.kind) f.payload)
-      (Item.named (number f) (((row f).0, way_shown nest cx (row f).1 f.payload) ∷ []))
+      (cond c (Item.each (number f) (way_shown nest cx (row f).1 f.payload))
+      (Item.named (number f) (((row f).0, way_shown nest cx (row f).1 f.payload) ∷ [])))
 
   abbrev all : List Frame → List Item
   all fs = map (frame_item nest cx list) fs
@@ -128,7 +145,8 @@ module _ (nest : Nesting) (inner : Inner) (cx : Around) (list : Shape) (apart : 
       by false false h k = refl
       by true false h k =
           let same : number g ≡ number f =
-          apart (number g) (number f) g.payload f.payload named_too named (text_same (row g).0 (row f).0 h) in
+          apart.numbers (number g) (number f) g.payload f.payload named_too named
+          (text_same (row g).0 (row f).0 h) in
           sym (eq-eqb (number g) (number f) same) ∙ k
       by false true h k =
           let same : number g ≡ number f = eqb-true (number g) (number f) k in
@@ -137,30 +155,32 @@ module _ (nest : Nesting) (inner : Inner) (cx : Around) (list : Shape) (apart : 
   comes_agree : (f : Frame) (gs : List Frame) → kept f ≡ false
       → comes (Step.name (row f).0) (named_in r list gs) ≡ comes_in (number f) (all gs)
   comes_agree f [] named = refl
-  comes_agree f (g ∷ gs) named = by (kept g) refl (comes_agree f gs named)
+  comes_agree f (g ∷ gs) named = by (kept g) (each g) refl (comes_agree f gs named)
     where
-      by : (b : Bool) → kept g ≡ b
+      by : (b c : Bool) → kept g ≡ b
           → comes (Step.name (row f).0) (named_in r list gs) ≡ comes_in (number f) (all gs)
-          → comes (Step.name (row f).0) (ours g b ++ named_in r list gs)
-          ≡ (has_number (number f) (theirs g b) || comes_in (number f) (all gs))
-      by true is later = later
-      by false is later =
+          → comes (Step.name (row f).0) (ours g (b || c) ++ named_in r list gs)
+          ≡ (has_number (number f) (theirs g b c) || comes_in (number f) (all gs))
+      by true c is later = later
+      by false true is later = later
+      by false false is later =
           (λ k. cond (names_agree f g named is k) true (later k))
           ∙ or_is (number g == number f) (comes_in (number f) (all gs))
 
   lasts_agree : (fs : List Frame) → lasts (named_in r list fs) ≡ last_ones (all fs)
   lasts_agree [] = refl
-  lasts_agree (f ∷ fs) = by (kept f) refl (lasts_agree fs)
+  lasts_agree (f ∷ fs) = by (kept f) (each f) refl (lasts_agree fs)
     where
-      by : (b : Bool) → kept f ≡ b → lasts (named_in r list fs) ≡ last_ones (all fs)
-          → lasts (ours f b ++ named_in r list fs) ≡ last_ones (theirs f b ∷ all fs)
-      by true is later = later
-      by false is later =
+      by : (b c : Bool) → kept f ≡ b → lasts (named_in r list fs) ≡ last_ones (all fs)
+          → lasts (ours f (b || c) ++ named_in r list fs) ≡ last_ones (theirs f b c ∷ all fs)
+      by true c is later = later
+      by false true is later = later
+      by false false is later =
           (λ k. cond (comes_agree f fs is k) [] (((row f).0, way_shown nest cx (row f).1 f.payload) ∷ []) ++ later k)
 
   earlier_agree : (fs : List Frame) → AreObjects (earlier (named_in r list fs)) (earlier_ones (all fs))
   earlier_agree [] = tt
-  earlier_agree (f ∷ fs) = by (kept f) refl (earlier_agree fs)
+  earlier_agree (f ∷ fs) = by (kept f) (each f) refl (earlier_agree fs)
     where
       m : Member
       m = (Step.name (row f).0, held_by r (action_in false list (number f)) (row f).1 f.payload)
@@ -174,23 +194,36 @@ module _ (nest : Nesting) (inner : Inner) (cx : Around) (list : Shape) (apart : 
       one true later = (refl, later)
       one false later = later
 
-      by : (b : Bool) → kept f ≡ b → AreObjects (earlier (named_in r list fs)) (earlier_ones (all fs))
-          → AreObjects (earlier (ours f b ++ named_in r list fs)) (earlier_ones (theirs f b ∷ all fs))
-      by true is later = later
-      by false is later =
+      by : (b c : Bool) → kept f ≡ b → AreObjects (earlier (named_in r list fs)) (earlier_ones (all fs))
+          → AreObjects (earlier (ours f (b || c) ++ named_in r list fs)) (earlier_ones (theirs f b c ∷ all fs))
+      by true c is later = later
+      by false true is later = later
+      by false false is later =
           subst (λ c. AreObjects (cond c (alone m ∷ []) [] ++ earlier (named_in r list fs))
           (cond (comes_in (number f) (all fs)) (ms ∷ []) [] ++ earlier_ones (all fs))) (sym (comes_agree f fs is))
           (one (comes_in (number f) (all fs)) later)
 
   kept_agree : (fs : List Frame) → AreObjects (kept_in r list fs) (kept_ones (all fs))
   kept_agree [] = tt
-  kept_agree (f ∷ fs) = by (kept f) (kept_agree fs)
+  kept_agree (f ∷ fs) = by (kept f) (each f) (kept_agree fs)
     where
-      by : (b : Bool) → AreObjects (kept_in r list fs) (kept_ones (all fs))
+      by : (b c : Bool) → AreObjects (kept_in r list fs) (kept_ones (all fs))
           → AreObjects (cond b (Some (as_object (frame_members (row f).0 (kind_shown (row f).1 f.kind) f.payload)) ∷ [])
-          [] ++ kept_in r list fs) (kept_ones (theirs f b ∷ all fs))
-      by true later = (refl, later)
-      by false later = later
+          [] ++ kept_in r list fs) (kept_ones (theirs f b c ∷ all fs))
+      by true c later = (refl, later)
+      by false true later = later
+      by false false later = later
+
+  -- the values of lists
+  arrays_agree : (lists : Lists) → AreListsApart lists → (fs : List Frame)
+      → lasts (arrays_of r list lists fs) ≡ arrays lists (all fs)
+  arrays_agree [] apart fs = refl
+  arrays_agree (l ∷ lists) apart fs =
+      lasts_append (array_at l.1 (values_with r list l.0 fs)) (arrays_of r list lists fs)
+      (array_apart r list l.1 (values_with r list l.0 fs) lists fs apart.0)
+      ∙ (λ k. array_is l.1 (values_with r list l.0 fs)
+      (shown_values l.0 (all fs)) (values_agree false nest inner cx list l.0 fs) k
+      ++ arrays_agree lists apart.1 fs k)
 
   -- no name is one of the two lists
   list_lacks : (name : List ℕ) (s : Step) (v : List Token) (i : Forest) → is_step s (Step.name name) ≡ false
@@ -202,7 +235,7 @@ module _ (nest : Nesting) (inner : Inner) (cx : Around) (list : Shape) (apart : 
   none_comes : (fs : List Frame) (s : Step) (hs : List (Option Held))
       → ((name : List ℕ) → is_step s (Step.name name) ≡ false) → NoneComes (named_in r list fs) (list_at s hs)
   none_comes [] s hs other = tt
-  none_comes (f ∷ fs) s hs other = by (kept f) (none_comes fs s hs other)
+  none_comes (f ∷ fs) s hs other = by (kept f || each f) (none_comes fs s hs other)
     where
       by : (b : Bool) → NoneComes (named_in r list fs) (list_at s hs)
           → NoneComes (ours f b ++ named_in r list fs) (list_at s hs)
@@ -217,24 +250,31 @@ module _ (nest : Nesting) (inner : Inner) (cx : Around) (list : Shape) (apart : 
   repeated_lacks v w (Forest.tree a b c d) Forest.passed = (refl, tt)
   repeated_lacks v w (Forest.tree a b c d) (Forest.tree e f g h) = (refl, tt)
 
-  pub members_shown : (fs : List Frame) → shown_in (forest (members_in r list fs)) ≡ members_of (all fs)
+  pub members_shown : (fs : List Frame)
+      → shown_in (forest (members_in r list fs)) ≡ members_of (lists_in cx list) (all fs)
   members_shown fs =
       let ms = named_in r list fs in
+      let lists = arrays_in r list fs in
+      let are = arrays_arrays r list (lists_in cx list) fs in
       let again = list_at Step.repeated (earlier ms) in
       let others = list_at Step.other (kept_in r list fs) in
       forest_shows (members_in r list fs)
-      ∙ lasts_append (ms ++ again) others (both_lack ms again others
-      (none_comes fs Step.other (kept_in r list fs) (λ name. refl))
+      ∙ lasts_append (ms ++ lists ++ again) others (both_lack (ms ++ lists) again others
+      (both_lack ms lists others (none_comes fs Step.other (kept_in r list fs) (λ name. refl))
+      (arrays_lack lists Step.other (kept_in r list fs) are (λ name. (refl, refl))))
       (repeated_lacks _ _ (places (earlier ms)) (places (kept_in r list fs))))
-      ∙ ap (λ l. l ++ lasts others) (lasts_append ms again
-      (none_comes fs Step.repeated (earlier ms) (λ name. refl)))
-      ∙ (λ k. lasts_agree fs k
+      ∙ ap (λ l. l ++ lasts others) (lasts_append (ms ++ lists) again
+      (both_lack ms lists again (none_comes fs Step.repeated (earlier ms) (λ name. refl))
+      (arrays_lack lists Step.repeated (earlier ms) are (λ name. (refl, refl)))))
+      ∙ ap (λ l. l ++ lasts again ++ lasts others)
+      (lasts_append ms lists (names_lack_arrays ms lists (named_names r list fs) are))
+      ∙ (λ k. lasts_agree fs k ++ arrays_agree (lists_in cx list) apart.lists fs k
       ++ list_is Step.repeated (earlier ms) (earlier_ones (all fs)) (earlier_agree fs) k
       ++ list_is Step.other (kept_in r list fs) (kept_ones (all fs)) (kept_agree fs) k)
 
 pub lists_shown : (n : ℕ) (cx : Around) (list : Shape) (p : List ℕ) → HasNamesApart cx list
     → shown_in (forest (members_in (reading n false cx) list (frames_in (items p))))
-    ≡ members_of (items_in (levels n cx) cx list (items p))
+    ≡ members_of (lists_in cx list) (items_in (levels n cx) cx list (items p))
 lists_shown zero cx list p apart =
     members_shown (levels 0 cx) (λ list p. Forest.none) cx list apart (frames_in (items p))
 lists_shown (suc n) cx list p apart =

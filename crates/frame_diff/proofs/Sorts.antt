@@ -19,6 +19,7 @@ use Rattle.frame_diff.proofs.Parts.{NoneComes}
 abbrev pub sort_of : Step → ℕ
 sort_of (Step.part n text) = suc n
 sort_of (Step.name text) = 0
+sort_of (Step.array text) = 0
 sort_of (Step.place n) = 0
 sort_of Step.repeated = 0
 sort_of Step.other = 0
@@ -33,15 +34,24 @@ first false b h = absurd cc
 same_sort : (s t : Step) → is_step s t ≡ true → sort_of s ≡ sort_of t
 same_sort (Step.part m a) (Step.part n b) h = ap suc (eqb-true m n (first (m == n) (is_text a b) h))
 same_sort (Step.part m a) (Step.name b) h = absurd cc
+same_sort (Step.part m a) (Step.array b) h = absurd cc
 same_sort (Step.part m a) (Step.place n) h = absurd cc
 same_sort (Step.part m a) Step.repeated h = absurd cc
 same_sort (Step.part m a) Step.other h = absurd cc
 same_sort (Step.name a) (Step.name b) h = refl
+same_sort (Step.name a) (Step.array b) h = absurd cc
 same_sort (Step.name a) (Step.part n b) h = absurd cc
 same_sort (Step.name a) (Step.place n) h = absurd cc
 same_sort (Step.name a) Step.repeated h = absurd cc
 same_sort (Step.name a) Step.other h = absurd cc
+same_sort (Step.array a) (Step.array b) h = refl
+same_sort (Step.array a) (Step.name b) h = absurd cc
+same_sort (Step.array a) (Step.part n b) h = absurd cc
+same_sort (Step.array a) (Step.place n) h = absurd cc
+same_sort (Step.array a) Step.repeated h = absurd cc
+same_sort (Step.array a) Step.other h = absurd cc
 same_sort (Step.place m) (Step.place n) h = refl
+same_sort (Step.place m) (Step.array b) h = absurd cc
 same_sort (Step.place m) (Step.part n b) h = absurd cc
 same_sort (Step.place m) (Step.name b) h = absurd cc
 same_sort (Step.place m) Step.repeated h = absurd cc
@@ -49,11 +59,13 @@ same_sort (Step.place m) Step.other h = absurd cc
 same_sort Step.repeated Step.repeated h = refl
 same_sort Step.repeated (Step.part n b) h = absurd cc
 same_sort Step.repeated (Step.name b) h = absurd cc
+same_sort Step.repeated (Step.array b) h = absurd cc
 same_sort Step.repeated (Step.place n) h = absurd cc
 same_sort Step.repeated Step.other h = absurd cc
 same_sort Step.other Step.other h = refl
 same_sort Step.other (Step.part n b) h = absurd cc
 same_sort Step.other (Step.name b) h = absurd cc
+same_sort Step.other (Step.array b) h = absurd cc
 same_sort Step.other (Step.place n) h = absurd cc
 same_sort Step.other Step.repeated h = absurd cc
 
@@ -86,6 +98,7 @@ named_sort (m ∷ ms) = (refl, named_sort ms)
 object_sort : (s : Step) → is_of_object s ≡ true → sort_of s ≡ 0
 object_sort (Step.part n text) h = absurd cc
 object_sort (Step.name text) h = refl
+object_sort (Step.array text) h = refl
 object_sort (Step.place n) h = refl
 object_sort Step.repeated h = refl
 object_sort Step.other h = refl

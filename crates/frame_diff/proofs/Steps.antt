@@ -20,11 +20,19 @@ and_right false b h = absurd cc
 
 pub step_same : (s t : Step) → is_step s t ≡ true → s ≡ t
 step_same (Step.name a) (Step.name b) h = ap Step.name (text_same a b h)
+step_same (Step.name a) (Step.array b) h = absurd cc
 step_same (Step.name a) (Step.part n b) h = absurd cc
 step_same (Step.name a) (Step.place n) h = absurd cc
 step_same (Step.name a) Step.repeated h = absurd cc
 step_same (Step.name a) Step.other h = absurd cc
+step_same (Step.array a) (Step.array b) h = ap Step.array (text_same a b h)
+step_same (Step.array a) (Step.name b) h = absurd cc
+step_same (Step.array a) (Step.part n b) h = absurd cc
+step_same (Step.array a) (Step.place n) h = absurd cc
+step_same (Step.array a) Step.repeated h = absurd cc
+step_same (Step.array a) Step.other h = absurd cc
 step_same (Step.part m a) (Step.name b) h = absurd cc
+step_same (Step.part m a) (Step.array b) h = absurd cc
 step_same (Step.part m a) (Step.part n b) h =
     (λ k. Step.part (eqb-true m n (and_left (m == n) (is_text a b) h) k)
     (text_same a b (and_right (m == n) (is_text a b) h) k))
@@ -32,16 +40,19 @@ step_same (Step.part m a) (Step.place n) h = absurd cc
 step_same (Step.part m a) Step.repeated h = absurd cc
 step_same (Step.part m a) Step.other h = absurd cc
 step_same (Step.place m) (Step.name b) h = absurd cc
+step_same (Step.place m) (Step.array b) h = absurd cc
 step_same (Step.place m) (Step.part n b) h = absurd cc
 step_same (Step.place m) (Step.place n) h = ap Step.place (eqb-true m n h)
 step_same (Step.place m) Step.repeated h = absurd cc
 step_same (Step.place m) Step.other h = absurd cc
 step_same Step.repeated (Step.name b) h = absurd cc
+step_same Step.repeated (Step.array b) h = absurd cc
 step_same Step.repeated (Step.part n b) h = absurd cc
 step_same Step.repeated (Step.place n) h = absurd cc
 step_same Step.repeated Step.repeated h = refl
 step_same Step.repeated Step.other h = absurd cc
 step_same Step.other (Step.name b) h = absurd cc
+step_same Step.other (Step.array b) h = absurd cc
 step_same Step.other (Step.part n b) h = absurd cc
 step_same Step.other (Step.place n) h = absurd cc
 step_same Step.other Step.repeated h = absurd cc
@@ -49,6 +60,7 @@ step_same Step.other Step.other h = refl
 
 pub step_is : (s : Step) → is_step s s ≡ true
 step_is (Step.name a) = text_is a
+step_is (Step.array a) = text_is a
 step_is (Step.part m a) = (λ k. eq-eqb m m refl k && text_is a k)
 step_is (Step.place m) = eq-eqb m m refl
 step_is Step.repeated = refl

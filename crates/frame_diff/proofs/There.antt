@@ -11,7 +11,7 @@ use Rattle.shown.specs.Drafts.{Draft, Members, with_members}
 use Rattle.frame_shown.specs.Frames.{are_twice, by_number}
 use Rattle.frame_shown.specs.Items.{Item, are_any, comes_in, earlier_ones, objects}
 use Rattle.frame_shown.specs.Items.{has_number as has_shown_number}
-use Rattle.frame_shown.specs.Tables.{Known, is_kept, listed_row, no_row, row_in}
+use Rattle.frame_shown.specs.Tables.{Known, listed_row, no_row, row_in}
 use Rattle.frame_shown.specs.declared.form.Around.{Around}
 use Rattle.frame_shown.specs.declared.form.List.{List as Shape}
 use Rattle.frame_shown.proofs.Items.{any_earlier}
@@ -20,12 +20,12 @@ use Rattle.frame_diff.specs.Counters.{action_in}
 use Rattle.frame_diff.specs.Forests.{AreApart, Forest, Held, Member, Step, comes, find, forest, is_step}
 use Rattle.frame_diff.specs.Forests.{is_text}
 use Rattle.frame_diff.specs.Items.{joined}
-use Rattle.frame_diff.specs.Members.{Reading, alone, earlier, frame_member, held_by, named_in}
+use Rattle.frame_diff.specs.Members.{Reading, alone, earlier, frame_member, held_by, named_in, is_unnamed}
 use Rattle.frame_diff.specs.Repeated.{earlier_at}
 use Rattle.frame_diff.specs.Shown.{HasNamesApart}
 use Rattle.frame_diff.specs.Walked.{AreAlike, AreOfFrame, HasNames, HasRowOf, Holding, HoldsApart, IsOf, IsOfNumber}
 use Rattle.frame_diff.specs.Walked.{IsTail}
-use Rattle.frame_diff.specs.Walked.{NoneBehind, Showing, held_at, held_items, is_kept_there, is_there}
+use Rattle.frame_diff.specs.Walked.{NoneBehind, Showing, held_at, held_items, is_unnamed_there, is_there}
 use Rattle.frame_diff.specs.Walked.{IsNamedBy, NoneComes, frame_items, is_row_alike, last_items, named_at, reading_at}
 use Rattle.frame_diff.specs.declared.side.Side.{Side}
 use Rattle.frame_diff.specs.declared.walk.Attribute.{Attribute}
@@ -35,6 +35,7 @@ use Rattle.frame_diff.proofs.Beside.{found_last, last_at, or_else}
 use Rattle.frame_diff.proofs.Steps.{text_is, text_same}
 use Rattle.frame_diff.proofs.Repeated.{further}
 use Rattle.frame_diff.proofs.Walked.{last_same, rows_same}
+use Rattle.frame_diff.proofs.Unnamed.{not_kept}
 
 -- ** numbers that stand once
 
@@ -83,7 +84,7 @@ last_kept s (m ∷ ms) more held is =
     ap (λ l. or_else l (cond (is_step m.0 s) (Some m.1) None)) (last_kept s ms more held is)
 
 -- only a number below 256 has a name
-small_by : (b : Bool) (row : Known) (p : List ℕ) → is_kept (cond b row no_row).1 p ≡ false → b ≡ true
+small_by : (b : Bool) (row : Known) (p : List ℕ) → is_unnamed (cond b row no_row).1 p ≡ false → b ≡ true
 small_by true row p named = refl
 small_by false row p named = absurd cc
 
@@ -96,7 +97,7 @@ module _ (r : Reading) (list : Shape) (names : HasNamesApart r.around list) wher
   row f = row_in r.around list (number f)
 
   abbrev kept : Frame → Bool
-  kept f = is_kept (row f).1 f.payload
+  kept f = is_unnamed (row f).1 f.payload
 
   small : (f : Frame) → kept f ≡ false → nat_lt (number f) 256 ≡ true
   small f named = small_by (nat_lt (number f) 256) (listed_row r.around list (number f)) f.payload named
@@ -123,7 +124,8 @@ module _ (r : Reading) (list : Shape) (names : HasNamesApart r.around list) wher
           ap (λ b. cond b true (comes (Step.name (row f).0) behind)) text ∙ later
       by false is true text lacks later =
           let one : number g ≡ number f =
-          names (number g) (number f) g.payload f.payload is named (text_same (row g).0 (row f).0 text) in
+          names.numbers (number g) (number f) g.payload f.payload (not_kept (row g).1 g.payload is)
+          (not_kept (row f).1 f.payload named) (text_same (row g).0 (row f).0 text) in
           let has : has_shown_number (number f) (by_number g) ≡ true =
           has_small (number f) (number g) (small g is) (ap (λ k. k == number f) one ∙ same_number) in
           let clash : true ≡ false = sym has ∙ lacks in
@@ -194,7 +196,7 @@ module _ (r : Reading) (list : Shape) (names : HasNamesApart r.around list) wher
 
 abbrev kept_beside : Reading → Shape → Option Frame → Bool
 kept_beside r list None = false
-kept_beside r list (Some g) = is_kept (row_in r.around list (number g)).1 g.payload
+kept_beside r list (Some g) = is_unnamed (row_in r.around list (number g)).1 g.payload
 
 module _ (nest : Showing) (inner : Holding) (is_state : Bool) (side : Side) (text : List ℕ)
     (behind others : Attributes) (alike : AreAlike behind others) (f : Frame) where
@@ -222,7 +224,7 @@ module _ (nest : Showing) (inner : Holding) (is_state : Bool) (side : Side) (tex
       ∙ found_last (Step.name name) (named_in r behind.list fs)
 
   -- beside the one of its number
-  found_beside : is_kept (row_in behind.around.now behind.list (number f)).1 f.payload ≡ false
+  found_beside : is_unnamed (row_in behind.around.now behind.list (number f)).1 f.payload ≡ false
       → are_twice (items others.bytes.now) ≡ false → (beside : Option Frame)
       → IsOfNumber (number f) others.bytes.now beside → kept_beside r behind.list beside ≡ false
       → find (Step.name name) all ≡ option_map (held_of r behind.list) beside
@@ -234,7 +236,7 @@ module _ (nest : Showing) (inner : Holding) (is_state : Bool) (side : Side) (tex
       ∙ found_there r behind.list (alike.2 behind.list) f named one.0 g one.1 one.3 kept
       (ap (λ fs. are_any (earlier_ones (map by_number fs))) (sym one.2) ∙ once)
 
-  single_told : is_kept (row_in behind.around.now behind.list (number f)).1 f.payload ≡ false
+  single_told : is_unnamed (row_in behind.around.now behind.list (number f)).1 f.payload ≡ false
       → NoneBehind f behind → are_twice (items others.bytes.now) ≡ false → (beside : Option Frame)
       → IsOfNumber (number f) others.bytes.now beside → kept_beside r behind.list beside ≡ false
       → frame_items side text r behind.list all ms f
@@ -249,13 +251,13 @@ module _ (nest : Showing) (inner : Holding) (is_state : Bool) (side : Side) (tex
 
   -- the same, as attributes of both lists
   kept_same : (there : Option Attribute) (beside : Option Frame) → IfSome there (IsOf others)
-      → AreOfFrame there beside → is_kept_there there ≡ false → kept_beside r behind.list beside ≡ false
+      → AreOfFrame there beside → is_unnamed_there there ≡ false → kept_beside r behind.list beside ≡ false
   kept_same None None of frame kept = refl
   kept_same None (Some g) of frame kept = absurd frame
   kept_same (Some a) None of frame kept = absurd frame
   kept_same (Some a) (Some g) of frame kept =
-      (λ k. is_kept (row_in (alike.0 k) (alike.1 k) (sym frame.0 k)).1 (sym frame.1 k))
-      ∙ ap (λ w. is_kept w a.payload.now) (sym of.2) ∙ kept
+      (λ k. is_unnamed (row_in (alike.0 k) (alike.1 k) (sym frame.0 k)).1 (sym frame.1 k))
+      ∙ ap (λ w. is_unnamed w a.payload.now) (sym of.2) ∙ kept
 
   held_same_too : (beside : Option Frame)
       → option_map (held_of s others.list) beside ≡ option_map (held_of r behind.list) beside
@@ -267,7 +269,7 @@ module _ (nest : Showing) (inner : Holding) (is_state : Bool) (side : Side) (tex
       → held_at nest inner is_state own ≡ held_of r behind.list f
       → option_map (held_at nest inner is_state) there ≡ option_map (held_of s others.list) beside
       → IfSome there (IsOf others) → AreOfFrame there beside
-      → is_kept own.way own.payload.now ≡ false → is_kept_there there ≡ false
+      → is_unnamed own.way own.payload.now ≡ false → is_unnamed_there there ≡ false
       → NoneBehind f behind → are_twice (items others.bytes.now) ≡ false → IsOfNumber (number f) others.bytes.now beside
       → (told : List ℕ) → told ≡ (row_in behind.around.now behind.list own.number).0
       → new ≡ with_members (objects (held_items side (joined text told) (held_at nest inner is_state own)
@@ -275,9 +277,9 @@ module _ (nest : Showing) (inner : Holding) (is_state : Bool) (side : Side) (tex
       → new ≡ with_members (objects (frame_items side text r behind.list all ms f)) page
   single_page own there beside page new of number_is payload held held_there of_too frame kept kept_too none once one
       told named is =
-      let own_kept : is_kept (row_in behind.around.now behind.list (number f)).1 f.payload ≡ false =
-      (λ k. is_kept (row_in behind.around.now behind.list (sym number_is k)).1 (sym payload k))
-      ∙ ap (λ w. is_kept w own.payload.now) (sym of.2) ∙ kept in
+      let own_kept : is_unnamed (row_in behind.around.now behind.list (number f)).1 f.payload ≡ false =
+      (λ k. is_unnamed (row_in behind.around.now behind.list (sym number_is k)).1 (sym payload k))
+      ∙ ap (λ w. is_unnamed w own.payload.now) (sym of.2) ∙ kept in
       is
       ∙ (λ k. with_members (objects (held_items side
       (joined text ((named ∙ ap (λ n. (row_in behind.around.now behind.list n).0) number_is) k)) (held k)
@@ -301,16 +303,16 @@ module _ (nest : Showing) (inner : Holding) (is_state : Bool) (side : Side) (tex
         → IsOfNumber (number f) others.bytes.now (Some g) → g.payload ≡ f.payload
         → frame_items side text r behind.list all ms f ≡ []
     untold g once one same =
-        by (is_kept (row_in behind.around.now behind.list (number f)).1 f.payload) refl
+        by (is_unnamed (row_in behind.around.now behind.list (number f)).1 f.payload) refl
       where
-        by : (kept : Bool) → is_kept (row_in behind.around.now behind.list (number f)).1 f.payload ≡ kept
+        by : (kept : Bool) → is_unnamed (row_in behind.around.now behind.list (number f)).1 f.payload ≡ kept
             → cond kept []
             (last_items side text ms (Step.name name, held_of r behind.list f) (find (Step.name name) all)) ≡ []
         by true named = refl
         by false named =
             last_same side text ms (Step.name name, held_of r behind.list f) (find (Step.name name) all) own_apart
             (found_beside named once (Some g) one
-            ((λ k. is_kept (row_in behind.around.now behind.list (one.3 k)).1 (same k)) ∙ named)
+            ((λ k. is_unnamed (row_in behind.around.now behind.list (one.3 k)).1 (same k)) ∙ named)
             ∙ ap Some (same_frame g one.3 same))
 
     pub there_page : (beside : Option Frame) (page : Draft) → are_twice (items others.bytes.now) ≡ false
@@ -337,19 +339,19 @@ rows_beside behind others own there f beside of too alike is frame found =
 
 -- behind an attribute of a list in which no number stands twice no other one of its name comes
 pub none_comes_behind : (behind : Attributes) (f : Frame) → HasNames behind.around.now → NoneBehind f behind
-    → is_kept (row_in behind.around.now behind.list (number f)).1 f.payload ≡ false
+    → is_unnamed (row_in behind.around.now behind.list (number f)).1 f.payload ≡ false
     → NoneComes behind (row_in behind.around.now behind.list (number f)).0
 none_comes_behind behind f names none named nest inner is_state =
     let r = reading_at nest inner is_state behind.around.now in
     none_named r behind.list (names behind.list) f named (frames_in (items behind.bytes.now))
     (none (small r behind.list (names behind.list) f named))
 
--- a number that is too large for a row is kept as it is
-pub large_kept : (cx : Around) (list : Shape) (f : Frame) → nat_lt (number f) 256 ≡ false
-    → is_kept (row_in cx list (number f)).1 f.payload ≡ true
-large_kept cx list f large = ap (λ b. is_kept (cond b (listed_row cx list (number f)) no_row).1 f.payload) large
+-- a number that is too large for a row has no name
+pub large_unnamed : (cx : Around) (list : Shape) (f : Frame) → nat_lt (number f) 256 ≡ false
+    → is_unnamed (row_in cx list (number f)).1 f.payload ≡ true
+large_unnamed cx list f large = ap (λ b. is_unnamed (cond b (listed_row cx list (number f)) no_row).1 f.payload) large
 
--- what an attribute tells that is not kept as it is, by whether another one of its name comes behind it
+-- what an attribute tells that has a name, by whether another one of its name comes behind it
 module _ (nest : Showing) (inner : Holding) (is_state : Bool) (side : Side) (text : List ℕ)
     (behind others : Attributes) (f : Frame) where
   abbrev reads : Reading
@@ -367,16 +369,16 @@ module _ (nest : Showing) (inner : Holding) (is_state : Bool) (side : Side) (tex
   abbrev label : List ℕ
   label = (row_in behind.around.now behind.list (number f)).0
 
-  told_last : is_kept (row_in behind.around.now behind.list (number f)).1 f.payload ≡ false
+  told_last : is_unnamed (row_in behind.around.now behind.list (number f)).1 f.payload ≡ false
       → items_of ≡ last_items side text theirs (Step.name label, held_of reads behind.list f)
       (find (Step.name label) there)
   told_last named =
       ap (λ b. cond b [] (last_items side text theirs (Step.name label, held_of reads behind.list f)
       (find (Step.name label) there))) named
 
-  pub kept_page : (page : Draft) → is_kept (row_in behind.around.now behind.list (number f)).1 f.payload ≡ true
+  pub unnamed_page : (page : Draft) → is_unnamed (row_in behind.around.now behind.list (number f)).1 f.payload ≡ true
       → page ≡ with_members (objects items_of) page
-  kept_page page kept =
+  unnamed_page page kept =
       sym (ap (λ b. with_members (objects (cond b [] (last_items side text theirs
       (Step.name label, held_of reads behind.list f) (find (Step.name label) there)))) page) kept)
 

@@ -16,7 +16,7 @@ use Rattle.nla_wire.proofs.Steps.{step_end}
 use Rattle.link_info.specs.Tables.{frames_in}
 use Rattle.shown.specs.Drafts.{Draft, object_of, with_members}
 use Rattle.frame_shown.specs.Items.{objects}
-use Rattle.frame_shown.specs.Tables.{is_kept, row_in}
+use Rattle.frame_shown.specs.Tables.{row_in}
 use Rattle.frame_shown.specs.declared.form.Around.{Around}
 use Rattle.frame_shown.specs.declared.form.List.{List as Shape}
 use Rattle.frame_shown.proofs.Items.{on_next}
@@ -25,9 +25,9 @@ use Rattle.frame_diff.specs.Counters.{action_in}
 use Rattle.frame_diff.specs.Forests.{AreApart, Forest, Held, Member, Step, comes, find, forest, is_text}
 use Rattle.frame_diff.specs.Differences.{text_of}
 use Rattle.frame_diff.specs.Items.{change_item, items_told, joined, leaf_items, step_text, turned_item}
-use Rattle.frame_diff.specs.Members.{Reading, held_by, named_in}
+use Rattle.frame_diff.specs.Members.{Reading, held_by, named_in, is_unnamed}
 use Rattle.frame_diff.specs.Walked.{AreAlike, HasNames, HasRowOf, Holding, HoldsApart, IsOf, Showing, frame_items}
-use Rattle.frame_diff.specs.Walked.{HasRowByNumber, is_row_alike}
+use Rattle.frame_diff.specs.Walked.{AreBeside, HasRowByNumber, StandBeside, is_row_alike}
 use Rattle.frame_diff.specs.Walked.{has_payload, held_at, held_items, last_items, reading_at}
 use Rattle.frame_diff.specs.declared.side.Side.{Side}
 use Rattle.frame_diff.specs.declared.side.Side.TheVariants.{Old, New}
@@ -63,7 +63,8 @@ pub comes_named : (r : Reading) (list : Shape) (name : List ℕ) (fs : List Fram
     → list_any (is_named r.around list name) fs ≡ comes (Step.name name) (named_in r list fs)
 comes_named r list name [] = refl
 comes_named r list name (f ∷ fs) =
-    by (is_kept (row_in r.around list (number f)).1 f.payload) (is_text (row_in r.around list (number f)).0 name) refl
+    by (is_unnamed (row_in r.around list (number f)).1 f.payload)
+    (is_text (row_in r.around list (number f)).0 name) refl
     (comes_named r list name fs)
   where
     behind : List Member
@@ -100,7 +101,7 @@ pub frame_further : (side : Side) (text : List ℕ) (r : Reading) (list : Shape)
     ≡ frame_items side text r list others (named_in r list fs) f
     ++ items_told side text (forest (named_in r list fs)) others
 frame_further side text r list others f fs =
-    by (is_kept (row_in r.around list (number f)).1 f.payload)
+    by (is_unnamed (row_in r.around list (number f)).1 f.payload)
   where
     behind : List Member
     behind = named_in r list fs
@@ -228,3 +229,15 @@ pub row_by_number : (list others : Attributes) (own a : Attribute) → IsOf list
     → AreAlike list others → HasRowByNumber own a
 row_by_number list others own a of found alike one =
     rows_same list others own (Some a) true of found (λ h. alike) (eq-eqb a.number own.number one)
+
+pub one_stands : (cx theirs : Around) (own beside : Option Attribute) → IfSome own (λ a. a.around.now ≡ cx)
+    → IfSome beside (λ a. a.around.now ≡ theirs) → cx ≡ theirs → HasNames cx
+    → IfSome own (λ a. StandBeside a beside)
+one_stands cx theirs None beside of its same names = tt
+one_stands cx theirs (Some a) None of its same names = tt
+one_stands cx theirs (Some a) (Some b) of its same names = (of ∙ same ∙ sym its, subst HasNames (sym of) names)
+
+pub beside_same : (own picked : Attributes) (beside : Option Attributes) → picked.around.now ≡ own.around.now
+    → AreBeside own beside → AreBeside picked beside
+beside_same own picked None same h = tt
+beside_same own picked (Some a) same h = (same ∙ h.0, subst HasNames (sym same) h.1)

@@ -1,17 +1,17 @@
 -- The attribute that stands beside one: the last one of its name.
 use Rattle.std.specs.Prelude.{ℕ, ◌&&◌, List, [], ◌∷◌, Bool, Option, Some, cond, not}
 use Rattle.nla_wire.specs.Frames.{Frame, number}
-use Rattle.frame_shown.specs.Tables.{is_kept, row_in}
+use Rattle.frame_shown.specs.Tables.{row_in}
 use Rattle.frame_shown.specs.declared.form.Around.{Around}
 use Rattle.frame_shown.specs.declared.form.List.{List as Shape}
 use Rattle.frame_diff.specs.Counters.{action_in}
 use Rattle.frame_diff.specs.Forests.{Held, is_text}
-use Rattle.frame_diff.specs.Members.{Reading, held_by}
+use Rattle.frame_diff.specs.Members.{Reading, held_by, is_unnamed}
 
 -- an attribute is told under this name
 abbrev pub is_named : Around → Shape → List ℕ → Frame → Bool
 is_named cx list name f =
-    not (is_kept (row_in cx list (number f)).1 f.payload) && is_text (row_in cx list (number f)).0 name
+    not (is_unnamed (row_in cx list (number f)).1 f.payload) && is_text (row_in cx list (number f)).0 name
 
 -- the last one, or one before
 abbrev pub last_named : Around → Shape → List ℕ → Option Frame → List Frame → Option Frame

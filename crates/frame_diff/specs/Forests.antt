@@ -6,10 +6,12 @@ use Rattle.json.specs.Token.{Token}
 
 -- ** paths
 
--- a step of a path: an attribute with this name, a member of another sort with this text, the value at this place of a
--- list, or one of the two lists that stand beside the attributes of a place
+-- a step of a path: an attribute with this name, the list of this name that attributes are the values of, a member of
+-- another sort with this text, the value at this place of a list, or one of the two lists that stand beside the
+-- attributes of a place
 pub data Step : Type 0 where
   name : List ℕ → Step
+  array : List ℕ → Step
   part : (sort : ℕ) (text : List ℕ) → Step
   place : ℕ → Step
   repeated : Step
@@ -38,6 +40,7 @@ rest_step text = Step.part 3 text
 
 abbrev pub is_step : Step → Step → Bool
 is_step (Step.name a) (Step.name b) = is_text a b
+is_step (Step.array a) (Step.array b) = is_text a b
 is_step (Step.part m a) (Step.part n b) = m == n && is_text a b
 is_step (Step.place m) (Step.place n) = m == n
 is_step Step.repeated Step.repeated = true

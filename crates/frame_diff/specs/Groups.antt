@@ -1,22 +1,24 @@
 -- Lists of values under the name of a group, and what two of them tell place by place.
-use Rattle.std.specs.Prelude.{◌≡◌, ℕ, ◌+◌, ◌==◌, ◌&&◌, List, [], ◌∷◌, Bool, true, false, Option, Some, None}
-use Rattle.std.specs.Prelude.{codes, cond, decimal, map, not}
+use Rattle.std.specs.Prelude.{◌≡◌, ℕ, ◌+◌, ◌==◌, List, [], ◌∷◌, Bool, true, false, Option, Some, None}
+use Rattle.std.specs.Prelude.{codes, cond, decimal, map}
 use Rattle.std.specs.List.{flat_map}
 use Rattle.nla_wire.specs.Frames.{Frame, number}
 use Rattle.nla_wire.specs.Items.{items}
 use Rattle.link_info.specs.Tables.{frames_in}
 use Rattle.shown.specs.Drafts.{Members, list_of}
+use Rattle.json.specs.Token.{Token}
 use Rattle.frame_shown.specs.Frames.{list_shown}
 use Rattle.frame_shown.specs.Tables.{entry_list, group_name}
+use Rattle.frame_shown.specs.Values.{Nesting}
 use Rattle.frame_shown.specs.declared.form.Around.{Around}
 use Rattle.frame_shown.specs.declared.form.List.{List as Shape}
 use Rattle.frame_shown.specs.declared.form.List.TheVariants as Shapes
 use Rattle.frame_diff.specs.Forests.{Forest, Held, Member, Step, entries_step, forest, is_text, rest_step, values_step}
 use Rattle.frame_diff.specs.Inside.{above}
 use Rattle.frame_diff.specs.Items.{joined}
-use Rattle.frame_diff.specs.Members.{Reading, entries_in, entry_of, frame_member, is_nest, list_at, named_in, places}
-use Rattle.frame_diff.specs.Members.{value_in}
-use Rattle.frame_diff.specs.Values.{kept_at}
+use Rattle.frame_diff.specs.Members.{Reading, are_plain, entries_in, entry_of, frame_member, list_at, named_in}
+use Rattle.frame_diff.specs.Members.{value_in, value_with, values_inside, values_with}
+use Rattle.frame_diff.specs.Values.{array_shown, kept_at, listed_shown}
 use Rattle.frame_diff.specs.Walked.{Holding, Showing, held_at, held_items, reading_at}
 use Rattle.frame_diff.specs.declared.side.Side.{Side}
 use Rattle.frame_diff.specs.declared.walk.Attribute.{Attribute}
@@ -77,29 +79,42 @@ group_values r Shapes.ProtoInet6 fs = values_of (named_in r Shapes.ProtoInet6 fs
 group_values r Shapes.Refused fs = values_of (named_in r Shapes.Refused fs)
 group_values r (Shapes.Info link port) fs = values_of (named_in r (Shapes.Info link port) fs)
 
+-- of all attributes, or of those of a number
+abbrev pub picked_values : Reading → Option ℕ → Shape → List Frame → List (Option Held)
+picked_values r None list fs = group_values r list fs
+picked_values r (Some n) list fs = values_with r list n fs
+
 abbrev pub group_at : Showing → Holding → Bool → Attributes → List (Option Held)
 group_at nest inner is_state a =
-    group_values (reading_at nest inner is_state a.around.now) a.list (frames_in (items a.bytes.now))
+    picked_values (reading_at nest inner is_state a.around.now) a.number a.list (frames_in (items a.bytes.now))
+
+-- with all attributes, and with those of a number
+abbrev pub all_of : Attributes → Attributes
+all_of a = record { around = a.around; list = a.list; number = None; bytes = a.bytes }
+
+abbrev pub of_number : ℕ → Attributes → Attributes
+of_number n a = record { around = a.around; list = a.list; number = Some n; bytes = a.bytes }
+
+-- it is shown as a list of values
+abbrev pub is_valued : Option ℕ → Shape → Bool
+is_valued None list = is_group list
+is_valued (Some n) list = true
 
 -- and all of them as one value
 abbrev pub group_by : List (Option Held) → Held
-group_by hs = (list_of (flat_map value_in hs), places hs)
+group_by hs = (list_of (flat_map value_in hs), values_inside hs)
 
 abbrev pub group_held : Showing → Holding → Bool → Attributes → Held
 group_held nest inner is_state a = group_by (group_at nest inner is_state a)
 
--- none of them is an object or a list
-abbrev pub is_nested : Option Held → Bool
-is_nested None = false
-is_nested (Some held) = is_nest held.0
+-- none is an object or a list, whatever attributes there are
+abbrev pub IsFlat : Option ℕ → Shape → Type 0
+IsFlat picks list = (r : Reading) (fs : List Frame) → are_plain (picked_values r picks list fs) ≡ true
 
-abbrev pub are_plain : List (Option Held) → Bool
-are_plain [] = true
-are_plain (h ∷ hs) = not (is_nested h) && are_plain hs
-
--- whatever attributes there are
-abbrev pub IsFlat : Shape → Type 0
-IsFlat list = (r : Reading) (fs : List Frame) → are_plain (group_values r list fs) ≡ true
+-- as one value, where they are such
+abbrev pub flat_shown : Nesting → Around → Option ℕ → Shape → List ℕ → List Token
+flat_shown nest cx None list p = listed_shown nest cx list p
+flat_shown nest cx (Some n) list p = array_shown nest cx list n p
 
 -- ** one of them
 
@@ -149,6 +164,10 @@ values_by r Shapes.ProtoInet6 f = values_of (frame_member r Shapes.ProtoInet6 f)
 values_by r Shapes.Refused f = values_of (frame_member r Shapes.Refused f)
 values_by r (Shapes.Info link port) f = values_of (frame_member r (Shapes.Info link port) f)
 
+abbrev pub picked_by : Reading → Option ℕ → Shape → Frame → List (Option Held)
+picked_by r None list f = values_by r list f
+picked_by r (Some n) list f = value_with r list n f
+
 -- ** beside each other
 
 abbrev pub first_of : List (Option Held) → Option Held
@@ -168,17 +187,10 @@ abbrev pub rest_by : Option Attribute → List (Option Held) → List (Option He
 rest_by None hs = hs
 rest_by (Some a) hs = rest_of hs
 
-abbrev pub nest_in : Option Held → Option Held
-nest_in None = None
-nest_in (Some held) = cond (is_nest held.0) (Some held) None
-
 -- what a value tells at its place
-abbrev pub nest_items : Side → List ℕ → Held → Option Held → List Members
-nest_items side text held beside = cond (is_nest held.0) (held_items side text held (nest_in beside)) []
-
 abbrev pub place_items : Side → List ℕ → ℕ → Option Held → Option Held → List Members
 place_items side text n None beside = []
-place_items side text n (Some held) beside = nest_items side (joined text (decimal n)) held beside
+place_items side text n (Some held) beside = held_items side (joined text (decimal n)) held beside
 
 abbrev pub next_place : Option Attribute → ℕ → ℕ
 next_place None n = n

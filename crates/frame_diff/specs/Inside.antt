@@ -18,6 +18,7 @@ abbrev pub is_field : Step → Bool
 is_field (Step.part zero text) = true
 is_field (Step.part (suc n) text) = false
 is_field (Step.name text) = false
+is_field (Step.array text) = false
 is_field (Step.place n) = false
 is_field Step.repeated = false
 is_field Step.other = false
@@ -26,6 +27,7 @@ is_field Step.other = false
 abbrev pub is_of_object : Step → Bool
 is_of_object (Step.part n text) = false
 is_of_object (Step.name text) = true
+is_of_object (Step.array text) = true
 is_of_object (Step.place n) = true
 is_of_object Step.repeated = true
 is_of_object Step.other = true

@@ -12,6 +12,7 @@ use Rattle.frame_diff.specs.declared.side.Side.TheVariants.{Old, New}
 
 abbrev pub step_text : Step → List ℕ
 step_text (Step.name text) = text
+step_text (Step.array text) = text
 step_text (Step.part sort text) = text
 step_text (Step.place n) = decimal n
 step_text Step.repeated = codes "repeated"

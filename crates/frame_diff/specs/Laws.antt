@@ -1,7 +1,7 @@
 -- What is told of members beside others is what differs between the leaves of both.
-use Rattle.std.specs.Prelude.{◌≡◌, ℕ, Bool, true, false, List, [], ◌∷◌, map}
+use Rattle.std.specs.Prelude.{◌≡◌, ℕ, Bool, true, false, List, [], ◌∷◌, Some, map}
 use Rattle.nla_wire.specs.Frames.{Frame, number}
-use Rattle.frame_shown.specs.Tables.{is_kept, row_in}
+use Rattle.frame_shown.specs.Tables.{is_each, row_in}
 use Rattle.frame_shown.specs.declared.form.Around.{Around}
 use Rattle.frame_shown.specs.declared.form.List.{List as Shape}
 use Rattle.frame_diff.specs.Beside.{held_of}
@@ -9,7 +9,7 @@ use Rattle.frame_diff.specs.Counters.{action_at, action_in, is_clear, is_passed,
 use Rattle.frame_diff.specs.Differences.{Change, both_told, changes, is_told, path_of, told}
 use Rattle.frame_diff.specs.Forests.{AreApart, Forest, Path, Step, leaves}
 use Rattle.frame_diff.specs.Items.{change_item, items_told, path_text}
-use Rattle.frame_diff.specs.Members.{Parts, Reading, frame_member, message_forest, way_inside}
+use Rattle.frame_diff.specs.Members.{Parts, Reading, frame_member, is_unnamed, message_forest, value_with, way_inside}
 use Rattle.frame_diff.specs.declared.side.Side.{Side}
 
 abbrev pub WhatDiffersIsTold : Type 0
@@ -52,8 +52,10 @@ pub record MessagesAreTold : Type 0 where
 -- and no leaf
 pub record CountersArePassed : Type 0 where
   pub member : (r : Reading) (list : Shape) (f : Frame)
-      → is_kept (row_in r.around list (number f)).1 f.payload ≡ false
+      → is_unnamed (row_in r.around list (number f)).1 f.payload ≡ false
       → frame_member r list f ≡ (Step.name (row_in r.around list (number f)).0, held_of r list f) ∷ []
+  pub value : (r : Reading) (list : Shape) (f : Frame) → is_each (row_in r.around list (number f)).1 ≡ true
+      → value_with r list (number f) f ≡ Some (held_of r list f) ∷ []
   pub passed : (r : Reading) (list : Shape) (f : Frame) → is_passed r.is_state list (number f) ≡ true
       → (held_of r list f).1 ≡ Forest.passed
   pub told : (r : Reading) (list : Shape) (f : Frame) → is_passed r.is_state list (number f) ≡ false

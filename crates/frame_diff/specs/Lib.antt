@@ -13,6 +13,7 @@ pub mod Repeated
 pub mod Rows
 pub mod Inside
 pub mod Groups
+pub mod Arrays
 pub mod Nests
 pub mod Messages
 pub mod Laws

@@ -1,7 +1,7 @@
 -- The members of what is shown of a message, by the rows of its frames: the step to each, its value as it is shown, and
 -- those inside it. What a state clears is no member, where states are compared.
 use Rattle.std.specs.Prelude.{ℕ, zero, suc, ◌+◌, ◌==◌, List, [], ◌∷◌, ◌++◌, Bool, true, false, Option, Some, None, cond}
-use Rattle.std.specs.Prelude.{codes, drop, map, slice_index}
+use Rattle.std.specs.Prelude.{◌&&◌, ◌||◌, codes, drop, map, not, slice_index}
 use Rattle.std.specs.List.{flat_map}
 use Rattle.json.specs.Token.{Token, begin_array, begin_object, end_array, end_object, key, string}
 use Rattle.json.specs.Token.{number as number_token}
@@ -16,10 +16,10 @@ use Rattle.link_state.specs.Table.{Action}
 use Rattle.shown.specs.Drafts.{Members, list_of, object_of}
 use Rattle.frame_shown.specs.Accepted.{accepted, refused as not_accepted}
 use Rattle.frame_shown.specs.Frames.{items_in, levels, way_shown}
-use Rattle.frame_shown.specs.Items.{members_of}
+use Rattle.frame_shown.specs.Items.{Lists, members_of}
 use Rattle.frame_shown.specs.Kept.{frame_members}
 use Rattle.frame_shown.specs.Messages.{address_len, header_members, with_address_len}
-use Rattle.frame_shown.specs.Tables.{Known, entry_list, group_name, is_kept, kind_shown, row_in}
+use Rattle.frame_shown.specs.Tables.{Known, entry_list, group_name, is_each, is_kept, kind_shown, lists_in, row_in}
 use Rattle.frame_shown.specs.Values.{Nesting, behind_settings, counter_names, counter_width, counters_shown}
 use Rattle.frame_shown.specs.Values.{event_in, fields_in, fields_shown, hexadecimal, info_of}
 use Rattle.frame_shown.specs.Values.{ipv6_named}
@@ -58,7 +58,7 @@ is_some (x ∷ xs) = true
 abbrev pub fields_kept : Action → List ℕ → Members → Forest
 fields_kept action sizes ms = left_of (is_some ms) (named (fields_left action 0 sizes ms))
 
--- in a list objects and lists alone are members
+-- an object or a list
 abbrev pub is_nest : List Token → Bool
 is_nest [] = false
 is_nest (begin_object ∷ ts) = true
@@ -75,7 +75,7 @@ is_nest (bad ∷ ts) = false
 -- one that is passed over has its place all the same
 abbrev pub placed_one : ℕ → Option Held → List Member
 placed_one n None = []
-placed_one n (Some held) = cond (is_nest held.0) ((Step.place n, held) ∷ []) []
+placed_one n (Some held) = (Step.place n, held) ∷ []
 
 abbrev pub placed : ℕ → List (Option Held) → List Member
 placed n [] = []
@@ -83,6 +83,19 @@ placed n (h ∷ hs) = placed_one n h ++ placed (n + 1) hs
 
 abbrev pub places : List (Option Held) → Forest
 places hs = forest (placed 0 hs)
+
+-- none of them is an object or a list
+abbrev pub is_nested : Option Held → Bool
+is_nested None = false
+is_nested (Some held) = is_nest held.0
+
+abbrev pub are_plain : List (Option Held) → Bool
+are_plain [] = true
+are_plain (h ∷ hs) = not (is_nested h) && are_plain hs
+
+-- such a list is one value; of any other one each has its place
+abbrev pub values_inside : List (Option Held) → Forest
+values_inside hs = cond (are_plain hs) Forest.none (places hs)
 
 -- ** those of a payload, by its row and by what a state clears of it; a list of values is a leaf
 
@@ -151,10 +164,14 @@ held_inside inner cx action way p = cond (is_clear action) Forest.passed (way_in
 abbrev pub held_by : Reading → Action → Way → List ℕ → Held
 held_by r action way p = (way_shown r.nest r.around way p, held_inside r.inner r.around action way p)
 
+-- it has no name of its own: it is kept as it is, or a value of a list
+abbrev pub is_unnamed : Way → List ℕ → Bool
+is_unnamed way p = is_kept way p || is_each way
+
 -- an attribute that has a name
 abbrev pub named_by : Reading → Action → Known → Frame → List Member
 named_by r action row f =
-    cond (is_kept row.1 f.payload) [] ((Step.name row.0, held_by r action row.1 f.payload) ∷ [])
+    cond (is_unnamed row.1 f.payload) [] ((Step.name row.0, held_by r action row.1 f.payload) ∷ [])
 
 abbrev pub frame_member : Reading → Shape → Frame → List Member
 frame_member r list f =
@@ -167,6 +184,7 @@ named_in r list fs = flat_map (frame_member r list) fs
 abbrev pub alone : Member → Option Held
 alone (Step.name name, held) =
     Some (object_of ((name, held.0) ∷ []), Forest.tree (Step.name name) held.0 held.1 Forest.none)
+alone (Step.array name, held) = None
 alone (Step.part sort text, held) = None
 alone (Step.place n, held) = None
 alone (Step.repeated, held) = None
@@ -204,16 +222,41 @@ unless_none s value (Forest.tree a b c d) = (s, (value, Forest.tree a b c d)) �
 abbrev pub list_at : Step → List (Option Held) → List Member
 list_at s hs = unless_none s (list_of (flat_map value_in hs)) (places hs)
 
+-- one list of values, at a step
+abbrev pub group_of : Step → List (Option Held) → Member
+group_of s hs = (s, (list_of (flat_map value_in hs), values_inside hs))
+
+-- ** attributes that are the values of lists
+
+abbrev pub each_by : Reading → Action → Known → Frame → List (Option Held)
+each_by r action row f = cond (is_each row.1) (Some (held_by r action row.1 f.payload) ∷ []) []
+
+-- what an attribute is in the list of a number
+abbrev pub value_with : Reading → Shape → ℕ → Frame → List (Option Held)
+value_with r list n f = cond (number f == n)
+    (each_by r (action_in r.is_state list (number f)) (row_in r.around list (number f)) f) []
+
+abbrev pub values_with : Reading → Shape → ℕ → List Frame → List (Option Held)
+values_with r list n fs = flat_map (value_with r list n) fs
+
+-- a list under its name, where it has a value
+abbrev pub array_at : List ℕ → List (Option Held) → List Member
+array_at name [] = []
+array_at name (h ∷ hs) = group_of (Step.array name) (h ∷ hs) ∷ []
+
+abbrev pub arrays_of : Reading → Shape → Lists → List Frame → List Member
+arrays_of r list lists fs = flat_map (λ l. array_at l.1 (values_with r list l.0 fs)) lists
+
+abbrev pub arrays_in : Reading → Shape → List Frame → List Member
+arrays_in r list fs = arrays_of r list (lists_in r.around list) fs
+
 -- ** lists of attributes
 
 -- as the members of an object
 abbrev pub members_in : Reading → Shape → List Frame → List Member
 members_in r list fs =
-    named_in r list fs ++ list_at Step.repeated (earlier (named_in r list fs)) ++ list_at Step.other (kept_in r list fs)
-
--- one list of values, at a step
-abbrev pub group_of : Step → List (Option Held) → Member
-group_of s hs = (s, (list_of (flat_map value_in hs), places hs))
+    named_in r list fs ++ arrays_in r list fs ++ list_at Step.repeated (earlier (named_in r list fs))
+    ++ list_at Step.other (kept_in r list fs)
 
 -- those that have a name in one list
 abbrev pub listed_in : Reading → Group → Shape → List Frame → List Member
@@ -224,7 +267,7 @@ listed_in r group list fs =
 -- the objects in the attributes of number 1
 abbrev pub entry_of : Reading → Shape → List ℕ → Held
 entry_of r list p = (
-  object_of (members_of (items_in r.nest r.around list (items p))),
+  object_of (members_of (lists_in r.around list) (items_in r.nest r.around list (items p))),
   left_of (is_some (frames_in (items p))) (members_in r list (frames_in (items p))),
 )
 

@@ -2,10 +2,10 @@
 use Rattle.std.specs.Prelude.{Bool, true, false}
 use Rattle.link_info.specs.Meanings.{Meaning, Raw, Present, Number, Signed, Words, Hardware, Four, Six}
 use Rattle.link_info.specs.Meanings.{Members as Fields, Elements, Listed, Nested}
+use Rattle.link_info.specs.Styles.{plain_in}
 use Rattle.link_info.specs.declared.style.Plain.{Plain}
 use Rattle.link_info.specs.declared.style.Plain.TheVariants as P
 use Rattle.link_info.specs.declared.style.Style.{Style}
-use Rattle.link_info.specs.declared.style.Style.TheVariants as S
 use Rattle.frame_shown.specs.declared.form.Form.{Form}
 use Rattle.frame_shown.specs.declared.form.Form.TheVariants as Forms
 
@@ -24,14 +24,7 @@ are_flags P.Ipv6 = false
 are_flags (P.Octets size) = false
 
 abbrev pub are_flags_in : Style → Bool
-are_flags_in (S.Plain plain) = are_flags plain
-are_flags_in S.Bytes = false
-are_flags_in S.Flag = false
-are_flags_in S.Text = false
-are_flags_in (S.Record members) = false
-are_flags_in (S.Array plain) = false
-are_flags_in (S.List plain) = false
-are_flags_in (S.Nest place) = false
+are_flags_in style = are_flags (plain_in style)
 
 -- a value by its style, where lists of attributes are objects or not
 abbrev pub nest_meaning : Bool → Style → Meaning → Bool

@@ -5,13 +5,13 @@ use Rattle.nla_wire.specs.Frames.{Frame, number}
 use Rattle.nla_wire.specs.Items.{items}
 use Rattle.link_info.specs.Tables.{frames_in}
 use Rattle.shown.specs.Drafts.{Members, object_of}
-use Rattle.frame_shown.specs.Tables.{is_kept, row_in}
+use Rattle.frame_shown.specs.Tables.{row_in}
 use Rattle.frame_shown.specs.declared.form.List.{List as Shape}
 use Rattle.frame_diff.specs.Beside.{held_of}
 use Rattle.frame_diff.specs.Differences.{inside_in}
 use Rattle.frame_diff.specs.Forests.{Forest, Held, Member, Step, comes, find}
 use Rattle.frame_diff.specs.Items.{joined}
-use Rattle.frame_diff.specs.Members.{Reading, alone, earlier, members_in, named_in}
+use Rattle.frame_diff.specs.Members.{Reading, alone, earlier, is_unnamed, members_in, named_in}
 use Rattle.frame_diff.specs.Values.{nth}
 use Rattle.frame_diff.specs.Walked.{Holding, Showing, held_at, held_items, named_at, reading_at}
 use Rattle.frame_diff.specs.declared.again.Named.{Named}
@@ -32,7 +32,7 @@ again_held nest inner is_state (Some own) = Some (alone_at nest inner is_state o
 
 -- an attribute, unless it has no name, or none of its name comes behind it
 abbrev pub again_in : Reading → Shape → List Member → Frame → List (Option Held)
-again_in r list behind f = cond (is_kept (row_in r.around list (number f)).1 f.payload) []
+again_in r list behind f = cond (is_unnamed (row_in r.around list (number f)).1 f.payload) []
     (cond (comes (Step.name (row_in r.around list (number f)).0) behind)
     (alone (Step.name (row_in r.around list (number f)).0, held_of r list f) ∷ []) [])
 

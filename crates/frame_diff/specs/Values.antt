@@ -9,7 +9,7 @@ use Rattle.link_info.specs.Tables.{frames_in}
 use Rattle.shown.specs.Drafts.{Members, list_of}
 use Rattle.shown.specs.Values.{flags_of}
 use Rattle.frame_shown.specs.Frames.{items_in, way_shown}
-use Rattle.frame_shown.specs.Items.{named_ones, values_of}
+use Rattle.frame_shown.specs.Items.{named_ones, values_of, values_with}
 use Rattle.frame_shown.specs.Kept.{frame_flags, frame_members}
 use Rattle.frame_shown.specs.Messages.{link_flag_names}
 use Rattle.frame_shown.specs.Tables.{row_in}
@@ -33,6 +33,10 @@ use Rattle.frame_diff.specs.declared.walk.Attributes.{Attributes}
 abbrev pub listed_shown : Nesting → Around → Shape → List ℕ → List Token
 listed_shown nest cx list p = list_of (flat_map values_of (named_ones (items_in nest cx list (items p))))
 
+-- the values of the list of a number
+abbrev pub array_shown : Nesting → Around → Shape → ℕ → List ℕ → List Token
+array_shown nest cx list n p = list_of (flat_map (λ tokens. tokens) (values_with n (items_in nest cx list (items p))))
+
 abbrev pub value_shown : Nesting → Around → Value → List Token
 value_shown nest cx (Values.Payload way payload) = way_shown nest cx way payload.now
 value_shown nest cx (Values.Number kind) = number_token (decimal (bit_and kind 0x3fff)) ∷ []
@@ -45,6 +49,7 @@ value_shown nest cx (Values.Field field bytes place) = field_shown cx field byte
 value_shown nest cx (Values.Octets bytes) = hexadecimal bytes.now
 value_shown nest cx (Values.LinkFlags bits) = flags_of link_flag_names bits
 value_shown nest cx (Values.Listed list p) = listed_shown nest cx list p.now
+value_shown nest cx (Values.Array list n p) = array_shown nest cx list n p.now
 
 -- two values are shown as the same, whatever they are shown by
 abbrev pub AreShownAlike : Value → Value → Type 0

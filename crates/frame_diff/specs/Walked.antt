@@ -8,7 +8,7 @@ use Rattle.link_info.specs.Tables.{frames_in}
 use Rattle.shown.specs.Drafts.{Members}
 use Rattle.frame_shown.specs.Frames.{are_twice, by_number}
 use Rattle.frame_shown.specs.Items.{comes_in}
-use Rattle.frame_shown.specs.Tables.{is_kept, row_in}
+use Rattle.frame_shown.specs.Tables.{row_in}
 use Rattle.frame_shown.specs.Values.{Nesting}
 use Rattle.frame_shown.specs.declared.form.Around.{Around}
 use Rattle.frame_shown.specs.declared.form.List.{List as Shape}
@@ -17,7 +17,7 @@ use Rattle.frame_diff.specs.Beside.{held_of}
 use Rattle.frame_diff.specs.Counters.{action_in}
 use Rattle.frame_diff.specs.Forests.{AreApart, Forest, Held, Member, Step, comes, find, is_text}
 use Rattle.frame_diff.specs.Items.{items_told, joined, member_items, step_text}
-use Rattle.frame_diff.specs.Members.{Inner, Reading, held_by, named_in}
+use Rattle.frame_diff.specs.Members.{Inner, Reading, held_by, is_unnamed, named_in}
 use Rattle.frame_diff.specs.Shown.{HasNamesApart}
 use Rattle.frame_diff.specs.declared.side.Side.{Side}
 use Rattle.frame_diff.specs.declared.walk.Attribute.{Attribute}
@@ -123,9 +123,9 @@ abbrev pub NoneComes : Attributes → List ℕ → Type 0
 NoneComes behind name = (nest : Showing) (inner : Holding) (is_state : Bool)
     → comes (Step.name name) (named_at nest inner is_state behind) ≡ false
 
--- an attribute is not kept as it is, and told under this name
+-- an attribute has a name, and is told under this one
 abbrev pub IsNamedBy : Attributes → Frame → List ℕ → Type 0
-IsNamedBy list f name = (is_kept (row_in list.around.now list.list (number f)).1 f.payload ≡ false)
+IsNamedBy list f name = (is_unnamed (row_in list.around.now list.list (number f)).1 f.payload ≡ false)
     × (name ≡ (row_in list.around.now list.list (number f)).0)
 
 -- no number stands twice in two lists with the same rows, in one of which these are behind this attribute
@@ -139,9 +139,9 @@ abbrev pub is_there : List ℕ → Option Frame → Bool
 is_there p None = false
 is_there p (Some g) = is_text p g.payload
 
-abbrev pub is_kept_there : Option Attribute → Bool
-is_kept_there None = false
-is_kept_there (Some a) = is_kept a.way a.payload.now
+abbrev pub is_unnamed_there : Option Attribute → Bool
+is_unnamed_there None = false
+is_unnamed_there (Some a) = is_unnamed a.way a.payload.now
 
 -- an attribute, if there is one, is that of a frame
 abbrev pub AreOfFrame : Option Attribute → Option Frame → Type 0
@@ -161,10 +161,10 @@ abbrev pub last_items : Side → List ℕ → List Member → Member → Option 
 last_items side text behind m beside =
     cond (comes m.0 behind) [] (held_items side (joined text (step_text m.0)) m.1 beside)
 
--- nothing, where it is kept as it is
+-- nothing, where it has no name
 abbrev pub row_items : Side → List ℕ → Forest → List Member → List ℕ → Way → List ℕ → Held → List Members
 row_items side text others behind name way p held =
-    cond (is_kept way p) []
+    cond (is_unnamed way p) []
     (last_items side text behind (Step.name name, held) (find (Step.name name) others))
 
 -- of an attribute, by its row

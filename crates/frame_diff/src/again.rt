@@ -15,10 +15,11 @@ ghost use Rattle.frame_diff.specs.declared.walk.Attribute.{Attribute as One};
 
 use crate::leaf::{Texts, is_same};
 use crate::list::{behind, comes, is_alike};
+use crate::named::is_unnamed;
 use crate::path::{join, join_place};
 use crate::value::tell_value;
 use crate::walk::{Attribute, Attributes, Pass, Walk};
-use frame_shown::form::{is_kept, row_in};
+use frame_shown::form::row_in;
 use nla_wire::{NlaBuffer, NlasIterator};
 use shown::Page;
 use std::alloc::AllocError;
@@ -41,7 +42,7 @@ fn again<'a>(behind: Attributes<'a>, frame: &NlaBuffer<'a>) -> Option<Named<'a>>
 {
     let number = frame.kind();
     let (name, way) = row_in(behind.around, behind.list, number);
-    if is_kept(way, frame.value()) {
+    if is_unnamed(way, frame.value()) {
         return None;
     }
     if !comes(behind, name) {

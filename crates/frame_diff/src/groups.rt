@@ -4,15 +4,20 @@ ghost use Rattle.std.specs.Prelude.{◌≡◌, ◌<◌, ◌+◌, ◌^◌, Bool, 
 ghost use Rattle.std.specs.Prelude.{option_map, true};
 ghost use Rattle.shown.specs.Drafts.{with_members};
 ghost use Rattle.frame_shown.specs.Items.{objects};
+ghost use Rattle.frame_shown.specs.Values.{Nesting};
+ghost use Rattle.frame_shown.specs.declared.form.Around.{Around as Beside};
+ghost use Rattle.frame_shown.specs.declared.form.List.{List as Shape};
 ghost use Rattle.frame_diff.specs.Differences.{inside_in, leaf_in};
 ghost use Rattle.frame_diff.specs.Forests.{find};
-ghost use Rattle.frame_diff.specs.Groups.{are_plain, first_by, first_of, group_at, group_held, group_step, is_entries};
-ghost use Rattle.frame_diff.specs.Groups.{IsFlat, IsSameEntry, is_group, is_same_group, list_held, nest_in};
-ghost use Rattle.frame_diff.specs.Groups.{nest_items, next_place};
+ghost use Rattle.frame_diff.specs.Groups.{all_of, flat_shown, is_valued, picked_by, first_by, first_of};
+ghost use Rattle.frame_diff.specs.Groups.{group_at, group_held, group_step, is_entries};
+ghost use Rattle.frame_diff.specs.Groups.{IsFlat, IsSameEntry, is_group, is_same_group, list_held};
+ghost use Rattle.frame_diff.specs.Groups.{next_place};
 ghost use Rattle.frame_diff.specs.Groups.{picked, place_items, rest_by, rest_of, value_at, values_by};
 ghost use Rattle.frame_diff.specs.Inside.{above, inside_list};
 ghost use Rattle.frame_diff.specs.Items.{items_told, joined, leaf_items, step_text};
-ghost use Rattle.frame_diff.specs.Members.{places};
+ghost use Rattle.frame_diff.specs.Members.{are_plain, places, value_with};
+ghost use Rattle.frame_diff.specs.Values.{value_shown};
 ghost use Rattle.frame_diff.specs.Walked.{AreBeside, HasNames, Holding, Showing, StandBeside, held_items};
 ghost use Rattle.frame_diff.specs.Walked.{reading_at};
 ghost use Rattle.frame_diff.specs.declared.walk.Attribute.{Attribute as One};
@@ -21,13 +26,14 @@ ghost use Rattle.frame_diff.specs.declared.walk.Attributes.{Attributes as Lists}
 use crate::leaf::{Texts, Value, is_same, tell_leaf};
 use crate::list::behind;
 use crate::lists::{is_without, none_of, tell_object};
+use crate::named::{is_each, is_unnamed};
 use crate::nests::is_nest;
 use crate::path::{join, join_place};
 use crate::same::is_same_list;
 use crate::value::tell_value;
 use crate::walk::{Attribute, Attributes, Pass, Walk};
 use frame_shown::depth::Above;
-use frame_shown::form::{Form, List, Table, Way, is_kept, row_in};
+use frame_shown::form::{Form, List, Table, Way, row_in};
 use nla_wire::{NlaBuffer, NlasIterator};
 use shown::Page;
 use std::alloc::AllocError;
@@ -42,7 +48,7 @@ fn named<'a>(is_state: bool, list: Attributes<'a>, frame: &NlaBuffer<'a>) -> Opt
 {
     let number = frame.kind();
     let (_, way) = row_in(list.around, list.list, number);
-    if is_kept(way, frame.value()) {
+    if is_unnamed(way, frame.value()) {
         return None;
     }
     Some(Attribute {
@@ -74,6 +80,36 @@ fn entry<'a>(is_state: bool, list: Attributes<'a>, frame: &NlaBuffer<'a>) -> Opt
     })
 }
 
+/// An attribute of a list, if it is a value of the list of this number.
+#[tactic(auto, using(crate::proofs::ArraysTold::value_held))]
+fn value_of<'a>(
+    is_state: bool,
+    list: Attributes<'a>,
+    number: u16,
+    frame: &NlaBuffer<'a>,
+) -> Option<Attribute<'a>>
+    ensures values { (nest : Showing) (inner : Holding) → picked nest inner is_state result
+        ≡ value_with (reading_at nest inner is_state list.entry.around.now) list.entry.list number
+        frame.now }
+    ensures list { IfSome result (λ a. a.list ≡ list.entry.list) }
+    ensures around { IfSome result (λ a. a.around.now ≡ list.entry.around.now) }
+{
+    if frame.kind() != number {
+        return None;
+    }
+    let (_, way) = row_in(list.around, list.list, number);
+    if !is_each(way) {
+        return None;
+    }
+    Some(Attribute {
+        around: list.around,
+        list: list.list,
+        number,
+        way,
+        payload: frame.value(),
+    })
+}
+
 /// Whether the values of a list are those of its entries.
 fn is_entries(list: List) -> bool
     ensures { is_entries list ≡ result }
@@ -84,8 +120,12 @@ fn is_entries(list: List) -> bool
     }
 }
 
-/// An attribute of a list, if it is one of its values.
-fn pick<'a>(is_state: bool, list: Attributes<'a>, frame: &NlaBuffer<'a>) -> Option<Attribute<'a>>
+/// An attribute of a list, if it is one of its entries, or of those that have a name.
+fn pick_any<'a>(
+    is_state: bool,
+    list: Attributes<'a>,
+    frame: &NlaBuffer<'a>,
+) -> Option<Attribute<'a>>
     ensures values { (nest : Showing) (inner : Holding) → picked nest inner is_state result
         ≡ values_by (reading_at nest inner is_state list.entry.around.now) list.entry.list frame.now }
     ensures list { IfSome result (λ a. a.list ≡ list.entry.list) }
@@ -95,6 +135,20 @@ fn pick<'a>(is_state: bool, list: Attributes<'a>, frame: &NlaBuffer<'a>) -> Opti
         entry(is_state, list, frame)
     } else {
         named(is_state, list, frame)
+    }
+}
+
+/// An attribute of a list, if it is one of its values.
+fn pick<'a>(is_state: bool, list: Attributes<'a>, frame: &NlaBuffer<'a>) -> Option<Attribute<'a>>
+    ensures values { (nest : Showing) (inner : Holding) → picked nest inner is_state result
+        ≡ picked_by (reading_at nest inner is_state list.entry.around.now) list.entry.number
+        list.entry.list frame.now }
+    ensures list { IfSome result (λ a. a.list ≡ list.entry.list) }
+    ensures around { IfSome result (λ a. a.around.now ≡ list.entry.around.now) }
+{
+    match list.number {
+        Some(number) => value_of(is_state, list, number, frame),
+        None => pick_any(is_state, list, frame),
     }
 }
 
@@ -176,6 +230,7 @@ fn entry_list<'a>(own: Attribute<'a>) -> Attributes<'a>
     Attributes {
         around: own.around,
         list,
+        number: None,
         bytes: own.payload,
     }
 }
@@ -273,6 +328,29 @@ fn tell_entry<W: Walk>(
     tell_object::<W>(texts, pass, page, path, own, beside)
 }
 
+/// Tells of a value that is no entry beside another one.
+fn tell_alone<W: Walk>(
+    texts: &mut Texts,
+    pass: Pass,
+    page: &mut Page,
+    path: &str,
+    own: Attribute<'_>,
+    beside: Option<Attribute<'_>>,
+) -> Result<(), AllocError>
+    requires alone { is_entries own.list ≡ false }
+    requires names { HasNames own.around.now }
+    requires entries { IfSome beside (λ a. is_entries a.list ≡ is_entries own.list) }
+    ensures { OnOk result (page.new ≡ with_members (objects (held_items pass.side path.now
+        (value_at W.nest W.inner pass.is_state own.entry)
+        (option_map (value_at W.nest W.inner pass.is_state) beside.entry))) page.old) }
+{
+    let pass = Pass {
+        is_alike: false,
+        ..pass
+    };
+    tell_value::<W>(texts, pass, page, path, own, beside)
+}
+
 /// Tells of a value beside another one.
 fn tell_picked<W: Walk>(
     texts: &mut Texts,
@@ -294,60 +372,72 @@ fn tell_picked<W: Walk>(
         let there = entry_beside(beside);
         return tell_entry::<W>(texts, pass, page, path, own, there);
     }
-    let pass = Pass {
-        is_alike: false,
-        ..pass
-    };
-    tell_value::<W>(texts, pass, page, path, own, beside)
+    tell_alone::<W>(texts, pass, page, path, own, beside)
 }
 
-/// Another value, where it is an object or a list.
-fn nest_beside<'a, W: Walk>(beside: Option<Attribute<'a>>) -> Option<Attribute<'a>>
-    ensures value { (is_state : Bool) → option_map (value_at W.nest W.inner is_state) result
-        ≡ nest_in (option_map (value_at W.nest W.inner is_state) beside.entry) }
-    ensures list { (same : Bool) → IfSome beside.entry (λ a. is_entries a.list ≡ same)
-        → IfSome result (λ a. is_entries a.list ≡ same) }
-    ensures alike { (own : One) → StandBeside own beside.entry → StandBeside own result }
-{
-    match beside {
-        Some(other) => {
-            if is_nest::<W>(other) {
-                Some(other)
-            } else {
-                None
-            }
-        }
-        None => None,
+/// What the values of a list are.
+pub(crate) trait Values {
+    /// Which lists they may be of.
+    ghost fits: { Shape → Type 0 };
+
+    /// Tells of one of them beside another one, if there is one.
+    fn tell_one<W: Walk>(
+        texts: &mut Texts,
+        pass: Pass,
+        page: &mut Page,
+        path: &str,
+        own: Attribute<'_>,
+        beside: Option<Attribute<'_>>,
+    ) -> Result<(), AllocError>
+        requires fits { fits own.list }
+        requires names { HasNames own.around.now }
+        requires entries { IfSome beside (λ a. is_entries a.list ≡ is_entries own.list) }
+        requires alike { pass.is_alike ≡ true → StandBeside own beside }
+        ensures { OnOk result (page.new ≡ with_members (objects (held_items pass.side path.now
+            (value_at W.nest W.inner pass.is_state own.entry)
+            (option_map (value_at W.nest W.inner pass.is_state) beside.entry))) page.old) };
+}
+
+/// Entries, or attributes that have a name.
+#[derive(Drop)]
+pub(crate) struct Group {}
+
+impl Values for Group {
+    ghost fits = { λ list. Unit {0} };
+
+    fn tell_one<W: Walk>(
+        texts: &mut Texts,
+        pass: Pass,
+        page: &mut Page,
+        path: &str,
+        own: Attribute<'_>,
+        beside: Option<Attribute<'_>>,
+    ) -> Result<(), AllocError> {
+        tell_picked::<W>(texts, pass, page, path, own, beside)
     }
 }
 
-/// Tells of a value at its place, if it is an object or a list.
-fn tell_nest<W: Walk>(
-    texts: &mut Texts,
-    pass: Pass,
-    page: &mut Page,
-    path: &str,
-    place: usize,
-    own: Attribute<'_>,
-    beside: Option<Attribute<'_>>,
-) -> Result<(), AllocError>
-    requires names { HasNames own.around.now }
-    requires entries { IfSome beside (λ a. is_entries a.list ≡ is_entries own.list) }
-    requires alike { pass.is_alike ≡ true → StandBeside own beside }
-    ensures { OnOk result (page.new ≡ with_members (objects (nest_items pass.side
-        (joined path.now (decimal place)) (value_at W.nest W.inner pass.is_state own.entry)
-        (option_map (value_at W.nest W.inner pass.is_state) beside.entry))) page.old) }
-{
-    if !is_nest::<W>(own) {
-        return Ok(());
+/// Attributes that are the values of a list.
+#[derive(Drop)]
+pub(crate) struct Array {}
+
+impl Values for Array {
+    ghost fits = { λ list. is_entries list ≡ false };
+
+    fn tell_one<W: Walk>(
+        texts: &mut Texts,
+        pass: Pass,
+        page: &mut Page,
+        path: &str,
+        own: Attribute<'_>,
+        beside: Option<Attribute<'_>>,
+    ) -> Result<(), AllocError> {
+        tell_alone::<W>(texts, pass, page, path, own, beside)
     }
-    let text = join_place(texts.alloc, path, place)?;
-    let there = nest_beside::<W>(beside);
-    tell_picked::<W>(texts, pass, page, text.as_str(), own, there)
 }
 
 /// Tells of a value at its place, if there is one.
-fn tell_place<W: Walk>(
+fn tell_place<W: Walk, V: Values>(
     texts: &mut Texts,
     pass: Pass,
     page: &mut Page,
@@ -356,6 +446,7 @@ fn tell_place<W: Walk>(
     own: Option<Attribute<'_>>,
     beside: Option<Attribute<'_>>,
 ) -> Result<(), AllocError>
+    requires fits { IfSome own (λ a. V.fits a.list) }
     requires names { IfSome own (λ a. HasNames a.around.now) }
     requires entries { IfSome own (λ a. IfSome beside (λ b.
         is_entries b.list ≡ is_entries a.list)) }
@@ -364,10 +455,11 @@ fn tell_place<W: Walk>(
         (option_map (value_at W.nest W.inner pass.is_state) own.entry)
         (option_map (value_at W.nest W.inner pass.is_state) beside.entry))) page.old) }
 {
-    match own {
-        Some(own) => tell_nest::<W>(texts, pass, page, path, place, own, beside),
-        None => Ok(()),
-    }
+    let Some(own) = own else {
+        return Ok(());
+    };
+    let text = join_place(texts.alloc, path, place)?;
+    V::tell_one::<W>(texts, pass, page, text.as_str(), own, beside)
 }
 
 /// The place of the next one.
@@ -382,7 +474,7 @@ fn next_place(own: Option<Attribute<'_>>, place: usize) -> usize
 }
 
 /// Tells of the values of a list, each beside the one at its place in another list.
-fn tell_places<W: Walk>(
+fn tell_places<W: Walk, V: Values>(
     texts: &mut Texts,
     pass: Pass,
     page: &mut Page,
@@ -390,6 +482,7 @@ fn tell_places<W: Walk>(
     own: Attributes<'_>,
     others: Attributes<'_>,
 ) -> Result<(), AllocError>
+    requires fits { V.fits own.list }
     requires names { HasNames own.around.now }
     requires entries { is_entries others.list ≡ is_entries own.list }
     requires alike { pass.is_alike ≡ true → AreBeside own (Some others) }
@@ -405,7 +498,7 @@ fn tell_places<W: Walk>(
         };
         let value = pick(pass.is_state, own, &frame);
         let taken = take_beside(pass.is_state, value, rest);
-        tell_place::<W>(texts, pass, page, path, place, value, taken.value)?;
+        tell_place::<W, V>(texts, pass, page, path, place, value, taken.value)?;
         rest = taken.rest;
         place = next_place(value, place);
     }
@@ -424,11 +517,11 @@ fn is_deep<W: Walk>(own: Option<Attribute<'_>>) -> bool
 
 /// Whether all values of a list are known to be texts.
 #[tactic(auto, using(crate::proofs::Grouped::names_flat))]
-fn is_flat(list: List) -> bool
-    ensures { result ≡ true → IsFlat list }
+fn is_flat(number: Option<u16>, list: List) -> bool
+    ensures { result ≡ true → IsFlat number list }
 {
-    match list {
-        List::Listed(_, Table::Props) => true,
+    match (number, list) {
+        (None, List::Listed(_, Table::Props)) => true,
         _ => false,
     }
 }
@@ -437,7 +530,7 @@ fn is_flat(list: List) -> bool
 fn are_plain<W: Walk>(is_state: bool, list: Attributes<'_>) -> bool
     ensures { are_plain (group_at W.nest W.inner is_state list.entry) ≡ result }
 {
-    if is_flat(list.list) {
+    if is_flat(list.number, list.list) {
         return true;
     }
     are_all_plain::<W>(is_state, list)
@@ -464,10 +557,10 @@ fn plain_beside<'a, W: Walk>(
     is_state: bool,
     beside: Option<Attributes<'a>>,
 ) -> Option<Attributes<'a>>
-    requires { IfSome beside (λ a. is_group a.list ≡ true) }
+    requires { IfSome beside (λ a. is_valued a.number a.list ≡ true) }
     ensures value { option_map (λ a. (group_held W.nest W.inner is_state a).0) result
         ≡ leaf_in (option_map (group_held W.nest W.inner is_state) beside.entry) }
-    ensures plain { IfSome result (λ a. (is_group a.list ≡ true)
+    ensures plain { IfSome result (λ a. (is_valued a.number a.list ≡ true)
         × (are_plain (group_at W.nest W.inner is_state a) ≡ true)) }
 {
     match beside {
@@ -482,6 +575,17 @@ fn plain_beside<'a, W: Walk>(
     }
 }
 
+/// All values of a list as one.
+fn flat_value<'a>(own: Attributes<'a>) -> Value<'a>
+    ensures { (nest : Nesting) (cx : Beside) → value_shown nest cx result
+        ≡ flat_shown nest cx own.entry.number own.entry.list own.entry.bytes.now }
+{
+    match own.number {
+        Some(number) => Value::Array(own.list, number, own.bytes),
+        None => Value::Listed(own.list, own.bytes),
+    }
+}
+
 /// Tells of a list of values as one value beside another list.
 fn tell_flat<W: Walk>(
     texts: &mut Texts,
@@ -491,17 +595,18 @@ fn tell_flat<W: Walk>(
     own: Attributes<'_>,
     beside: Option<Attributes<'_>>,
 ) -> Result<(), AllocError>
-    requires own { is_group own.list ≡ true }
+    requires own { is_valued own.number own.list ≡ true }
     requires plain { are_plain (group_at W.nest W.inner pass.is_state own) ≡ true }
-    requires beside { IfSome beside (λ a. is_group a.list ≡ true) }
+    requires beside { IfSome beside (λ a. is_valued a.number a.list ≡ true) }
     ensures { OnOk result (page.new ≡ with_members (objects (leaf_items pass.side path.now
         (group_held W.nest W.inner pass.is_state own.entry).0
         (leaf_in (option_map (group_held W.nest W.inner pass.is_state) beside.entry)))) page.old) }
 {
-    let value = Value::Listed(own.list, own.bytes);
+    let value = flat_value(own);
     match plain_beside::<W>(pass.is_state, beside) {
         Some(other) => {
-            let there = Some(Value::Listed(other.list, other.bytes));
+            let flat = flat_value(other);
+            let there = Some(flat);
             let theirs = other.around;
             tell_leaf::<W>(
                 texts, own.around, theirs, page, path, pass.side, value, there,
@@ -513,29 +618,35 @@ fn tell_flat<W: Walk>(
     }
 }
 
-/// Another list of values, and whether it is known to be shown by the same; one without values where there is none.
-fn values_beside<'a>(
-    is_alike: bool,
+/// Another list of values that have places, and whether it is known to be shown by the same; one without values where
+/// there is none.
+fn values_beside<'a, W: Walk>(
+    pass: Pass,
     own: Attributes<'a>,
     beside: Option<Attributes<'a>>,
 ) -> (Attributes<'a>, bool)
     requires names { HasNames own.around.now }
     requires same { IfSome beside (λ a. is_entries a.list ≡ is_entries own.list) }
-    requires alike { is_alike ≡ true → AreBeside own beside }
-    ensures places { (nest : Showing) (inner : Holding) (is_state : Bool)
-        → places (group_at nest inner is_state result.0)
-        ≡ inside_in (option_map (group_held nest inner is_state) beside.entry) }
+    requires alike { pass.is_alike ≡ true → AreBeside own beside }
+    ensures places { places (group_at W.nest W.inner pass.is_state result.0)
+        ≡ inside_in (option_map (group_held W.nest W.inner pass.is_state) beside.entry) }
     ensures same { is_entries result.0.list ≡ is_entries own.entry.list }
     ensures alike { result.1 ≡ true → AreBeside own.entry (Some result.0) }
 {
     match beside {
-        Some(other) => (other, is_alike),
+        Some(other) => {
+            if are_plain::<W>(pass.is_state, other) {
+                (none_of(own), true)
+            } else {
+                (other, pass.is_alike)
+            }
+        }
         None => (none_of(own), true),
     }
 }
 
 /// Tells of a list of values beside another one, if there is one.
-fn tell_values<W: Walk>(
+pub(crate) fn tell_values<W: Walk, V: Values>(
     texts: &mut Texts,
     pass: Pass,
     page: &mut Page,
@@ -543,9 +654,10 @@ fn tell_values<W: Walk>(
     own: Attributes<'_>,
     beside: Option<Attributes<'_>>,
 ) -> Result<(), AllocError>
-    requires own { is_group own.list ≡ true }
+    requires fits { V.fits own.list }
+    requires own { is_valued own.number own.list ≡ true }
     requires names { HasNames own.around.now }
-    requires group { IfSome beside (λ a. is_group a.list ≡ true) }
+    requires group { IfSome beside (λ a. is_valued a.number a.list ≡ true) }
     requires same { IfSome beside (λ a. is_entries a.list ≡ is_entries own.list) }
     requires alike { pass.is_alike ≡ true → AreBeside own beside }
     ensures { OnOk result (page.new ≡ with_members (objects (held_items pass.side path.now
@@ -555,8 +667,8 @@ fn tell_values<W: Walk>(
     if are_plain::<W>(pass.is_state, own) {
         return tell_flat::<W>(texts, pass, page, path, own, beside);
     }
-    let (others, is_alike) = values_beside(pass.is_alike, own, beside);
-    tell_places::<W>(texts, Pass { is_alike, ..pass }, page, path, own, others)
+    let (others, is_alike) = values_beside::<W>(pass, own, beside);
+    tell_places::<W, V>(texts, Pass { is_alike, ..pass }, page, path, own, others)
 }
 
 /// Whether two lists are lists of values under one name.
@@ -570,20 +682,30 @@ fn is_same_group(own: List, other: List) -> bool
     }
 }
 
+/// A list of which all attributes are looked at.
+fn all_of<'a>(list: Attributes<'a>) -> Attributes<'a>
+    ensures { result ≡ all_of list.entry }
+{
+    Attributes {
+        number: None,
+        ..list
+    }
+}
+
 /// Another list of values under the same name.
 fn group_beside<'a>(own: List, beside: Option<Attributes<'a>>) -> Option<Attributes<'a>>
     requires { is_group own ≡ true }
     ensures held { (nest : Showing) (inner : Holding) (is_state : Bool)
         → option_map (group_held nest inner is_state) result
         ≡ find (group_step own) (inside_list (above nest inner) is_state beside.entry) }
-    ensures group { IfSome result (λ a. is_group a.list ≡ true) }
+    ensures group { IfSome result (λ a. is_valued a.number a.list ≡ true) }
     ensures same { IfSome result (λ a. is_entries a.list ≡ is_entries own) }
     ensures alike { (list : Lists) → AreBeside list beside.entry → AreBeside list result }
 {
     match beside {
         Some(other) => {
             if is_same_group(own, other.list) {
-                Some(other)
+                Some(all_of(other))
             } else {
                 None
             }
@@ -608,11 +730,11 @@ pub(crate) fn tell_group<W: Walk>(
     requires alike { pass.is_alike ≡ true → AreBeside own beside }
     ensures { OnOk result (page.new ≡ with_members (objects (held_items pass.side
         (joined path.now (step_text (group_step own.entry.list)))
-        (group_held W.nest W.inner pass.is_state own.entry)
+        (group_held W.nest W.inner pass.is_state (all_of own.entry))
         (find (group_step own.entry.list)
         (inside_list (above W.nest W.inner) pass.is_state beside.entry)))) page.old) }
 {
     let text = join(texts.alloc, path, name)?;
     let there = group_beside(own.list, beside);
-    tell_values::<W>(texts, pass, page, text.as_str(), own, there)
+    tell_values::<W, Group>(texts, pass, page, text.as_str(), all_of(own), there)
 }

@@ -10,14 +10,14 @@ ghost use Rattle.frame_shown.specs.Messages.{link_flag_names};
 ghost use Rattle.frame_diff.specs.Differences.{is_shown_same, text_of};
 ghost use Rattle.frame_diff.specs.Forests.{is_text};
 ghost use Rattle.frame_diff.specs.Items.{alone_item, is_leaf_untold, joined, leaf_item, leaf_items, turned_item};
-ghost use Rattle.frame_diff.specs.Values.{AreShownAlike, listed_shown, value_shown};
+ghost use Rattle.frame_diff.specs.Values.{AreShownAlike, array_shown, listed_shown, value_shown};
 ghost use Rattle.frame_diff.specs.declared.side.Side.TheVariants as Sides;
 
 use crate::path::join;
 use crate::side::Side;
 use frame_shown::depth::Depth;
 use frame_shown::form::{Around, Field, List, Way};
-use frame_shown::list::{show_one_list, show_way};
+use frame_shown::list::{show_one_array, show_one_list, show_way};
 use frame_shown::tables::LINK_FLAGS;
 use frame_shown::value::{show_field, show_spelled};
 use link_info::Plain;
@@ -51,6 +51,8 @@ pub enum Value<'a> {
     LinkFlags(u64),
     /// The attributes of a list that have a name, as a list of values.
     Listed(List, &'a [u8]),
+    /// The attributes of a list that are the values of the list of a number.
+    Array(List, u16, &'a [u8]),
 }
 
 /// Room for the texts that are compared.
@@ -135,6 +137,21 @@ fn show_listed<D: Depth>(
     Ok(())
 }
 
+/// Adds the attributes that are the values of the list of a number.
+fn show_array<D: Depth>(
+    cx: &Around<'_>,
+    page: &mut Page,
+    name: &str,
+    list: List,
+    number: u16,
+    bytes: &[u8],
+) -> Result<(), AllocError>
+    ensures { OnOk result (page.new ≡ with_value name.now
+        (array_shown (D.nest cx.now) cx.now list number bytes.now) page.old) }
+{
+    show_one_array::<D>(cx, page, name, &list, number, bytes)
+}
+
 /// Adds a value.
 fn show_value<D: Depth>(
     cx: &Around<'_>,
@@ -158,6 +175,9 @@ fn show_value<D: Depth>(
         Value::Octets(bytes) => page.hex(name, bytes),
         Value::LinkFlags(bits) => show_link_flags(page, name, bits),
         Value::Listed(list, bytes) => show_listed::<D>(cx, page, name, list, bytes),
+        Value::Array(list, number, bytes) => {
+            show_array::<D>(cx, page, name, list, number, bytes)
+        }
     }
 }
 

@@ -2,6 +2,7 @@
 #![tactic(auto)]
 
 pub mod again;
+pub mod arrays;
 pub mod counters;
 pub mod depth;
 pub mod fields;

@@ -16,14 +16,14 @@ ghost use Rattle.frame_diff.specs.Walked.{AreAlike, AreOfFrame, HasNames, HasRow
 ghost use Rattle.frame_diff.specs.Walked.{IsNamedBy, NoneBehind, NoneComes, Showing, StandsSingle, frame_items};
 ghost use Rattle.frame_diff.specs.Walked.{has_payload};
 ghost use Rattle.frame_diff.specs.Walked.{held_at, held_items, is_row_alike};
-ghost use Rattle.frame_diff.specs.Walked.{is_kept_there, is_there, named_at, reading_at};
+ghost use Rattle.frame_diff.specs.Walked.{is_unnamed_there, is_there, named_at, reading_at};
 
 use crate::leaf::{Texts, is_same};
-use crate::named::{find_named, is_named};
+use crate::named::{find_named, is_named, is_unnamed, name_of};
 use crate::path::join;
 use crate::value::tell_value;
 use crate::walk::{Attribute, Attributes, Pass, Walk};
-use frame_shown::form::{Around, List, is_kept, name_in, row_in};
+use frame_shown::form::{Around, List, row_in};
 use frame_shown::list::has_twice;
 use nla_wire::{NlaBuffer, NlasIterator, padded_len};
 use shown::Page;
@@ -213,7 +213,7 @@ fn tell_row<W: Walk>(
     tell_last::<W>(texts, pass, page, path, behind, others, name, own)
 }
 
-/// Tells of an attribute by its row, unless it is kept as it is.
+/// Tells of an attribute by its row, unless it has no name of its own.
 fn tell_frame<W: Walk>(
     texts: &mut Texts,
     pass: Pass,
@@ -232,7 +232,7 @@ fn tell_frame<W: Walk>(
         (forest (named_at W.nest W.inner pass.is_state others.entry))
         (named_at W.nest W.inner pass.is_state behind.entry) frame.now)) page.old) }
 {
-    match name_in(behind.around, behind.list, frame.kind(), frame.value()) {
+    match name_of(behind.around, behind.list, frame.kind(), frame.value()) {
         Some(name) => tell_row::<W>(
             texts, pass, page, path, behind, others, is_single, name, frame,
         ),
@@ -315,12 +315,12 @@ fn attribute_there<'a>(
     }
 }
 
-/// Whether an attribute is kept as it is, if there is one.
-fn is_kept_there(there: Option<Attribute<'_>>) -> bool
-    ensures { result ≡ is_kept_there there.entry }
+/// Whether an attribute has no name of its own, if there is one.
+fn is_unnamed_there(there: Option<Attribute<'_>>) -> bool
+    ensures { result ≡ is_unnamed_there there.entry }
 {
     match there {
-        Some(other) => is_kept(other.way, other.payload),
+        Some(other) => is_unnamed(other.way, other.payload),
         None => false,
     }
 }
@@ -349,10 +349,10 @@ fn tell_single<W: Walk>(
 {
     let own = attribute(behind, frame);
     let there = attribute_there(others, beside);
-    if is_kept(own.way, own.payload) {
+    if is_unnamed(own.way, own.payload) {
         return tell_frame::<W>(texts, pass, page, path, behind, others, true, frame);
     }
-    if is_kept_there(there) {
+    if is_unnamed_there(there) {
         return tell_frame::<W>(texts, pass, page, path, behind, others, true, frame);
     }
     let (name, _) = row_in(behind.around, behind.list, own.number);

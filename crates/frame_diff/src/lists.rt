@@ -57,6 +57,7 @@ pub(crate) fn is_without(own: Attributes<'_>) -> bool
 pub(crate) fn none_of<'a>(own: Attributes<'a>) -> Attributes<'a>
     ensures bytes { items result.bytes.now ≡ [] }
     ensures list { result.list ≡ own.entry.list }
+    ensures number { result.number ≡ own.entry.number }
     ensures around { result.around.now ≡ own.entry.around.now }
 {
     Attributes { bytes: &[], ..own }

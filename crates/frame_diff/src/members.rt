@@ -12,6 +12,7 @@ ghost use Rattle.frame_diff.specs.Repeated.{earlier_at, members_at};
 ghost use Rattle.frame_diff.specs.Walked.{AreAlike, HasNames};
 
 use crate::again::tell_repeated;
+use crate::arrays::tell_arrays;
 use crate::kept::tell_others;
 use crate::leaf::Texts;
 use crate::list::{is_single, tell_named};
@@ -46,7 +47,8 @@ fn tell_again<W: Walk>(
 }
 
 /// Tells of the attributes of a list that is shown as an object, beside those of another one: of each name the last
-/// one, then those behind which another one of their name stands, and those that are kept as they are, by their places.
+/// one, then the lists that attributes are the values of, then by their places those behind which another one of their
+/// name stands, and those that are kept as they are.
 pub(crate) fn tell_members<W: Walk>(
     texts: &mut Texts,
     pass: Pass,
@@ -63,6 +65,7 @@ pub(crate) fn tell_members<W: Walk>(
 {
     let is_single = is_single(own);
     tell_named::<W>(texts, pass, page, path, own, others, is_single)?;
+    tell_arrays::<W>(texts, pass, page, path, own, others)?;
     tell_again::<W>(texts, pass, page, path, own, others, is_single)?;
     tell_others(texts, pass, page, path, own, others)
 }

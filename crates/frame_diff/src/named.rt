@@ -1,21 +1,57 @@
 //! The attribute that stands beside one: the last one of its name.
 
-ghost use Rattle.std.specs.Prelude.{◌≡◌, Bool, option_map};
+ghost use Rattle.std.specs.Prelude.{◌≡◌, Bool, MatchOption, false, option_map, true};
 ghost use Rattle.nla_wire.specs.Items.{items};
 ghost use Rattle.link_info.specs.Tables.{frames_in};
+ghost use Rattle.frame_shown.specs.Tables.{is_each, row_in};
 ghost use Rattle.frame_shown.specs.Values.{Nesting};
 ghost use Rattle.frame_diff.specs.Beside.{held_of, is_named, last_named};
 ghost use Rattle.frame_diff.specs.Forests.{Step, find, forest};
-ghost use Rattle.frame_diff.specs.Members.{Inner, Reading, named_in};
+ghost use Rattle.frame_diff.specs.Members.{Inner, Reading, is_unnamed, named_in};
 
-use frame_shown::form::{Around, List, name_in};
+use frame_shown::form::{Around, List, Way, is_kept, is_listed, row_in};
 use nla_wire::{NlaBuffer, NlasIterator};
+
+/// Whether an attribute is a value of a list.
+pub(crate) fn is_each(way: Way) -> bool
+    ensures { result ≡ is_each way }
+{
+    match way {
+        Way::By(style) => is_listed(&style),
+        Way::Own(_) => false,
+    }
+}
+
+/// Whether an attribute has no name of its own: it is kept as it is, or a value of a list.
+pub(crate) fn is_unnamed(way: Way, payload: &[u8]) -> bool
+    ensures { result ≡ is_unnamed way payload.now }
+{
+    is_kept(way, payload) || is_each(way)
+}
+
+/// The name of an attribute, if it has one of its own.
+pub(crate) fn name_of(
+    cx: &Around<'_>,
+    list: List,
+    number: u16,
+    payload: &[u8],
+) -> Option<&'static str>
+    ensures { MatchOption result (is_unnamed (row_in cx.now list number).1 payload.now ≡ true)
+        (λ name. (is_unnamed (row_in cx.now list number).1 payload.now ≡ false)
+        × (name.now ≡ (row_in cx.now list number).0)) }
+{
+    let (name, way) = row_in(cx, list, number);
+    if is_unnamed(way, payload) {
+        return None;
+    }
+    Some(name)
+}
 
 /// Whether an attribute is told under this name.
 pub(crate) fn is_named(cx: &Around<'_>, list: List, name: &str, frame: &NlaBuffer<'_>) -> bool
     ensures { result ≡ is_named cx.now list name.now frame.now }
 {
-    match name_in(cx, list, frame.kind(), frame.value()) {
+    match name_of(cx, list, frame.kind(), frame.value()) {
         Some(own) => own == name,
         None => false,
     }

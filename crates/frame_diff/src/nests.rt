@@ -7,19 +7,19 @@ ghost use Rattle.frame_shown.specs.Values.{form_shown, style_shown};
 ghost use Rattle.frame_shown.specs.declared.form.Around.{Around as Beside};
 ghost use Rattle.frame_diff.specs.Groups.{value_at};
 ghost use Rattle.frame_diff.specs.Members.{is_nest};
-ghost use Rattle.frame_diff.specs.Nests.{are_flags_in, nest_form, nest_meaning};
+ghost use Rattle.frame_diff.specs.Nests.{are_flags, nest_form, nest_meaning};
 
 use crate::walk::{Attribute, Walk};
 use frame_shown::form::{Form, List, Way};
 use link_info::read::read;
 use link_info::{Plain, Style, Value};
 
-/// Whether numbers of a style are flags.
-fn are_flags(style: Style) -> bool
-    ensures { are_flags_in style ≡ result }
+/// Whether numbers that are spelled so are flags.
+fn are_flags(plain: Plain) -> bool
+    ensures { are_flags plain ≡ result }
 {
-    match style {
-        Style::Plain(Plain::Flags(_, _)) | Style::Plain(Plain::BigEndianFlags(_, _)) => true,
+    match plain {
+        Plain::Flags(_, _) | Plain::BigEndianFlags(_, _) => true,
         _ => false,
     }
 }
@@ -31,7 +31,7 @@ fn nest_value(is_deep: bool, style: Style, value: Value<'_>) -> bool
     match value {
         Value::Record(_, _) | Value::Array(_, _) | Value::List(_, _) => true,
         Value::Nest(_, _) => is_deep,
-        Value::Unsigned(_) => are_flags(style),
+        Value::Unsigned(_) => are_flags(style.plain()),
         _ => false,
     }
 }

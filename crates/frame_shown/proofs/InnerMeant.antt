@@ -163,6 +163,6 @@ info_alike n cx p q vs small_p small_q a b =
     let link = option_and_then place_of_kind (first_text 1 (frames_in (items q))) in
     let slave = option_and_then place_of_slave_kind (first_text 4 (frames_in (items q))) in
     ap (λ shape. list_shown (levels n cx) cx shape p) kinds
-    ∙ ap (λ xs. object_of (members_of xs)) (of_some nests.link_info_place.grammar
+    ∙ ap (λ xs. object_of (members_of [] xs)) (of_some nests.link_info_place.grammar
     (frame_item (levels n cx) cx (Shapes.Info link slave)) (infos_alike (levels n cx) cx link slave)
     p q vs small_p small_q a b)

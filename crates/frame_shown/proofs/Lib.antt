@@ -11,6 +11,7 @@ pub mod Alike
 pub mod Rows
 pub mod RowKeys
 pub mod Twice
+pub mod Arrays
 pub mod InnerMeant
 pub mod FamiliesMeant
 pub mod ListsMeant
@@ -22,3 +23,4 @@ pub mod Placed
 pub mod PlainRows
 pub mod PlainStyles
 pub mod Plain
+pub mod ListsTold

@@ -1,5 +1,5 @@
 -- What is shown of virtual functions and ports is of what they mean: a line for each row of their tables.
-use Rattle.std.proofs.Common.{ℕ, suc, refl, ap}
+use Rattle.std.proofs.Common.{[], ℕ, suc, refl, ap}
 use Rattle.std.specs.Int.{w64}
 use Rattle.link_info.specs.declared.place.Place.TheVariants as Places
 use Rattle.link_info.specs.declared.style.Size.TheVariants as Sizes
@@ -19,6 +19,7 @@ use Rattle.nla_wire.specs.Payloads as payload
 use Rattle.nla_wire.specs.Sizes.{plain_growth, inner_small}
 use Rattle.frame_shown.specs.Frames.{frame_item, levels}
 use Rattle.frame_shown.specs.Items.{members_of}
+use Rattle.frame_shown.specs.Tables.{lists_in}
 use Rattle.frame_shown.specs.Values.{Nesting, form_shown}
 use Rattle.frame_shown.specs.declared.form.Around.{Around}
 use Rattle.frame_shown.specs.declared.form.Field.TheVariants as Kinds
@@ -135,7 +136,7 @@ function_alike n cx f h v one two a b =
     through (not_empty (list functions.vf_info_place.grammar))
     (λ p. entry_members (levels (suc n) cx) cx (Shapes.Own Tables.Function) (record { kind = 0; payload = p }))
     functions.link_vf_info_of functions.link_vf_info_members (λ p vs small means. refl)
-    (λ p q vs small_p small_q c d. ap members_of
+    (λ p q vs small_p small_q c d. ap (members_of [])
     (of_some functions.vf_info_place.grammar (frame_item (levels (suc n) cx) cx (Shapes.Own Tables.Function))
     (functions_alike n cx) p q vs small_p small_q c d))
     f.payload h.payload v one.bytes two.bytes a b
@@ -147,7 +148,7 @@ port_alike nest cx f h v one two a b =
     through (not_empty (list functions.vf_port_place.grammar))
     (λ p. entry_members nest cx (Shapes.Of Places.Port) (record { kind = 0; payload = p }))
     functions.link_vf_port_of functions.link_vf_port_members (λ p vs small means. refl)
-    (λ p q vs small_p small_q c d. ap members_of
+    (λ p q vs small_p small_q c d. ap (members_of (lists_in cx (Shapes.Of Places.Port)))
     (of_some functions.vf_port_place.grammar (frame_item nest cx (Shapes.Of Places.Port))
     (ports_alike (frame_item nest cx (Shapes.Of Places.Port))) p q vs small_p small_q c d))
     f.payload h.payload v one.bytes two.bytes a b

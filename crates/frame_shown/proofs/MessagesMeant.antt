@@ -77,7 +77,7 @@ attributes_alike cx m p q small_p small_q a b =
     ∙ sym (len_is (levels 5 cx) cx n (frames_in (items q))) in
     let own : Around = with_address_len cx (address_len (frames_in (items q))) in
     ap (λ len. frames_shown (with_address_len cx len) n p) lens
-    ∙ ap members_of (firsts (levels 5 own) own n (frames_in (items p)) ∙ ap (map (λ (s : Said). s.0)) (alike own)
+    ∙ ap (members_of []) (firsts (levels 5 own) own n (frames_in (items p)) ∙ ap (map (λ (s : Said). s.0)) (alike own)
     ∙ sym (firsts (levels 5 own) own n (frames_in (items q))))
 
 -- ** the header

@@ -12,6 +12,7 @@ use Rattle.link_info.specs.Tables.{frames_in, row_at}
 use Rattle.link_info.specs.declared.place.Place.{Place}
 use Rattle.link_info.specs.declared.place.Place.TheVariants as Places
 use Rattle.link_info.specs.declared.style.Row.{Row}
+use Rattle.link_info.specs.declared.style.Style.{Style}
 use Rattle.link_info.specs.declared.style.Style.TheVariants as S
 use Rattle.shown.specs.Drafts.{object_of}
 use Rattle.shown.specs.Values.{hardware_address, numbered}
@@ -22,7 +23,7 @@ use Rattle.frame_shown.specs.Messages.{address_len, attribute_members, frames_sh
 use Rattle.frame_shown.specs.Messages.{with_address_len}
 use Rattle.frame_shown.specs.Plain.{IsPlain, ShownByOrder}
 use Rattle.frame_shown.specs.Tables.{Known, entry_list, group_name, is_kept, kind_shown, listed_row, no_row, place_row}
-use Rattle.frame_shown.specs.Tables.{row_in, styled, xstats_row}
+use Rattle.frame_shown.specs.Tables.{is_each, is_listed, lists_in, lists_of, row_in, styled, xstats_row}
 use Rattle.frame_shown.specs.Values.{Nesting, field_shown, fields_in, fields_shown, form_shown, hexadecimal}
 use Rattle.frame_shown.specs.Values.{ipv6_counters_shown, signed_value}
 use Rattle.frame_shown.specs.declared.form.Around.{Around}
@@ -50,6 +51,19 @@ pub kept_now : (way : Way) (p : List ℕ) → is_kept (way_now way) p ≡ is_kep
 kept_now (Ways.Own form) p = refl
 kept_now (Ways.By style) p = refl
 
+listed_now : (style : Style) → is_listed (style_now style) ≡ is_listed style
+listed_now S.Bytes = refl
+listed_now _ = refl
+
+pub each_now : (way : Way) → is_each (way_now way) ≡ is_each way
+each_now (Ways.Own form) = refl
+each_now (Ways.By style) = listed_now style
+
+pub lists_of_now : (rows : List Row) → lists_of (map row_now rows) ≡ lists_of rows
+lists_of_now [] = refl
+lists_of_now (row ∷ rows) = λ i. cond (listed_now row.2 i) ((row.0, row.1.now) ∷ lists_of_now rows i)
+    (lists_of_now rows i)
+
 pub kind_now : (way : Way) (kind : ℕ) → kind_shown (way_now way) kind ≡ kind_shown way kind
 kind_now (Ways.Own form) kind = refl
 kind_now (Ways.By style) kind = refl
@@ -63,14 +77,15 @@ by_row_now : (nest : Nesting) (cx : Around) (row : Known) (f : Frame)
     → by_row nest cx (known_now row) f ≡ by_row nest cx row f
 by_row_now nest cx row f = λ i.
     cond (kept_now row.1 f.payload i) (Item.as_is row.0 (kind_now row.1 f.kind i) f.payload)
-    (Item.named (number f) ((row.0, way_shown_now nest cx row.1 f.payload i) ∷ []))
+    (cond (each_now row.1 i) (Item.each (number f) (way_shown_now nest cx row.1 f.payload i))
+    (Item.named (number f) ((row.0, way_shown_now nest cx row.1 f.payload i) ∷ [])))
 
 found_now : (b : Bool) (row : Row) (x y : Option Row) → known_now (styled x) ≡ styled y
     → known_now (styled (cond b (Some row) x)) ≡ styled (cond b (Some (row_now row)) y)
 found_now true row x y same = refl
 found_now false row x y same = same
 
-row_at_now : (all : List Row) (n : ℕ) → known_now (styled (row_at all n)) ≡ styled (row_at (map row_now all) n)
+pub row_at_now : (all : List Row) (n : ℕ) → known_now (styled (row_at all n)) ≡ styled (row_at (map row_now all) n)
 row_at_now [] n = refl
 row_at_now (row ∷ all) n = found_now (row.0 == n) row _ _ (row_at_now all n)
 
@@ -147,7 +162,8 @@ module _ (cx other : Around) (s : AreAlike cx other) where
   by_row_same : (nest : Nesting) (row : Known) (f : Frame) → by_row nest cx row f ≡ by_row nest other row f
   by_row_same nest row f =
       ap (λ tokens. cond (is_kept row.1 f.payload) (Item.as_is row.0 (kind_shown row.1 f.kind) f.payload)
-      (Item.named (number f) ((row.0, tokens) ∷ []))) (way_same nest row.1 f.payload)
+      (cond (is_each row.1) (Item.each (number f) tokens) (Item.named (number f) ((row.0, tokens) ∷ []))))
+      (way_same nest row.1 f.payload)
 
   item_same : (nest : Nesting) (list : Shape) (f : Frame) → frame_item nest cx list f ≡ frame_item nest other list f
   item_same nest list f =
@@ -155,6 +171,16 @@ module _ (cx other : Around) (s : AreAlike cx other) where
       ∙ ap (λ (row : Known). by_row nest cx row f) (row_same list (number f))
       ∙ by_row_now nest cx (row_in other list (number f)) f
       ∙ by_row_same nest (row_in other list (number f)) f
+
+  place_lists_same : (place : Place) → lists_in cx (Shapes.Of place) ≡ lists_in other (Shapes.Of place)
+  place_lists_same place =
+      sym (lists_of_now (rows_of cx.tables.now place)) ∙ ap lists_of (s.tables place)
+      ∙ lists_of_now (rows_of other.tables.now place)
+
+  pub lists_same : (list : Shape) → lists_in cx list ≡ lists_in other list
+  lists_same (Shapes.Of place) = place_lists_same place
+  lists_same Shapes.ProtoInet6 = place_lists_same Places.Inet6
+  lists_same _ = refl
 
   -- ** lists, where lists in them are shown the same
 
@@ -168,12 +194,13 @@ module _ (cx other : Around) (s : AreAlike cx other) where
     entries_same : (list : Shape) (fs : List Frame) → entries_in nest cx list fs ≡ entries_in deep other list fs
     entries_same list [] = refl
     entries_same list (f ∷ fs) = λ i. cond (number f == 1)
-        (members_of (items_same list (items f.payload) i) ∷ entries_same list fs i) (entries_same list fs i)
+        (members_of (lists_same list i) (items_same list (items f.payload) i) ∷ entries_same list fs i)
+        (entries_same list fs i)
 
     object_same : (list : Shape) (p : List ℕ)
-        → object_of (members_of (items_in nest cx list (items p)))
-        ≡ object_of (members_of (items_in deep other list (items p)))
-    object_same list p = ap (λ xs. object_of (members_of xs)) (items_same list (items p))
+        → object_of (members_of (lists_in cx list) (items_in nest cx list (items p)))
+        ≡ object_of (members_of (lists_in other list) (items_in deep other list (items p)))
+    object_same list p = λ i. object_of (members_of (lists_same list i) (items_same list (items p) i))
 
     list_same : (list : Shape) (p : List ℕ) → list_shown nest cx list p ≡ list_shown deep other list p
     list_same (Shapes.Listed group table) p =
@@ -196,7 +223,7 @@ module _ (cx other : Around) (s : AreAlike cx other) where
   frames_same : (family : ℕ) (bytes : List ℕ) → frames_shown cx family bytes ≡ frames_shown other family bytes
   unfolding frames_shown
   frames_same family bytes =
-      ap members_of (items_same (levels 5 cx) (levels 5 other) (λ i list p. levels_same 5 list p i)
+      ap (members_of []) (items_same (levels 5 cx) (levels 5 other) (λ i list p. levels_same 5 list p i)
       (Shapes.Message family) (items bytes))
 
 -- ** messages

@@ -10,9 +10,10 @@ use Rattle.nla_wire.specs.declared.error.Cause.{Cause}
 use Rattle.link_info.specs.Lent.{member_now, name_now, plain_now, style_now}
 use Rattle.link_info.specs.Meanings.{Meaning, Raw, Present, Number, Signed, Words, Hardware, Four, Six}
 use Rattle.link_info.specs.Meanings.{Members as Fields, Elements, Listed, Nested, flag_meaning, form_meaning, read_as}
-use Rattle.link_info.specs.Meanings.{text_or_bytes}
+use Rattle.link_info.specs.Meanings.{plain_or_bytes, record_or_bytes, text_or_bytes}
 use Rattle.link_info.specs.Styles.{Form, Host, are_frames}
-use Rattle.link_info.specs.Styles.{are_frames_of, form, form_size, is_multiple, plain_size, record_size}
+use Rattle.link_info.specs.Styles.{are_frames_of, form, form_size, is_multiple, plain_in, plain_size, record_size}
+use Rattle.link_info.specs.declared.style.Element.TheVariants as E
 use Rattle.link_info.specs.declared.style.Member.{Member}
 use Rattle.link_info.specs.declared.style.Plain.{Plain}
 use Rattle.link_info.specs.declared.style.Plain.TheVariants as P
@@ -21,7 +22,7 @@ use Rattle.link_info.specs.declared.style.Style.TheVariants as S
 use Rattle.shown.specs.Drafts.{object_of}
 use Rattle.shown.specs.Values.{flags_of, named_number}
 use Rattle.frame_shown.specs.Values.{Nesting, count_of, elements_shown, listed, meaning_shown, number_shown}
-use Rattle.frame_shown.specs.Values.{payloads_shown, plain_in, plain_shown, record_shown, spelled, style_shown}
+use Rattle.frame_shown.specs.Values.{payloads_shown, plain_shown, record_shown, spelled, style_shown}
 use Rattle.frame_shown.specs.Values.{texts_of}
 
 -- ** values of a fixed size
@@ -89,17 +90,25 @@ sizes_now a (m ∷ ms) =
     ap (λ n. fold (λ a m. a + plain_size m.1) (a + n) (map member_now ms)) (size_now m.1)
     ∙ sizes_now (a + plain_size m.1) ms
 
+plain_meant : (plain : Plain) (p : List ℕ)
+    → plain_or_bytes (plain_now plain) p ≡ meaning_now (plain_or_bytes plain p)
+plain_meant plain p =
+    ap (by_form p) (form_now plain)
+    ∙ ap (λ m. if length p == plain_size plain then m else Raw p) (form_meant (form plain) p)
+    ∙ either_now (length p == plain_size plain) (form_meaning (form plain) p) p
+
+record_meant : (members : List Member) (p : List ℕ)
+    → record_or_bytes (map member_now members) p ≡ meaning_now (record_or_bytes members p)
+record_meant members p =
+    ap (λ n. if n == length p then Fields (map member_now members) p else Raw p) (sizes_now 0 members)
+    ∙ either_now (record_size members == length p) (Fields members p) p
+
 pub read_now : (style : Style) (p : List ℕ) → read_as (style_now style) p ≡ meaning_now (read_as style p)
 read_now S.Bytes p = refl
 read_now S.Flag p = flag_meant p
 read_now S.Text p = text_meant p (text.reads p)
-read_now (S.Plain plain) p =
-    ap (by_form p) (form_now plain)
-    ∙ ap (λ m. if length p == plain_size plain then m else Raw p) (form_meant (form plain) p)
-    ∙ either_now (length p == plain_size plain) (form_meaning (form plain) p) p
-read_now (S.Record members) p =
-    ap (λ n. if n == length p then Fields (map member_now members.now) p else Raw p) (sizes_now 0 members.now)
-    ∙ either_now (record_size members.now == length p) (Fields members.now p) p
+read_now (S.Plain plain) p = plain_meant plain p
+read_now (S.Record members) p = record_meant members.now p
 read_now (S.Array plain) p =
     ap (λ n. if is_multiple n (length p) then Elements (plain_now plain) p else Raw p) (size_now plain)
     ∙ either_now (is_multiple (plain_size plain) (length p)) (Elements plain p) p
@@ -107,6 +116,9 @@ read_now (S.List plain) p =
     ap (λ n. if are_frames_of n (items p) then Listed (plain_now plain) p else Raw p) (size_now plain)
     ∙ either_now (are_frames_of (plain_size plain) (items p)) (Listed plain p) p
 read_now (S.Nest place) p = either_now (are_frames (items p)) (Nested place p) p
+read_now (S.Each (E.Plain plain)) p = plain_meant plain p
+read_now (S.Each (E.Record members)) p = record_meant members.now p
+read_now (S.Each (E.Nest place)) p = either_now (are_frames (items p)) (Nested place p) p
 
 -- ** what they are shown as
 
@@ -139,7 +151,9 @@ payloads_now plain (Ok f ∷ xs) = λ i. ([], spelled_now plain f.payload i) ∷
 payloads_now plain (Err c ∷ xs) = refl
 
 plain_in_now : (style : Style) → plain_in (style_now style) ≡ plain_now (plain_in style)
-plain_in_now (S.Plain plain) = refl
+plain_in_now (S.Each (E.Plain plain)) = refl
+plain_in_now (S.Each (E.Record members)) = refl
+plain_in_now (S.Each (E.Nest place)) = refl
 plain_in_now _ = refl
 
 shown_now : (nest : Nesting) (style : Style) (m : Meaning)

@@ -12,10 +12,10 @@ use Rattle.nla_wire.specs.Grammar.{Grammar, as_a, by_payload, list, picked, is_o
 use Rattle.nla_wire.specs.Items.{items}
 use Rattle.nla_wire.specs.Payloads as payload
 use Rattle.shown.specs.Drafts.{Members, object_of}
-use Rattle.frame_shown.specs.Frames.{by_row, entries_in, frame_item, items_in, levels, way_shown}
+use Rattle.frame_shown.specs.Frames.{by_row, entries_in, frame_item, items_in, levels}
 use Rattle.frame_shown.specs.Items.{Item, listed_under, members_of, objects_under}
 use Rattle.frame_shown.specs.Laws.{Shows}
-use Rattle.frame_shown.specs.Tables.{entry_list, group_name, is_kept, is_kept_form, kind_shown, row_in}
+use Rattle.frame_shown.specs.Tables.{entry_list, group_name, is_kept_form, kind_shown, lists_in, row_in}
 use Rattle.frame_shown.specs.Values.{Nesting, form_shown, number_tokens, signed_value}
 use Rattle.frame_shown.specs.declared.form.Around.{Around}
 use Rattle.frame_shown.specs.declared.form.Choice.{Choice}
@@ -51,8 +51,7 @@ module _ (nest : Nesting) (cx : Around) (list : Shape) where
   named_item n form f row named is =
       let name : List ℕ = (row_in cx list n).0 in
       ap (λ k. by_row nest cx (row_in cx list k) f) is
-      ∙ ap (λ (way : Way). cond (is_kept way f.payload) (Item.as_is name (kind_shown way f.kind) f.payload)
-      (Item.named (number f) ((name, way_shown nest cx way f.payload) ∷ []))) row
+      ∙ ap (λ (way : Way). by_row nest cx (name, way) f) row
       ∙ ap (λ b. cond b (Item.as_is name (kind_shown (Ways.Own form) f.kind) f.payload)
       (Item.named (number f) ((name, form_shown nest cx form f.payload) ∷ []))) named
       ∙ ap (λ k. Item.named k ((name, form_shown nest cx form f.payload) ∷ [])) is
@@ -82,17 +81,18 @@ module _ (nest : Nesting) (cx : Around) (list : Shape) where
 module _ (n : ℕ) (cx : Around) {V : Type 0} (g : Grammar Frame V) where
   pub own_list : (table : Table) → OfFrames g (frame_item (levels n cx) cx (Shapes.Own table))
       → OfMeaning (list g) (form_shown (levels (suc n) cx) cx (Forms.List (Shapes.Own table)))
-  own_list table of p q vs small_p small_q a b = ap (λ xs. object_of (members_of xs))
+  own_list table of p q vs small_p small_q a b = ap (λ xs. object_of (members_of [] xs))
       (of_list g (frame_item (levels n cx) cx (Shapes.Own table)) of p q vs small_p small_q a b)
 
   pub place_list : (place : Place) → OfFrames g (frame_item (levels n cx) cx (Shapes.Of place))
       → OfMeaning (list g) (form_shown (levels (suc n) cx) cx (Forms.List (Shapes.Of place)))
-  place_list place of p q vs small_p small_q a b = ap (λ xs. object_of (members_of xs))
+  place_list place of p q vs small_p small_q a b = ap (λ xs. object_of
+      (members_of (lists_in cx (Shapes.Of place)) xs))
       (of_list g (frame_item (levels n cx) cx (Shapes.Of place)) of p q vs small_p small_q a b)
 
   pub inet6_list : OfFrames g (frame_item (levels n cx) cx Shapes.ProtoInet6)
       → OfMeaning (list g) (form_shown (levels (suc n) cx) cx (Forms.List Shapes.ProtoInet6))
-  inet6_list of p q vs small_p small_q a b = ap (λ xs. object_of (members_of xs))
+  inet6_list of p q vs small_p small_q a b = ap (λ xs. object_of (members_of (lists_in cx Shapes.ProtoInet6) xs))
       (of_list g (frame_item (levels n cx) cx Shapes.ProtoInet6) of p q vs small_p small_q a b)
 
   pub named_list : (group : Group) (table : Table)
@@ -108,7 +108,7 @@ one_more said false f more rest h = h
 
 -- what an entry says
 abbrev pub entry_members : Nesting → Around → Shape → Frame → Members
-entry_members nest cx list f = members_of (items_in nest cx list (items f.payload))
+entry_members nest cx list f = members_of (lists_in cx list) (items_in nest cx list (items f.payload))
 
 entries_are : (nest : Nesting) (cx : Around) (list : Shape) (fs : List Frame)
     → entries_in nest cx list fs ≡ map (entry_members nest cx list) (filter is_one fs)

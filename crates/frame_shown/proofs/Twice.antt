@@ -3,13 +3,14 @@ use Rattle.std.proofs.Common.{◌≡◌, ℕ, ◌||◌, ◌<◌, List, [], ◌�
 use Rattle.std.specs.Prelude.{Bool, true, false, Ok, Some, cond, map, nat_lt, not, replicate, slice_index, ◌==◌}
 use Rattle.std.proofs.lemmas.Bool.{or_from, or_parts}
 use Rattle.std.proofs.Math.Bool.{or-false}
+use Rattle.json.specs.Token.{Token}
 use Rattle.nla_wire.specs.Frames.{Frame, number}
 use Rattle.nla_wire.specs.Items.{Item as Read}
 use Rattle.link_info.specs.Tables.{frames_in}
 use Rattle.shown.specs.Drafts.{Members}
 use Rattle.frame_shown.specs.Items.{Item, are_any, comes_in, earlier_ones, has_number, number_in}
 use Rattle.frame_shown.specs.Frames.{are_twice, by_number, frame_item, items_in, way_shown}
-use Rattle.frame_shown.specs.Tables.{Known, is_kept, kind_shown, listed_row, no_row, row_in}
+use Rattle.frame_shown.specs.Tables.{Known, is_each, is_kept, kind_shown, listed_row, no_row, row_in}
 use Rattle.frame_shown.specs.Values.{Nesting}
 use Rattle.frame_shown.specs.declared.form.Around.{Around}
 use Rattle.frame_shown.specs.declared.form.List.{List as Shape}
@@ -21,29 +22,36 @@ small_by true row p named = refl
 small_by false row p named = absurd cc
 
 -- one that has a name has it under its number
-has_by : (kept small : Bool) (n m : ℕ) (ms : Members) (name : List ℕ) (kind : ℕ) (p : List ℕ)
+has_by : (kept each small : Bool) (n m : ℕ) (ms : Members) (tokens : List Token) (name : List ℕ) (kind : ℕ)
+    (p : List ℕ)
     → (kept ≡ false → small ≡ true)
     → has_number n (cond small (Item.named m []) (Item.as_is [] 0 [])) ≡ false
-    → has_number n (cond kept (Item.as_is name kind p) (Item.named m ms)) ≡ false
-has_by true small n m ms name kind p fits none = refl
-has_by false true n m ms name kind p fits none = none
-has_by false false n m ms name kind p fits none =
+    → has_number n (cond kept (Item.as_is name kind p) (cond each (Item.each m tokens) (Item.named m ms))) ≡ false
+has_by true each small n m ms tokens name kind p fits none = refl
+has_by false true small n m ms tokens name kind p fits none = refl
+has_by false false true n m ms tokens name kind p fits none = none
+has_by false false false n m ms tokens name kind p fits none =
     let no : false ≡ true = fits refl in
     absurd cc
 
-once_by : (kept small : Bool) (m : ℕ) (ms : Members) (name : List ℕ) (kind : ℕ) (p : List ℕ) (rest its : List Item)
+once_by : (kept each small : Bool) (m : ℕ) (ms : Members) (tokens : List Token) (name : List ℕ) (kind : ℕ)
+    (p : List ℕ) (rest its : List Item)
     → (kept ≡ false → small ≡ true)
     → (comes_in m rest ≡ false → comes_in m its ≡ false)
     → (are_any (earlier_ones rest) ≡ false → are_any (earlier_ones its) ≡ false)
     → are_any (earlier_ones (cond small (Item.named m []) (Item.as_is [] 0 []) ∷ rest)) ≡ false
-    → are_any (earlier_ones (cond kept (Item.as_is name kind p) (Item.named m ms) ∷ its)) ≡ false
-once_by true true m ms name kind p rest its fits comes more none =
+    → are_any (earlier_ones (cond kept (Item.as_is name kind p)
+    (cond each (Item.each m tokens) (Item.named m ms)) ∷ its)) ≡ false
+once_by true each true m ms tokens name kind p rest its fits comes more none =
     more (or_parts (comes_in m rest) (are_any (earlier_ones rest)) (sym (any_earlier m [] rest) ∙ none)).1
-once_by true false m ms name kind p rest its fits comes more none = more none
-once_by false true m ms name kind p rest its fits comes more none =
+once_by true each false m ms tokens name kind p rest its fits comes more none = more none
+once_by false true true m ms tokens name kind p rest its fits comes more none =
+    more (or_parts (comes_in m rest) (are_any (earlier_ones rest)) (sym (any_earlier m [] rest) ∙ none)).1
+once_by false true false m ms tokens name kind p rest its fits comes more none = more none
+once_by false false true m ms tokens name kind p rest its fits comes more none =
     let parts = or_parts (comes_in m rest) (are_any (earlier_ones rest)) (sym (any_earlier m [] rest) ∙ none) in
     any_earlier m ms its ∙ or_from _ _ (comes parts.0) (more parts.1)
-once_by false false m ms name kind p rest its fits comes more none =
+once_by false false false m ms tokens name kind p rest its fits comes more none =
     let no : false ≡ true = fits refl in
     absurd cc
 
@@ -57,8 +65,9 @@ module _ (nest : Nesting) (cx : Around) (list : Shape) where
   none_comes n (f ∷ fs) none =
       let parts = or_parts (has_number n (by_number f)) (comes_in n (map by_number fs)) none in
       let row = row_in cx list (number f) in
-      or_from _ _ (has_by (is_kept row.1 f.payload) (nat_lt (number f) 256) n (number f)
-      ((row.0, way_shown nest cx row.1 f.payload) ∷ []) row.0 (kind_shown row.1 f.kind) f.payload (fits f) parts.0)
+      or_from _ _ (has_by (is_kept row.1 f.payload) (is_each row.1) (nat_lt (number f) 256) n (number f)
+      ((row.0, way_shown nest cx row.1 f.payload) ∷ []) (way_shown nest cx row.1 f.payload) row.0
+      (kind_shown row.1 f.kind) f.payload (fits f) parts.0)
       (none_comes n fs parts.1)
 
   none_again : (fs : List Frame) → are_any (earlier_ones (map by_number fs)) ≡ false
@@ -66,8 +75,9 @@ module _ (nest : Nesting) (cx : Around) (list : Shape) where
   none_again [] none = refl
   none_again (f ∷ fs) none =
       let row = row_in cx list (number f) in
-      once_by (is_kept row.1 f.payload) (nat_lt (number f) 256) (number f)
-      ((row.0, way_shown nest cx row.1 f.payload) ∷ []) row.0 (kind_shown row.1 f.kind) f.payload
+      once_by (is_kept row.1 f.payload) (is_each row.1) (nat_lt (number f) 256) (number f)
+      ((row.0, way_shown nest cx row.1 f.payload) ∷ []) (way_shown nest cx row.1 f.payload) row.0
+      (kind_shown row.1 f.kind) f.payload
       (map by_number fs) (map (frame_item nest cx list) fs) (fits f) (none_comes (number f) fs) (none_again fs)
       none
 

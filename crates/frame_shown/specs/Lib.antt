@@ -11,3 +11,4 @@ pub mod Meaning
 pub mod Annex
 pub mod Tied
 pub mod Plain
+pub mod Lists

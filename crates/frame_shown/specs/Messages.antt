@@ -11,6 +11,7 @@ use Rattle.shown.specs.Drafts.{Members}
 use Rattle.shown.specs.Values.{BitNames, numbered, flags_of}
 use Rattle.frame_shown.specs.Items.{members_of}
 use Rattle.frame_shown.specs.Frames.{items_in, levels}
+use Rattle.frame_shown.specs.Tables.{lists_in}
 use Rattle.frame_shown.specs.declared.form.Around.{Around}
 use Rattle.frame_shown.specs.declared.form.List.TheVariants as Shapes
 use Rattle.frame_shown.specs.declared.tables.TheConstants.{LINK_FLAGS}
@@ -41,7 +42,8 @@ with_address_len cx len =
 
 -- the attributes by their rows, of a message of this family
 unfoldable pub frames_shown : Around → ℕ → List ℕ → Members
-frames_shown cx family bytes = members_of (items_in (levels 5 cx) cx (Shapes.Message family) (items bytes))
+frames_shown cx family bytes = members_of (lists_in cx (Shapes.Message family))
+    (items_in (levels 5 cx) cx (Shapes.Message family) (items bytes))
 
 abbrev pub attribute_members : Around → ℕ → List ℕ → Members
 attribute_members cx family bytes =

@@ -11,7 +11,9 @@ use Rattle.link_info.specs.Tables.{row_at}
 use Rattle.link_info.specs.declared.place.Place.{Place}
 use Rattle.link_info.specs.declared.place.Place.TheVariants as Places
 use Rattle.link_info.specs.declared.style.Row.{Row as PlaceRow}
+use Rattle.link_info.specs.declared.style.Style.{Style}
 use Rattle.link_info.specs.declared.style.Style.TheVariants as S
+use Rattle.frame_shown.specs.Items.{Lists}
 use Rattle.frame_shown.specs.declared.form.Around.{Around}
 use Rattle.frame_shown.specs.declared.form.Form.{Form}
 use Rattle.frame_shown.specs.declared.form.Form.TheVariants as Forms
@@ -180,6 +182,29 @@ row_in cx list n = cond (nat_lt n 256) (listed_row cx list n) no_row
 abbrev pub is_own : Way → Bool
 is_own (Ways.Own form) = true
 is_own (Ways.By style) = false
+
+-- a value of a list
+abbrev pub is_listed : Style → Bool
+is_listed (S.Each element) = true
+is_listed _ = false
+
+abbrev pub is_each : Way → Bool
+is_each (Ways.Own form) = false
+is_each (Ways.By style) = is_listed style
+
+-- the number and the name of each list that rows of link data have
+abbrev pub lists_of : List PlaceRow → Lists
+lists_of [] = []
+lists_of (row ∷ rows) = cond (is_listed row.2) ((row.0, row.1.now) ∷ lists_of rows) (lists_of rows)
+
+-- the rows of link data among those of a list
+abbrev pub data_rows : Around → Shape → List PlaceRow
+data_rows cx (Shapes.Of place) = rows_of cx.tables.now place
+data_rows cx Shapes.ProtoInet6 = rows_of cx.tables.now Places.Inet6
+data_rows cx _ = []
+
+abbrev pub lists_in : Around → Shape → Lists
+lists_in cx list = lists_of (data_rows cx list)
 
 -- an attribute with this payload is kept as it is
 abbrev pub is_kept_form : Form → List ℕ → Bool

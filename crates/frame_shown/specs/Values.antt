@@ -22,7 +22,7 @@ use Rattle.link_info.specs.declared.style.Style.{Style}
 use Rattle.link_info.specs.declared.style.Style.TheVariants as S
 use Rattle.link_info.specs.Meanings.{Meaning, Raw, Present, Number, Signed, Words, Hardware, Four, Six}
 use Rattle.link_info.specs.Meanings.{Members as Fields, Elements, Listed, Nested, read_as}
-use Rattle.link_info.specs.Styles.{plain_size, width}
+use Rattle.link_info.specs.Styles.{plain_in, plain_size, width}
 use Rattle.shown.specs.Drafts.{Members, object_of, list_of}
 use Rattle.shown.specs.Values.{BitNames, hardware_address, name_or_number, named_number, flags_of, numbered}
 use Rattle.link_nest.specs.declared.numbers.TheConstants.{IWEVASSOCREQIE, IWEVASSOCRESPIE}
@@ -124,17 +124,6 @@ listed ms = list_of (flat_map (λ m. m.1) ms)
 abbrev pub count_of : ℕ → ℕ → ℕ
 count_of zero n = 0
 count_of (suc k) n = n / suc k
-
--- how the values of a style are spelled, where it is of a fixed size
-abbrev pub plain_in : Style → Plain
-plain_in (S.Plain plain) = plain
-plain_in S.Bytes = P.Octets 0
-plain_in S.Flag = P.Octets 0
-plain_in S.Text = P.Octets 0
-plain_in (S.Record members) = P.Octets 0
-plain_in (S.Array plain) = P.Octets 0
-plain_in (S.List plain) = P.Octets 0
-plain_in (S.Nest place) = P.Octets 0
 
 -- what a payload means by its style
 abbrev pub meaning_shown : Nesting → Style → Meaning → List Token

@@ -6,7 +6,8 @@ ghost use Rattle.link_info.specs.declared.style.Style.TheVariants as Styles;
 ghost use Rattle.shown.specs.Keys.{IsKey};
 ghost use Rattle.frame_shown.specs.declared.form.Way.TheVariants as Ways;
 ghost use Rattle.frame_shown.specs.Plain.{IsPlain};
-ghost use Rattle.frame_shown.specs.Tables.{af_spec_form, entry_list, group_name, info_row, is_kept, is_kept_form};
+ghost use Rattle.frame_shown.specs.Tables.{af_spec_form, data_rows, entry_list, group_name, info_row, is_each};
+ghost use Rattle.frame_shown.specs.Tables.{is_kept, is_kept_form, is_listed};
 ghost use Rattle.frame_shown.specs.Tables.{AreInOrder, AreOf, are_from, is_own, kind_shown};
 ghost use Rattle.frame_shown.specs.Tables.{manner_way, message_row, nest_row, no_row, place_row, proto_info_form};
 ghost use Rattle.frame_shown.specs.Tables.{proto_inet6_row, refused_row, row_by, row_in, row_of_list, rows_in};
@@ -590,6 +591,39 @@ pub(crate) fn is_kept_by(manner: Manner, payload: &[u8]) -> bool
     match manner {
         Manner::Own(form) => is_kept_form(form, payload),
         _ => false,
+    }
+}
+
+/// Whether an attribute of this style is a value of a list.
+#[inline(always)]
+pub fn is_listed(style: &Style) -> bool
+    ensures { result ≡ is_listed style.now }
+{
+    match *style {
+        Style::Each(_) => true,
+        _ => false,
+    }
+}
+
+/// Whether an attribute is a value of a list, by the row where it stands.
+#[inline(always)]
+pub(crate) fn is_each_by(manner: Manner) -> bool
+    ensures { result ≡ is_each (manner_way manner) }
+{
+    match manner {
+        Manner::By(style) => is_listed(style),
+        _ => false,
+    }
+}
+
+/// The rows of link data among those of a list.
+pub fn data_rows(cx: &Around<'_>, list: &List) -> &'static [PlaceRow]
+    ensures { result.now ≡ data_rows cx.now list.now }
+{
+    match *list {
+        List::Of(place) => place.rows_in(cx.tables),
+        List::ProtoInet6 => Place::Inet6.rows_in(cx.tables),
+        _ => &[],
     }
 }
 

@@ -1,6 +1,7 @@
 //! What is shown is of what bytes mean.
 
 ghost use Rattle.frame_shown.specs.Laws.{FunctionsAreMeant, RecordsAreMeant, ValuesAreMeant};
+ghost use Rattle.frame_shown.specs.Lists.{ListsAreThese};
 ghost use Rattle.frame_shown.specs.Meaning.{MessagesAreMeant};
 ghost use Rattle.frame_shown.specs.Names.{NamesAreApart};
 ghost use Rattle.frame_shown.specs.Plain.{ShownByOrder};
@@ -26,6 +27,11 @@ pub fn law_functions()
 /// No two attributes of a list, and no two fields of a record, have one name.
 pub fn law_names()
     ensures { NamesAreApart }
+{}
+
+/// Each attribute that is a value of a list is shown in an array: those of these numbers are, and no other.
+pub fn law_lists()
+    ensures { ListsAreThese }
 {}
 
 /// The tables of names, places and forms that the code goes by are those of the annex.

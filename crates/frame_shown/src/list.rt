@@ -1,29 +1,35 @@
 //! Lists of attributes.
 
-ghost use Rattle.std.specs.Prelude.{◌≡◌, ◌<◌, ◌++◌, ℕ, true, [], ◌∷◌, OnOk, IfOk, IfSome, codes, map, slice_index};
-ghost use Rattle.std.specs.List.{flat_map};
+ghost use Rattle.std.specs.Prelude.{◌≡◌, ◌<◌, ◌==◌, ◌++◌, ℕ, false, true, [], ◌∷◌, OnOk, IfOk, IfSome};
+ghost use Rattle.std.specs.Prelude.{MatchOption, codes, map, slice_index};
+ghost use Rattle.std.specs.List.{flat_map, list_any};
+ghost use Rattle.nla_wire.specs.Frames.{number as number_of};
 ghost use Rattle.nla_wire.specs.Items.{items};
 ghost use Rattle.link_info.specs.Tables.{frames_in};
 ghost use Rattle.shown.specs.Drafts.{with_members, with_value, object_of, list_of};
-ghost use Rattle.frame_shown.specs.Items.{are_any, count_of, earlier_ones, kept_ones, last_ones, list_under};
+ghost use Rattle.frame_shown.specs.Items.{are_any, arrays, count_of, earlier_ones, elements, is_value, kept_ones};
+ghost use Rattle.frame_shown.specs.Items.{last_ones, list_under, values_with};
 ghost use Rattle.frame_shown.specs.Items.{listed_under, members_of, named_ones, number_in, objects, shown_as};
 ghost use Rattle.frame_shown.specs.Items.{values_of};
 ghost use Rattle.frame_shown.specs.Items.{objects_under};
 ghost use Rattle.frame_shown.specs.Frames.{are_twice, by_number, entries_in, frame_item, items_in, list_shown};
-ghost use Rattle.frame_shown.specs.Frames.{way_shown};
-ghost use Rattle.frame_shown.specs.Tables.{AreOf, entry_list, group_name, is_own, manner_way};
+ghost use Rattle.frame_shown.specs.Frames.{values_by, way_shown};
+ghost use Rattle.frame_shown.specs.Tables.{AreOf, entry_list, group_name, is_each, is_listed, is_own, lists_in};
+ghost use Rattle.frame_shown.specs.Lists.{said_kept, said_value};
+ghost use Rattle.frame_shown.specs.Tables.{lists_of, manner_way, row_in};
 ghost use Rattle.frame_shown.specs.Values.{form_shown, style_shown};
+ghost use Rattle.frame_shown.specs.declared.form.Way.TheVariants as Ways;
 ghost use Rattle.link_info.specs.declared.style.Style.TheVariants as S;
 ghost use Rattle.shown.specs.Keys.{IsKey};
 
 use crate::depth::Depth;
 use crate::form::{
-    Around, Form, Group, List, Manner, NUMBERS, Rows, Way, found_by, found_in, is_kept_by,
-    kind_shown, own_rows,
+    Around, Form, Group, List, Manner, NUMBERS, Rows, Way, data_rows, found_by, found_in,
+    is_each_by, is_kept_by, is_listed, kind_shown, own_rows,
 };
 use crate::kept::show_kept;
 use crate::value::{number_at, show_form, show_style, show_text};
-use link_info::{Member, Place, Style};
+use link_info::{Member, Place, Row as PlaceRow, Style};
 use nla_wire::{NlaBuffer, NlasIterator};
 use shown::{Nest, Page};
 use std::alloc::AllocError;
@@ -119,34 +125,59 @@ fn show_manner<D: Depth>(
     }
 }
 
-/// Adds what an attribute says under its name, and returns whether it is kept as it is: then it says nothing here. The
+/// Which attributes of a list say nothing under a name of their own.
+#[derive(Drop)]
+struct Left {
+    /// Whether there is one that is kept as it is.
+    is_any_kept: bool,
+    /// Whether there is one that is a value of a list.
+    is_any_value: bool,
+}
+
+/// What an attribute says.
+#[derive(Clone, Copy, Drop)]
+enum Said {
+    /// Something under its name.
+    Named,
+    /// It is kept as it is.
+    Kept,
+    /// It is a value of a list.
+    Value,
+}
+
+/// Adds what an attribute says under its name. One that is kept as it is, and a value of a list, says nothing here. The
 /// rows are those of the list, if it goes by a table of this crate.
 #[inline(always)]
-#[tactic(auto, using(crate::proofs::Items::kept_frame, crate::proofs::Items::named_frame))]
+#[tactic(auto, using(crate::proofs::Items::frames_by_row))]
 fn show_frame<D: Depth>(
     cx: &Around<'_>,
     page: &mut Page,
     list: &List,
     rows: Option<Rows>,
     frame: &NlaBuffer<'_>,
-) -> Result<bool, AllocError>
+) -> Result<Said, AllocError>
     requires { AreOf rows list.now }
     ensures shown { OnOk result (page.new ≡ with_members
         (shown_as (frame_item (D.nest cx.now) cx.now list.now frame.now)) page.old) }
-    ensures kept { IfOk result (λ kept. kept
+    ensures kept { IfOk result (λ said. said_kept said
         ≡ are_any (kept_ones (frame_item (D.nest cx.now) cx.now list.now frame.now ∷ []))) }
+    ensures value { IfOk result (λ said. said_value said
+        ≡ is_value (frame_item (D.nest cx.now) cx.now list.now frame.now)) }
 {
     let (name, manner) = found_by(cx, list, rows, frame.kind());
     if is_kept_by(manner, frame.value()) {
-        return Ok(true);
+        return Ok(Said::Kept);
+    }
+    if is_each_by(manner) {
+        return Ok(Said::Value);
     }
     show_manner::<D>(cx, page, name, manner, frame.value())?;
-    Ok(false)
+    Ok(Said::Named)
 }
 
 /// The number of an attribute that is shown under a name.
 #[inline(always)]
-#[tactic(auto, using(crate::proofs::Items::kept_no_number, crate::proofs::Items::named_number))]
+#[tactic(auto, using(crate::proofs::Items::numbers_by_row))]
 fn number_in<D: Depth>(cx: &Around<'_>, list: &List, frame: &NlaBuffer<'_>) -> Option<usize>
     ensures value { result ≡ number_in (frame_item (D.nest cx.now) cx.now list.now frame.now) }
     ensures small { IfSome result (λ n. n < 256) }
@@ -154,6 +185,9 @@ fn number_in<D: Depth>(cx: &Around<'_>, list: &List, frame: &NlaBuffer<'_>) -> O
     let number = frame.kind();
     let (_, manner) = found_in(cx, list, number);
     if is_kept_by(manner, frame.value()) {
+        return None;
+    }
+    if is_each_by(manner) {
         return None;
     }
     Some(number as usize)
@@ -188,6 +222,21 @@ pub fn has_twice(bytes: &[u8]) -> bool
     false
 }
 
+/// What an attribute leaves over: it is kept as it is, or a value of a list, or neither.
+#[tactic(auto, using(crate::proofs::Items::kept_test, crate::proofs::Items::value_test))]
+fn left_by<D: Depth>(cx: &Around<'_>, list: &List, frame: &NlaBuffer<'_>) -> Left
+    ensures kept { result.is_any_kept
+        ≡ are_any (kept_ones (frame_item (D.nest cx.now) cx.now list.now frame.now ∷ [])) }
+    ensures value { result.is_any_value
+        ≡ is_value (frame_item (D.nest cx.now) cx.now list.now frame.now) }
+{
+    let (_, manner) = found_in(cx, list, frame.kind());
+    Left {
+        is_any_kept: is_kept_by(manner, frame.value()),
+        is_any_value: is_each_by(manner),
+    }
+}
+
 /// What the attributes of a list are together.
 #[derive(Drop)]
 struct Survey {
@@ -195,6 +244,8 @@ struct Survey {
     is_any_repeated: bool,
     /// Whether one of them is kept as it is.
     is_any_kept: bool,
+    /// Whether one of them is a value of a list.
+    is_any_value: bool,
 }
 
 /// Goes over the attributes of a list once.
@@ -203,10 +254,13 @@ fn look_over<D: Depth>(cx: &Around<'_>, list: &List, bytes: &[u8]) -> Survey
         ≡ are_any (earlier_ones (items_in (D.nest cx.now) cx.now list.now (items bytes.now))) }
     ensures kept { result.is_any_kept
         ≡ are_any (kept_ones (items_in (D.nest cx.now) cx.now list.now (items bytes.now))) }
+    ensures value { result.is_any_value
+        ≡ list_any is_value (items_in (D.nest cx.now) cx.now list.now (items bytes.now)) }
 {
     let mut seen = [0u8; NUMBERS];
     let mut is_any_repeated = false;
     let mut is_any_kept = false;
+    let mut is_any_value = false;
     for item in NlasIterator::new(bytes) {
         let Ok(frame) = item else {
             break;
@@ -215,37 +269,49 @@ fn look_over<D: Depth>(cx: &Around<'_>, list: &List, bytes: &[u8]) -> Survey
             is_any_repeated |= seen[number] != 0;
             seen[number] = 1;
         } else {
-            is_any_kept = true;
+            let left = left_by::<D>(cx, list, &frame);
+            is_any_kept |= left.is_any_kept;
+            is_any_value |= left.is_any_value;
         }
     }
     Survey {
         is_any_repeated,
         is_any_kept,
+        is_any_value,
     }
 }
 
-/// Adds the attributes that have a name, and returns whether one of the others is kept as it is.
+/// Adds the attributes that have a name, and returns which of the others there are.
 fn show_named<D: Depth>(
     cx: &Around<'_>,
     page: &mut Page,
     list: &List,
     bytes: &[u8],
-) -> Result<bool, AllocError>
+) -> Result<Left, AllocError>
     ensures shown { OnOk result (page.new ≡ with_members
         (flat_map shown_as (items_in (D.nest cx.now) cx.now list.now (items bytes.now))) page.old) }
-    ensures kept { IfOk result (λ kept. kept
+    ensures kept { IfOk result (λ left. left.is_any_kept
         ≡ are_any (kept_ones (items_in (D.nest cx.now) cx.now list.now (items bytes.now)))) }
+    ensures value { IfOk result (λ left. left.is_any_value
+        ≡ list_any is_value (items_in (D.nest cx.now) cx.now list.now (items bytes.now))) }
 {
     let rows = own_rows(list);
     let mut is_any_kept = false;
+    let mut is_any_value = false;
     for item in NlasIterator::new(bytes) {
         let Ok(frame) = item else {
             break;
         };
-        let is_kept = show_frame::<D>(cx, page, list, rows, &frame)?;
-        is_any_kept |= is_kept;
+        match show_frame::<D>(cx, page, list, rows, &frame)? {
+            Said::Named => {}
+            Said::Kept => is_any_kept = true,
+            Said::Value => is_any_value = true,
+        }
     }
-    Ok(is_any_kept)
+    Ok(Left {
+        is_any_kept,
+        is_any_value,
+    })
 }
 
 /// Adds an attribute that is kept.
@@ -326,6 +392,153 @@ fn show_others<D: Depth>(
         return Ok(());
     }
     show_some::<D>(cx, page, list, bytes)
+}
+
+/// How the values of the list of a number are shown, if its attributes are such.
+fn list_style(cx: &Around<'_>, list: &List, number: u16) -> Option<&'static Style>
+    ensures { MatchOption result (is_each (row_in cx.now list.now number).1 ≡ false)
+        (λ style. ((row_in cx.now list.now number).1 ≡ Ways.By style.now)
+        × (is_listed style.now ≡ true)) }
+{
+    let (_, manner) = found_in(cx, list, number);
+    match manner {
+        Manner::By(style) if is_listed(style) => Some(style),
+        _ => None,
+    }
+}
+
+/// Whether there is an attribute of this number.
+fn comes(number: u16, bytes: &[u8]) -> bool
+    ensures { result ≡ list_any (λ f. number_of f == number) (frames_in (items bytes.now)) }
+{
+    for item in NlasIterator::new(bytes) {
+        let Ok(frame) = item else {
+            break;
+        };
+        if frame.kind() == number {
+            return true;
+        }
+    }
+    false
+}
+
+/// Adds what the attributes of this number hold, by a style.
+fn show_values<D: Depth>(
+    cx: &Around<'_>,
+    page: &mut Page,
+    style: &Style,
+    number: u16,
+    bytes: &[u8],
+) -> Result<(), AllocError>
+    ensures { OnOk result (page.new ≡ with_members (elements
+        (values_by (D.nest cx.now) style.now number (frames_in (items bytes.now)))) page.old) }
+{
+    for item in NlasIterator::new(bytes) {
+        let Ok(frame) = item else {
+            break;
+        };
+        if frame.kind() == number {
+            show_style::<D>(cx, page, "", style, frame.value())?;
+        }
+    }
+    Ok(())
+}
+
+/// Adds the values of the list of a number.
+fn show_each<D: Depth>(
+    cx: &Around<'_>,
+    page: &mut Page,
+    list: &List,
+    number: u16,
+    bytes: &[u8],
+) -> Result<(), AllocError>
+    ensures { OnOk result (page.new ≡ with_members (elements (values_with number
+        (items_in (D.nest cx.now) cx.now list.now (items bytes.now)))) page.old) }
+{
+    match list_style(cx, list, number) {
+        Some(style) => show_values::<D>(cx, page, style, number, bytes),
+        None => Ok(()),
+    }
+}
+
+/// Adds the list of a number under a name, of whatever values there are.
+pub fn show_one_array<D: Depth>(
+    cx: &Around<'_>,
+    page: &mut Page,
+    name: &str,
+    list: &List,
+    number: u16,
+    bytes: &[u8],
+) -> Result<(), AllocError>
+    ensures { OnOk result (page.new ≡ with_value name.now (list_of (flat_map (λ tokens. tokens)
+        (values_with number (items_in (D.nest cx.now) cx.now list.now (items bytes.now))))) page.old) }
+{
+    page.begin(name, Nest::List)?;
+    show_each::<D>(cx, page, list, number, bytes)?;
+    page.end()
+}
+
+/// Adds the list that a row is of, if it is of one and that has a value.
+fn show_array<D: Depth>(
+    cx: &Around<'_>,
+    page: &mut Page,
+    list: &List,
+    row: &PlaceRow,
+    bytes: &[u8],
+) -> Result<(), AllocError>
+    ensures { OnOk result (page.new ≡ with_members (arrays (lists_of (row.now ∷ []))
+        (items_in (D.nest cx.now) cx.now list.now (items bytes.now))) page.old) }
+{
+    if !is_listed(&row.2) {
+        return Ok(());
+    }
+    let Some(style) = list_style(cx, list, row.0) else {
+        return Ok(());
+    };
+    if !comes(row.0, bytes) {
+        return Ok(());
+    }
+    page.begin(row.1, Nest::List)?;
+    show_values::<D>(cx, page, style, row.0, bytes)?;
+    page.end()
+}
+
+/// Adds the lists that have a value, each under its name.
+#[inline(never)]
+fn show_arrays<D: Depth>(
+    cx: &Around<'_>,
+    page: &mut Page,
+    list: &List,
+    bytes: &[u8],
+) -> Result<(), AllocError>
+    ensures { OnOk result (page.new ≡ with_members (arrays (lists_in cx.now list.now)
+        (items_in (D.nest cx.now) cx.now list.now (items bytes.now))) page.old) }
+{
+    let rows = data_rows(cx, list);
+    for row in rows {
+        show_array::<D>(cx, page, list, row, bytes)?;
+    }
+    Ok(())
+}
+
+/// Adds the lists that have a value, if there are any.
+#[inline(always)]
+fn show_lists<D: Depth>(
+    cx: &Around<'_>,
+    page: &mut Page,
+    list: &List,
+    bytes: &[u8],
+    is_any_value: bool,
+) -> Result<(), AllocError>
+    requires { is_any_value
+        ≡ list_any is_value (items_in (D.nest cx.now) cx.now list.now (items bytes.now)) }
+    ensures { OnOk result (page.new ≡ with_members (arrays (lists_in cx.now list.now)
+        (items_in (D.nest cx.now) cx.now list.now (items bytes.now))) page.old) }
+{
+    if !is_any_value {
+        return Ok(());
+    }
+    show_arrays::<D>(cx, page, list, bytes)
 }
 
 /// How many attributes there are of each number that has a name.
@@ -411,8 +624,8 @@ fn show_earlier<D: Depth>(
     Ok(())
 }
 
-/// Adds the attributes that have a name where some come again: the last one of each name, and after them a list of
-/// those that came before it.
+/// Adds the attributes that have a name where some come again: the last one of each name, the lists, and after them a
+/// list of those that came before the last one of their name.
 #[cold]
 #[inline(never)]
 fn show_repeated<D: Depth>(
@@ -420,41 +633,53 @@ fn show_repeated<D: Depth>(
     page: &mut Page,
     list: &List,
     bytes: &[u8],
+    is_any_value: bool,
 ) -> Result<(), AllocError>
-    requires { are_any (earlier_ones
+    requires again { are_any (earlier_ones
         (items_in (D.nest cx.now) cx.now list.now (items bytes.now))) ≡ true }
+    requires value { is_any_value
+        ≡ list_any is_value (items_in (D.nest cx.now) cx.now list.now (items bytes.now)) }
     ensures { OnOk result (page.new ≡ with_members
         (last_ones (items_in (D.nest cx.now) cx.now list.now (items bytes.now))
+        ++ arrays (lists_in cx.now list.now)
+        (items_in (D.nest cx.now) cx.now list.now (items bytes.now))
         ++ list_under (codes "repeated") (map object_of
         (earlier_ones (items_in (D.nest cx.now) cx.now list.now (items bytes.now))))) page.old) }
 {
     let counts = count::<D>(cx, list, bytes);
     show_last::<D>(cx, page, list, bytes, &counts)?;
+    show_lists::<D>(cx, page, list, bytes, is_any_value)?;
     page.begin("repeated", Nest::List)?;
     show_earlier::<D>(cx, page, list, bytes, &counts)?;
     page.end()
 }
 
-/// Adds the attributes that have a name: the last one of each name, and after them those that came before it.
+/// Adds the attributes that have a name: the last one of each name, the lists, and after them those that came before
+/// the last one of their name.
 fn show_all<D: Depth>(
     cx: &Around<'_>,
     page: &mut Page,
     list: &List,
     bytes: &[u8],
     is_any_repeated: bool,
+    is_any_value: bool,
 ) -> Result<(), AllocError>
-    requires { is_any_repeated
+    requires again { is_any_repeated
         ≡ are_any (earlier_ones (items_in (D.nest cx.now) cx.now list.now (items bytes.now))) }
+    requires value { is_any_value
+        ≡ list_any is_value (items_in (D.nest cx.now) cx.now list.now (items bytes.now)) }
     ensures { OnOk result (page.new ≡ with_members
         (last_ones (items_in (D.nest cx.now) cx.now list.now (items bytes.now))
+        ++ arrays (lists_in cx.now list.now)
+        (items_in (D.nest cx.now) cx.now list.now (items bytes.now))
         ++ list_under (codes "repeated") (map object_of
         (earlier_ones (items_in (D.nest cx.now) cx.now list.now (items bytes.now))))) page.old) }
 {
     if is_any_repeated {
-        return show_repeated::<D>(cx, page, list, bytes);
+        return show_repeated::<D>(cx, page, list, bytes, is_any_value);
     }
     show_named::<D>(cx, page, list, bytes)?;
-    Ok(())
+    show_lists::<D>(cx, page, list, bytes, is_any_value)
 }
 
 /// Adds the attributes of a list as members, where some may come again.
@@ -466,10 +691,18 @@ fn show_surveyed<D: Depth>(
     bytes: &[u8],
 ) -> Result<(), AllocError>
     ensures { OnOk result (page.new ≡ with_members
-        (members_of (items_in (D.nest cx.now) cx.now list.now (items bytes.now))) page.old) }
+        (members_of (lists_in cx.now list.now)
+        (items_in (D.nest cx.now) cx.now list.now (items bytes.now))) page.old) }
 {
     let survey = look_over::<D>(cx, list, bytes);
-    show_all::<D>(cx, page, list, bytes, survey.is_any_repeated)?;
+    show_all::<D>(
+        cx,
+        page,
+        list,
+        bytes,
+        survey.is_any_repeated,
+        survey.is_any_value,
+    )?;
     show_others::<D>(cx, page, list, bytes, survey.is_any_kept)
 }
 
@@ -481,13 +714,15 @@ pub fn show_members<D: Depth>(
     bytes: &[u8],
 ) -> Result<(), AllocError>
     ensures { OnOk result (page.new ≡ with_members
-        (members_of (items_in (D.nest cx.now) cx.now list.now (items bytes.now))) page.old) }
+        (members_of (lists_in cx.now list.now)
+        (items_in (D.nest cx.now) cx.now list.now (items bytes.now))) page.old) }
 {
     if has_twice(bytes) {
         return show_surveyed::<D>(cx, page, list, bytes);
     }
-    let is_any_kept = show_named::<D>(cx, page, list, bytes)?;
-    show_others::<D>(cx, page, list, bytes, is_any_kept)
+    let left = show_named::<D>(cx, page, list, bytes)?;
+    show_lists::<D>(cx, page, list, bytes, left.is_any_value)?;
+    show_others::<D>(cx, page, list, bytes, left.is_any_kept)
 }
 
 /// Adds the attributes of a list as an object.
@@ -499,7 +734,8 @@ fn show_object<D: Depth>(
     bytes: &[u8],
 ) -> Result<(), AllocError>
     ensures { OnOk result (page.new ≡ with_value name.now (object_of
-        (members_of (items_in (D.nest cx.now) cx.now list.now (items bytes.now)))) page.old) }
+        (members_of (lists_in cx.now list.now)
+        (items_in (D.nest cx.now) cx.now list.now (items bytes.now)))) page.old) }
 {
     page.begin(name, Nest::Object)?;
     show_members::<D>(cx, page, list, bytes)?;
@@ -520,9 +756,9 @@ pub fn show_one_list<D: Depth>(
         ≡ are_any (kept_ones (items_in (D.nest cx.now) cx.now list.now (items bytes.now)))) }
 {
     page.begin(name, Nest::List)?;
-    let is_any_kept = show_named::<D>(cx, page, list, bytes)?;
+    let left = show_named::<D>(cx, page, list, bytes)?;
     page.end()?;
-    Ok(is_any_kept)
+    Ok(left.is_any_kept)
 }
 
 /// Adds the attributes of a list as an object in which all that have a name stand in one list.

@@ -12,7 +12,7 @@ ghost use Rattle.shown.specs.Drafts.{with_members, with_value, object_of};
 ghost use Rattle.shown.specs.Keys.{AreKeys, IsKey};
 ghost use Rattle.shown.specs.Values.{flags_of};
 ghost use Rattle.frame_shown.specs.declared.form.Choice.TheVariants as Choices;
-ghost use Rattle.frame_shown.specs.Values.{number_shown, plain_shown, plain_in, spelled, hexadecimal, listed};
+ghost use Rattle.frame_shown.specs.Values.{number_shown, plain_shown, spelled, hexadecimal, listed};
 ghost use Rattle.frame_shown.specs.Values.{record_shown, elements_shown, payloads_shown, count_of};
 ghost use Rattle.frame_shown.specs.Values.{style_shown, address_shown, bare_shown, behind_settings, bits_in};
 ghost use Rattle.frame_shown.specs.Values.{choice_number, choice_token, counter_names, counter_place, counter_width};
@@ -206,17 +206,7 @@ fn show_meaning<D: Depth>(
         Value::Array(plain, bytes) => show_array(page, name, plain, bytes),
         Value::List(plain, bytes) => show_list(page, name, plain, bytes),
         Value::Nest(place, bytes) => D::show_list(cx, page, name, &List::Of(place), bytes),
-        value => show_plain(page, name, plain_in(style), value),
-    }
-}
-
-/// How values of a style are spelled, where they are of a fixed size.
-fn plain_in(style: Style) -> Plain
-    ensures { result ≡ plain_in style }
-{
-    match style {
-        Style::Plain(plain) => plain,
-        _ => Plain::Octets(0),
+        value => show_plain(page, name, style.plain(), value),
     }
 }
 

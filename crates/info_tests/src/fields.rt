@@ -1,7 +1,7 @@
 //! Fields of lists of attributes.
 
 use crate::values::{are_same, next_field};
-use link_info::{Field, Fields, Place, Row, Value};
+use link_info::{Field, Fields, Place, Row, Style, Value};
 use nla_wire::{Cause, NlaBuffer};
 
 /// Data of a vlan: its id with a flag bit of its kind, its protocol, an id of three bytes, and a number without a row.
@@ -68,4 +68,73 @@ fn a_field_is_made_of_a_frame(rt: HostRuntime) {
     let field = Field::new(Place::Vrf.rows(), &frame);
     assert_eq!(rt; name(&field), "");
     assert!(rt; are_same(field.value(), Value::Bytes(&[0x88, 0xa8])));
+}
+
+/// Each row that is a list: its place, an attribute of it, its name, and the value of the attribute.
+const LISTS: &[(Place, &[u8], &str, Value<'static>)] = &[
+    (
+        Place::BridgeSpec,
+        &[0x08, 0x00, 0x02, 0x00, 0x06, 0x00, 0x0a, 0x00],
+        "vlan-info",
+        Value::Record(&[], &[0x06, 0x00, 0x0a, 0x00]),
+    ),
+    (
+        Place::BridgeSpec,
+        &[
+            0x0c, 0x00, 0x03, 0x00, 0x06, 0x00, 0x02, 0x00, 0x0a, 0x00, 0x00, 0x00,
+        ],
+        "vlan-tunnel-info",
+        Value::Nest(
+            Place::BridgeVlanTunnel,
+            &[0x06, 0x00, 0x02, 0x00, 0x0a, 0x00, 0x00, 0x00],
+        ),
+    ),
+    (
+        Place::BridgeMst,
+        &[
+            0x0c, 0x00, 0x01, 0x00, 0x06, 0x00, 0x01, 0x00, 0x03, 0x00, 0x00, 0x00,
+        ],
+        "entry",
+        Value::Nest(
+            Place::BridgeMstEntry,
+            &[0x06, 0x00, 0x01, 0x00, 0x03, 0x00, 0x00, 0x00],
+        ),
+    ),
+    (
+        Place::VlanQos,
+        &[
+            0x0c, 0x00, 0x01, 0x00, 0x01, 0x00, 0x00, 0x00, 0x02, 0x00, 0x00, 0x00,
+        ],
+        "mapping",
+        Value::Record(&[], &[0x01, 0x00, 0x00, 0x00, 0x02, 0x00, 0x00, 0x00]),
+    ),
+    (
+        Place::MacvlanAddresses,
+        &[
+            0x0a, 0x00, 0x04, 0x00, 0x02, 0x00, 0x00, 0x00, 0x00, 0x07, 0x00, 0x00,
+        ],
+        "macaddr",
+        Value::Mac([0x02, 0x00, 0x00, 0x00, 0x00, 0x07]),
+    ),
+];
+
+/// Whether the row of a field is a list.
+fn is_list(field: &Field<'_>) -> bool {
+    match field.row() {
+        Some(Row(_, _, Style::Each(_))) => true,
+        _ => false,
+    }
+}
+
+#[test]
+fn an_attribute_of_a_list_is_one_value(rt: HostRuntime) {
+    for (place, frame, row, value) in LISTS {
+        let field = match next_field(&mut Fields::new(place.rows(), frame)) {
+            Some(Ok(field)) => field,
+            _ => panic!(rt; "it is whole"),
+        };
+        assert_eq!(rt; name(&field), *row);
+        assert!(rt; is_list(&field), "{row}");
+        assert!(rt; are_same(field.value(), *value), "{row}");
+    }
 }

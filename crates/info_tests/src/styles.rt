@@ -3,12 +3,12 @@
 use crate::values::are_same;
 use link_info::holds::holds;
 use link_info::laws::{
-    law_list_read_again, law_list_written, law_one_field_each, law_read_again, law_rewritten,
-    law_written,
+    law_each, law_list_read_again, law_list_written, law_one_field_each, law_read_again,
+    law_rewritten, law_written,
 };
 use link_info::read::{read, read_plain};
 use link_info::write::push_payload;
-use link_info::{Member, Names, Place, Plain, Size, Style, Value};
+use link_info::{Element, Member, Names, Place, Plain, Size, Style, Value};
 use std::alloc::{AllocError, Global};
 use std::net::{Ipv4Addr, Ipv6Addr};
 use std::process::Abort;
@@ -142,6 +142,21 @@ const STYLES: &[(Style, &[u8], Value<'static>)] = &[
         FRAMES,
         Value::Nest(Place::Vlan, FRAMES),
     ),
+    (
+        Style::Each(Element::Plain(Plain::Mac)),
+        &[0x02, 0x00, 0x00, 0x00, 0x00, 0x07],
+        Value::Mac([0x02, 0x00, 0x00, 0x00, 0x00, 0x07]),
+    ),
+    (
+        Style::Each(Element::Record(MEMBERS)),
+        &[0x09, 0x02, 0x00, 0x00, 0x00, 0x00, 0x07],
+        Value::Record(MEMBERS, &[0x09, 0x02, 0x00, 0x00, 0x00, 0x00, 0x07]),
+    ),
+    (
+        Style::Each(Element::Nest(Place::Vlan)),
+        FRAMES,
+        Value::Nest(Place::Vlan, FRAMES),
+    ),
 ];
 
 /// Writes a value that was read of a payload of this style.
@@ -233,6 +248,18 @@ const OTHERS: &[(Style, &[u8])] = &[
     (Style::List(Plain::Ipv4), &[0x03, 0x00, 0x00, 0x00]),
     (
         Style::Nest(Place::Vlan),
+        &[0x09, 0x00, 0x01, 0x00, 0x0a, 0x00, 0x00, 0x01],
+    ),
+    (
+        Style::Each(Element::Plain(Plain::Mac)),
+        &[0x02, 0x00, 0x00, 0x00, 0x00, 0x07, 0x01],
+    ),
+    (
+        Style::Each(Element::Record(MEMBERS)),
+        &[0x09, 0x02, 0x00, 0x00, 0x00, 0x00],
+    ),
+    (
+        Style::Each(Element::Nest(Place::Vlan)),
         &[0x09, 0x00, 0x01, 0x00, 0x0a, 0x00, 0x00, 0x01],
     ),
 ];
@@ -329,4 +356,5 @@ fn laws_are_called(_rt: HostRuntime) {
     law_list_written();
     law_list_read_again();
     law_rewritten();
+    law_each();
 }

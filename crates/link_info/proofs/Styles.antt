@@ -1,5 +1,5 @@
 -- What was read by a style and is written is the payload that it was, and is read as the same.
-use Rattle.std.proofs.Common.{◌≡◌, ℕ, ◌%◌, ◌⊎◌, inl, inr, Bool, true, false, cond, List, [], ◌∷◌, ◌++◌, length}
+use Rattle.std.proofs.Common.{◌≡◌, ◌↔◌, ℕ, ◌%◌, ◌⊎◌, inl, inr, Bool, true, false, cond, List, [], ◌∷◌, ◌++◌, length}
 use Rattle.std.proofs.Common.{refl, ap, sym, ◌∙◌, Result, Ok, Err, arith, eqb-true}
 use Rattle.std.specs.Int.{w8, byte_len, from_le_bytes, from_be_bytes, to_le_bytes, to_be_bytes}
 use Rattle.std.specs.Str.{is_utf8}
@@ -14,14 +14,18 @@ use Rattle.nla_wire.proofs.Agreement.{text_agrees}
 use Rattle.nla_wire.proofs.Canonical.{octets_again}
 use Rattle.nla_wire.proofs.FieldLemmas.{IsBytes-get, from_le_bytes_below}
 use Rattle.nla_wire.proofs.Texts.{text_found, text_refused}
+use Rattle.link_info.specs.declared.style.Element.{Element}
+use Rattle.link_info.specs.declared.style.Plain.{Plain}
 use Rattle.link_info.specs.declared.style.Size.{Size}
 use Rattle.link_info.specs.declared.style.Size.TheVariants.{One, Two, Four, Eight}
+use Rattle.link_info.specs.declared.style.Element.TheVariants as E
 use Rattle.link_info.specs.declared.style.Style.TheVariants as S
 use Rattle.link_info.specs.Styles.{Form, Host, Network, Twos, SixOctets, FourOctets, SixteenOctets, Octets}
 use Rattle.link_info.specs.Styles.{width, form, form_size}
 use Rattle.link_info.specs.Meanings.{Meaning, Raw, Elements, Listed, Nested, Members, form_meaning}
-use Rattle.link_info.specs.Meanings.{plain_meaning, text_or_bytes, read_as, payload_as, written_by}
-use Rattle.link_info.specs.Laws.{WrittenAsItWas, ReadAgain}
+use Rattle.link_info.specs.Meanings.{plain_meaning, plain_or_bytes, text_or_bytes, read_as, payload_as, written_by}
+use Rattle.link_info.specs.Built.{Holds}
+use Rattle.link_info.specs.Laws.{EachAsAlone, WrittenAsItWas, ReadAgain, style_of_each}
 
 -- ** numbers
 
@@ -96,17 +100,24 @@ flag_written : (p : List ℕ) → payload_as S.Flag (read_as S.Flag p) ≡ p
 flag_written [] = refl
 flag_written (x ∷ p) = refl
 
+plain_written : (plain : Plain) (p : List ℕ) → IsBytes p → written_by (form plain) (plain_or_bytes plain p) ≡ p
+plain_written plain p b =
+    either_way _ (form plain) (plain_meaning plain p) p (λ e. form_written (form plain) p (eqb-true _ _ e) b)
+
 pub written_as_it_was : WrittenAsItWas
 written_as_it_was S.Bytes p b canonical = refl
 written_as_it_was S.Flag p b canonical = flag_written p
 written_as_it_was S.Text p b canonical = text_written p canonical.0 canonical.1
-written_as_it_was (S.Plain plain) p b canonical =
-    either_way _ (form plain) (plain_meaning plain p) p (λ e. form_written (form plain) p (eqb-true _ _ e) b)
+written_as_it_was (S.Plain plain) p b canonical = plain_written plain p b
 written_as_it_was (S.Record members) p b canonical =
     either_way _ (Octets 0) (Members members.now p) p (λ e. refl)
 written_as_it_was (S.Array plain) p b canonical = either_way _ (Octets 0) (Elements plain p) p (λ e. refl)
 written_as_it_was (S.List plain) p b canonical = either_way _ (Octets 0) (Listed plain p) p (λ e. refl)
 written_as_it_was (S.Nest place) p b canonical = either_way _ (Octets 0) (Nested place p) p (λ e. refl)
+written_as_it_was (S.Each (E.Plain plain)) p b canonical = plain_written plain p b
+written_as_it_was (S.Each (E.Record members)) p b canonical =
+    either_way _ (Octets 0) (Members members.now p) p (λ e. refl)
+written_as_it_was (S.Each (E.Nest place)) p b canonical = either_way _ (Octets 0) (Nested place p) p (λ e. refl)
 
 pub read_again : ReadAgain
 read_again S.Text p b = text_again p b (read_text p) refl
@@ -117,3 +128,27 @@ read_again (S.Record members) p b = ap (read_as (S.Record members)) (written_as_
 read_again (S.Array plain) p b = ap (read_as (S.Array plain)) (written_as_it_was (S.Array plain) p b tt)
 read_again (S.List plain) p b = ap (read_as (S.List plain)) (written_as_it_was (S.List plain) p b tt)
 read_again (S.Nest place) p b = ap (read_as (S.Nest place)) (written_as_it_was (S.Nest place) p b tt)
+read_again (S.Each element) p b = ap (read_as (S.Each element)) (written_as_it_was (S.Each element) p b tt)
+
+-- ** values of lists
+
+as_alone : (element : Element) (p : List ℕ) → read_as (S.Each element) p ≡ read_as (style_of_each element) p
+as_alone (E.Plain plain) p = refl
+as_alone (E.Record members) p = refl
+as_alone (E.Nest place) p = refl
+
+written_alone : (element : Element) (m : Meaning)
+    → payload_as (S.Each element) m ≡ payload_as (style_of_each element) m
+written_alone (E.Plain plain) m = refl
+written_alone (E.Record members) m = refl
+written_alone (E.Nest place) m = refl
+
+held_alone : (element : Element) (m : Meaning) → Holds (S.Each element) m ↔ Holds (style_of_each element) m
+held_alone (E.Plain plain) m = (λ h. h, λ h. h)
+held_alone (E.Record members) (Raw p) = (λ h. h, λ h. h)
+held_alone (E.Record members) m = (λ h. h, λ h. h)
+held_alone (E.Nest place) (Raw p) = (λ h. h, λ h. h)
+held_alone (E.Nest place) m = (λ h. h, λ h. h)
+
+pub each_as_alone : EachAsAlone
+each_as_alone = record { read = as_alone; written = written_alone; held = held_alone }

@@ -14,13 +14,14 @@ use Rattle.nla_wire.specs.Canon.{canons, AllFit, IsSmall}
 use Rattle.link_nest.specs.declared.link_info.LinkInfo.{LinkInfo}
 use Rattle.link_nest.specs.declared.link_info.LinkInfo.TheVariants as infos
 use Rattle.link_info.specs.declared.info.TheConstants.{IFLA_INFO_DATA}
+use Rattle.link_info.specs.declared.style.Element.TheVariants as E
 use Rattle.link_info.specs.declared.style.Row.{Row}
 use Rattle.link_info.specs.declared.style.Style.{Style}
 use Rattle.link_info.specs.declared.style.Style.TheVariants as S
 use Rattle.link_info.specs.declared.style.Plain.{Plain}
 use Rattle.link_info.specs.declared.style.Plain.TheVariants as P
 use Rattle.link_info.specs.Styles.{Form, Host, Network, Twos, SixOctets, FourOctets, SixteenOctets, Octets, width, form}
-use Rattle.link_info.specs.Styles.{plain_size, record_size, is_multiple, are_frames, are_frames_of}
+use Rattle.link_info.specs.Styles.{plain_in, plain_size, record_size, is_multiple, are_frames, are_frames_of}
 use Rattle.link_info.specs.Meanings.{Meaning, Raw, Present, Number, Signed, Words, Hardware, Four, Six}
 use Rattle.link_info.specs.Meanings.{read_as, payload_as}
 use Rattle.link_info.specs.declared.place.Place.{Place}
@@ -72,6 +73,9 @@ Holds (S.Record members) (Raw p) = record_size members.now ≡ length p
 Holds (S.Array plain) (Raw p) = IsTrue (is_multiple (plain_size plain) (length p))
 Holds (S.List plain) (Raw p) = IsTrue (are_frames_of (plain_size plain) (items p))
 Holds (S.Nest place) (Raw p) = IsTrue (are_frames (items p))
+Holds (S.Each (E.Plain plain)) m = FormHolds (form plain) m
+Holds (S.Each (E.Record members)) (Raw p) = record_size members.now ≡ length p
+Holds (S.Each (E.Nest place)) (Raw p) = IsTrue (are_frames (items p))
 Holds style m = ⊥
 
 -- ** values that are given by names
@@ -96,8 +100,7 @@ plain_names plain = []
 
 -- the names of numbers or bits of this style
 abbrev pub names_of : Style → List Name
-names_of (S.Plain plain) = plain_names plain
-names_of style = []
+names_of style = plain_names (plain_in style)
 
 abbrev pub number_or : Option ℕ → Meaning → Meaning
 number_or None m = m
@@ -118,11 +121,14 @@ bits_named names bits [] = Some bits
 bits_named names bits (flag ∷ flags) =
     bits_with (λ bit. bits_named names (bit_or bits bit) flags) (number_named names flag.now)
 
+abbrev pub plain_bits : Plain → List (Bor (List ℕ)) → Option ℕ
+plain_bits (P.Flags size names) flags = bits_named names.now 0 flags
+plain_bits (P.BigEndianFlags size names) flags = bits_named names.now 0 flags
+plain_bits plain flags = None
+
 -- the bits of these names, by a style of flags that has each
 abbrev pub bits_of : Style → List (Bor (List ℕ)) → Option ℕ
-bits_of (S.Plain (P.Flags size names)) flags = bits_named names.now 0 flags
-bits_of (S.Plain (P.BigEndianFlags size names)) flags = bits_named names.now 0 flags
-bits_of style flags = None
+bits_of style flags = plain_bits (plain_in style) flags
 
 -- ** what is set
 

@@ -1,15 +1,18 @@
 -- Laws of styles, over what payloads mean and how values are written.
-use Rattle.std.specs.Prelude.{◌≡◌, ℕ, List, map}
+use Rattle.std.specs.Prelude.{◌≡◌, ◌↔◌, ℕ, List, map}
 use Rattle.std.specs.List.{AllByRecursion}
 use Rattle.nla_wire.specs.Frames.{Frame, Frames, IsBytes, number}
 use Rattle.nla_wire.specs.Items.{items}
 use Rattle.nla_wire.specs.Canon.{canons, IsWritable}
 use Rattle.nla_wire.specs.Payloads.{EndsInNul}
+use Rattle.link_info.specs.declared.style.Element.{Element}
+use Rattle.link_info.specs.declared.style.Element.TheVariants as E
 use Rattle.link_info.specs.declared.style.Style.{Style}
 use Rattle.link_info.specs.declared.style.Style.TheVariants as S
 use Rattle.link_info.specs.declared.style.Row.{Row}
 use Rattle.link_info.specs.Tables.{row_at, style_of, fields_of, read_field, frames_in, rewritten}
-use Rattle.link_info.specs.Meanings.{read_as, payload_as}
+use Rattle.link_info.specs.Meanings.{Meaning, read_as, payload_as}
+use Rattle.link_info.specs.Built.{Holds}
 
 -- there is one way to write what it means: a text has a NUL at its end
 abbrev pub IsCanonical : Style → List ℕ → Type 0
@@ -21,6 +24,7 @@ IsCanonical (S.Record members) p = Unit {0}
 IsCanonical (S.Array plain) p = Unit {0}
 IsCanonical (S.List plain) p = Unit {0}
 IsCanonical (S.Nest place) p = Unit {0}
+IsCanonical (S.Each element) p = Unit {0}
 
 -- what was read and is written gives the same bytes
 abbrev pub WrittenAsItWas : Type 0
@@ -31,6 +35,19 @@ WrittenAsItWas = (style : Style) (p : List ℕ) → IsBytes p → IsCanonical st
 abbrev pub ReadAgain : Type 0
 ReadAgain = (style : Style) (p : List ℕ) → IsBytes p
     → read_as style (payload_as style (read_as style p)) ≡ read_as style p
+
+-- the style of one value of a list
+abbrev pub style_of_each : Element → Style
+style_of_each (E.Plain plain) = S.Plain plain
+style_of_each (E.Record members) = S.Record members
+style_of_each (E.Nest place) = S.Nest place
+
+-- a value of a list means, is written as, and can be what it is where it stands alone
+pub record EachAsAlone : Type 0 where
+  pub read : (element : Element) (p : List ℕ) → read_as (S.Each element) p ≡ read_as (style_of_each element) p
+  pub written : (element : Element) (m : Meaning)
+      → payload_as (S.Each element) m ≡ payload_as (style_of_each element) m
+  pub held : (element : Element) (m : Meaning) → Holds (S.Each element) m ↔ Holds (style_of_each element) m
 
 -- ** lists of attributes, by any table
 

@@ -1,6 +1,8 @@
 -- Rows as values, wherever in memory stands what they borrow.
 use Rattle.std.specs.Prelude.{ℕ, List, map}
 use Rattle.std.specs.Borrow.{Bor}
+use Rattle.link_info.specs.declared.style.Element.{Element}
+use Rattle.link_info.specs.declared.style.Element.TheVariants as E
 use Rattle.link_info.specs.declared.style.Member.{Member}
 use Rattle.link_info.specs.declared.style.Plain.{Plain}
 use Rattle.link_info.specs.declared.style.Plain.TheVariants as P
@@ -39,6 +41,11 @@ plain_now (P.Octets n) = P.Octets n
 abbrev pub member_now : Member → Member
 member_now m = record { 0 = lent m.0.now; 1 = plain_now m.1 }
 
+abbrev pub element_now : Element → Element
+element_now (E.Plain plain) = E.Plain (plain_now plain)
+element_now (E.Record members) = E.Record (lent (map member_now members.now))
+element_now (E.Nest place) = E.Nest place
+
 abbrev pub style_now : Style → Style
 style_now S.Bytes = S.Bytes
 style_now S.Flag = S.Flag
@@ -48,6 +55,7 @@ style_now (S.Record members) = S.Record (lent (map member_now members.now))
 style_now (S.Array plain) = S.Array (plain_now plain)
 style_now (S.List plain) = S.List (plain_now plain)
 style_now (S.Nest place) = S.Nest place
+style_now (S.Each element) = S.Each (element_now element)
 
 abbrev pub row_now : Row → Row
 row_now row = record { 0 = row.0; 1 = lent row.1.now; 2 = style_now row.2 }

@@ -10,12 +10,14 @@ use Rattle.nla_wire.specs.declared.error.Cause.{Cause}
 use Rattle.link_info.specs.declared.style.Style.{Style}
 use Rattle.link_info.specs.declared.style.Style.TheVariants as S
 use Rattle.link_info.specs.declared.style.Plain.{Plain}
+use Rattle.link_info.specs.declared.style.Element.TheVariants as E
 use Rattle.link_info.specs.declared.style.Member.{Member}
 use Rattle.link_info.specs.declared.place.Place.{Place}
 use Rattle.link_info.specs.declared.value.Value.{Value}
 use Rattle.link_info.specs.declared.value.Value.TheVariants as V
 use Rattle.link_info.specs.Styles.{Form, Host, Network, Twos, SixOctets, FourOctets, SixteenOctets, Octets}
-use Rattle.link_info.specs.Styles.{width, form, plain_size, is_multiple, record_size, are_frames, are_frames_of}
+use Rattle.link_info.specs.Styles.{width, form, plain_in, plain_size, is_multiple, record_size, are_frames}
+use Rattle.link_info.specs.Styles.{are_frames_of}
 
 -- a value, by the bytes that it refers to
 pub data Meaning : Type 0 where
@@ -72,16 +74,28 @@ abbrev pub flag_meaning : List ℕ → Meaning
 flag_meaning [] = Present
 flag_meaning (x ∷ p) = Raw (x ∷ p)
 
+abbrev pub plain_or_bytes : Plain → List ℕ → Meaning
+plain_or_bytes plain p = if length p == plain_size plain then plain_meaning plain p else Raw p
+
+abbrev pub record_or_bytes : List Member → List ℕ → Meaning
+record_or_bytes members p = if record_size members == length p then Members members p else Raw p
+
+abbrev pub nest_or_bytes : Place → List ℕ → Meaning
+nest_or_bytes place p = if are_frames (items p) then Nested place p else Raw p
+
 -- what a payload means by its style; one that is not of its form is bytes
 abbrev pub read_as : Style → List ℕ → Meaning
 read_as S.Bytes p = Raw p
 read_as S.Flag p = flag_meaning p
 read_as S.Text p = text_meaning p
-read_as (S.Plain plain) p = if length p == plain_size plain then plain_meaning plain p else Raw p
-read_as (S.Record members) p = if record_size members.now == length p then Members members.now p else Raw p
+read_as (S.Plain plain) p = plain_or_bytes plain p
+read_as (S.Record members) p = record_or_bytes members.now p
 read_as (S.Array plain) p = if is_multiple (plain_size plain) (length p) then Elements plain p else Raw p
 read_as (S.List plain) p = if are_frames_of (plain_size plain) (items p) then Listed plain p else Raw p
-read_as (S.Nest place) p = if are_frames (items p) then Nested place p else Raw p
+read_as (S.Nest place) p = nest_or_bytes place p
+read_as (S.Each (E.Plain plain)) p = plain_or_bytes plain p
+read_as (S.Each (E.Record members)) p = record_or_bytes members.now p
+read_as (S.Each (E.Nest place)) p = nest_or_bytes place p
 
 -- ** the payload that a value is written as
 
@@ -105,14 +119,7 @@ form_signed SixteenOctets z = []
 form_signed (Octets size) z = []
 
 abbrev pub plain_of : Style → Form
-plain_of S.Bytes = Octets 0
-plain_of S.Flag = Octets 0
-plain_of S.Text = Octets 0
-plain_of (S.Plain plain) = form plain
-plain_of (S.Record members) = Octets 0
-plain_of (S.Array plain) = Octets 0
-plain_of (S.List plain) = Octets 0
-plain_of (S.Nest place) = Octets 0
+plain_of style = form (plain_in style)
 
 abbrev pub written_by : Form → Meaning → List ℕ
 written_by f (Raw p) = p

@@ -5,6 +5,7 @@ use Rattle.link_info.specs.Lent.{lent, row_now}
 use Rattle.link_info.specs.Places.{rows_of}
 use Rattle.link_info.specs.declared.place.Place.{Place}
 use Rattle.link_info.specs.declared.place.Place.TheVariants as Places
+use Rattle.link_info.specs.declared.style.Element.TheVariants as E
 use Rattle.link_info.specs.declared.style.Member.{Member}
 use Rattle.link_info.specs.declared.style.Plain.TheVariants as P
 use Rattle.link_info.specs.declared.style.Row.{Row}
@@ -64,6 +65,13 @@ ipv6 = S.Plain P.Ipv6
 abbrev pub record_of : List Member → Style
 record_of members = S.Record (lent members)
 
+-- one value of a list: such a record, or attributes of this place
+abbrev pub each_record_of : List Member → Style
+each_record_of members = S.Each (E.Record (lent members))
+
+abbrev pub each_nest : Place → Style
+each_nest place = S.Each (E.Nest place)
+
 -- ** vlans
 
 -- the data of a vlan
@@ -77,7 +85,7 @@ vlan_rows =
 
 -- mappings of priorities
 abbrev pub vlan_qos_rows : List Row
-vlan_qos_rows = row 1 (codes "mapping") (record_of qos_mapping) ∷ []
+vlan_qos_rows = row 1 (codes "mapping") (each_record_of qos_mapping) ∷ []
 
 -- ** bonds
 
@@ -469,7 +477,7 @@ macvlan_rows =
 
 -- addresses that packets are taken from
 abbrev pub macvlan_addresses_rows : List Row
-macvlan_addresses_rows = row 4 (codes "macaddr") mac ∷ []
+macvlan_addresses_rows = row 4 (codes "macaddr") (S.Each (E.Plain P.Mac)) ∷ []
 
 -- the data of an ipvlan or ipvtap
 abbrev pub ipvlan_rows : List Row
@@ -649,8 +657,8 @@ abbrev pub bridge_spec_rows : List Row
 bridge_spec_rows =
     row 0 (codes "flags") (S.Plain (flags Two bridge_flags)) ∷
     row 1 (codes "mode") (S.Plain (named Two bridge_modes)) ∷
-    row 2 (codes "vlan-info") (record_of vlan_info) ∷
-    row 3 (codes "vlan-tunnel-info") (S.Nest Places.BridgeVlanTunnel) ∷
+    row 2 (codes "vlan-info") (each_record_of vlan_info) ∷
+    row 3 (codes "vlan-tunnel-info") (each_nest Places.BridgeVlanTunnel) ∷
     row 6 (codes "mst") (S.Nest Places.BridgeMst) ∷ []
 
 -- a vlan that is a tunnel (`IFLA_BRIDGE_VLAN_TUNNEL_*`, linux/if_bridge.h)
@@ -662,7 +670,7 @@ bridge_vlan_tunnel_rows =
 
 -- spanning trees of a port (`IFLA_BRIDGE_MST_*`, linux/if_bridge.h)
 abbrev pub bridge_mst_rows : List Row
-bridge_mst_rows = row 1 (codes "entry") (S.Nest Places.BridgeMstEntry) ∷ []
+bridge_mst_rows = row 1 (codes "entry") (each_nest Places.BridgeMstEntry) ∷ []
 
 -- a spanning tree of a port (`IFLA_BRIDGE_MST_ENTRY_*`, linux/if_bridge.h)
 abbrev pub bridge_mst_entry_rows : List Row

@@ -8,6 +8,9 @@ use Rattle.link_info.specs.declared.style.Size.TheVariants.{One, Two, Four, Eigh
 use Rattle.link_info.specs.declared.style.Plain.{Plain}
 use Rattle.link_info.specs.declared.style.Plain.TheVariants as P
 use Rattle.link_info.specs.declared.style.Member.{Member}
+use Rattle.link_info.specs.declared.style.Element.TheVariants as E
+use Rattle.link_info.specs.declared.style.Style.{Style}
+use Rattle.link_info.specs.declared.style.Style.TheVariants as S
 
 abbrev pub width : Size → Width
 width One = w8
@@ -49,6 +52,20 @@ form_size (Octets n) = n
 
 abbrev pub plain_size : Plain → ℕ
 plain_size plain = form_size (form plain)
+
+-- how the values of a style are spelled, where they are of a fixed size
+abbrev pub plain_in : Style → Plain
+plain_in S.Bytes = P.Octets 0
+plain_in S.Flag = P.Octets 0
+plain_in S.Text = P.Octets 0
+plain_in (S.Plain plain) = plain
+plain_in (S.Record members) = P.Octets 0
+plain_in (S.Array plain) = P.Octets 0
+plain_in (S.List plain) = P.Octets 0
+plain_in (S.Nest place) = P.Octets 0
+plain_in (S.Each (E.Plain plain)) = plain
+plain_in (S.Each (E.Record members)) = P.Octets 0
+plain_in (S.Each (E.Nest place)) = P.Octets 0
 
 -- a number of values of this size; of none where the size is 0
 abbrev pub is_multiple : ℕ → ℕ → Bool

@@ -5,9 +5,10 @@ ghost use Rattle.std.specs.Int.{byte_len};
 ghost use Rattle.link_info.specs.Styles.{width, form};
 ghost use Rattle.link_info.specs.Meanings.{meaning};
 ghost use Rattle.link_info.specs.Built.{FormHolds, Holds};
+ghost use Rattle.link_info.specs.declared.style.Style.TheVariants as S;
 
 use crate::read::{are_elements, are_whole, has_size, is_whole_number};
-use crate::style::{Plain, Size, Style};
+use crate::style::{Element, Plain, Size, Style};
 use crate::value::Value;
 
 /// Whether a number has no more bytes than this.
@@ -54,6 +55,18 @@ fn plain_holds(plain: Plain, value: Value<'_>) -> bool
     }
 }
 
+/// Whether a list can have the value.
+fn element_holds(element: Element, value: Value<'_>) -> bool
+    ensures { IsTrue result ↔ Holds (S.Each element) (meaning value.entry) }
+{
+    match (element, value) {
+        (Element::Plain(plain), value) => plain_holds(plain, value),
+        (Element::Record(members), Value::Bytes(bytes)) => has_size(members, bytes.len()),
+        (Element::Nest(_), Value::Bytes(bytes)) => are_whole(bytes),
+        _ => false,
+    }
+}
+
 /// Whether an attribute of this style can have the value. A record, an array and a list are given by their bytes.
 pub fn holds(style: Style, value: Value<'_>) -> bool
     ensures { IsTrue result ↔ Holds style (meaning value.entry) }
@@ -63,6 +76,7 @@ pub fn holds(style: Style, value: Value<'_>) -> bool
         (Style::Flag, Value::Flag) => true,
         (Style::Text, Value::Text(_)) => true,
         (Style::Plain(plain), value) => plain_holds(plain, value),
+        (Style::Each(element), value) => element_holds(element, value),
         (Style::Record(members), Value::Bytes(bytes)) => has_size(members, bytes.len()),
         (Style::Array(plain), Value::Bytes(bytes)) => is_whole_number(plain.size(), bytes.len()),
         (Style::List(plain), Value::Bytes(bytes)) => are_elements(bytes, plain.size()),

@@ -1,9 +1,8 @@
 //! Rows: the number, the name and the style of an attribute.
 
 ghost use Rattle.std.specs.Prelude.{◌≡◌};
-ghost use Rattle.link_info.specs.Styles.{plain_size};
 ghost use Rattle.std.specs.Int.{byte_len};
-ghost use Rattle.link_info.specs.Styles.{width};
+ghost use Rattle.link_info.specs.Styles.{plain_in, plain_size, width};
 
 use crate::place::Place;
 
@@ -85,6 +84,17 @@ impl Plain {
 #[derive(Clone, Copy, Debug, Drop)]
 pub struct Member(pub &'static str, pub Plain);
 
+/// How a value is spelled of which a list has any number, each in an attribute of its own.
+#[derive(Clone, Copy, Debug, Drop)]
+pub enum Element {
+    /// One value of a fixed size.
+    Plain(Plain),
+    /// The members of a record, one after the other, with no padding between them.
+    Record(&'static [Member]),
+    /// Attributes that have a table of their own.
+    Nest(Place),
+}
+
 /// How the payload of an attribute is spelled.
 #[derive(Clone, Copy, Debug, Drop)]
 pub enum Style {
@@ -104,6 +114,20 @@ pub enum Style {
     List(Plain),
     /// Attributes that have a table of their own.
     Nest(Place),
+    /// One value of a list, which has an attribute of this number for each, in order.
+    Each(Element),
+}
+
+impl Style {
+    /// How its values are spelled, where they are of a fixed size.
+    pub fn plain(self) -> Plain
+        ensures { result ≡ plain_in self }
+    {
+        match self {
+            Style::Plain(plain) | Style::Each(Element::Plain(plain)) => plain,
+            _ => Plain::Octets(0),
+        }
+    }
 }
 
 /// A row of a table: the number of an attribute, its name, and how its payload is spelled.

@@ -2,7 +2,7 @@
 
 ghost use Rattle.std.specs.Prelude.{◌≡◌, ◌++◌, [], ◌∷◌, OnOk};
 ghost use Rattle.std.specs.Int.{to_le_bytes, to_be_bytes, cast_unsigned};
-ghost use Rattle.link_info.specs.Styles.{width};
+ghost use Rattle.link_info.specs.Styles.{form, width};
 ghost use Rattle.link_info.specs.Meanings.{meaning, payload_as, form_number, form_signed, plain_of, SignedFits};
 ghost use Rattle.link_info.specs.Meanings.{ValueFits};
 
@@ -36,31 +36,31 @@ fn push_network(out: &mut Vec<u8>, size: Size, n: u64) -> Result<(), AllocError>
     }
 }
 
-/// Adds a number in the order that the style says.
-fn push_unsigned(out: &mut Vec<u8>, style: Style, n: u64) -> Result<(), AllocError>
-    ensures { OnOk result (out.new.items ≡ out.old.items ++ form_number (plain_of style) n) }
+/// Adds a number in the order that it is spelled in.
+fn push_unsigned(out: &mut Vec<u8>, plain: Plain, n: u64) -> Result<(), AllocError>
+    ensures { OnOk result (out.new.items ≡ out.old.items ++ form_number (form plain) n) }
 {
-    match style {
-        Style::Plain(Plain::Unsigned(size)) => push_host(out, size, n),
-        Style::Plain(Plain::Named(size, _)) => push_host(out, size, n),
-        Style::Plain(Plain::Flags(size, _)) => push_host(out, size, n),
-        Style::Plain(Plain::BigEndian(size)) => push_network(out, size, n),
-        Style::Plain(Plain::BigEndianNamed(size, _)) => push_network(out, size, n),
-        Style::Plain(Plain::BigEndianFlags(size, _)) => push_network(out, size, n),
+    match plain {
+        Plain::Unsigned(size) => push_host(out, size, n),
+        Plain::Named(size, _) => push_host(out, size, n),
+        Plain::Flags(size, _) => push_host(out, size, n),
+        Plain::BigEndian(size) => push_network(out, size, n),
+        Plain::BigEndianNamed(size, _) => push_network(out, size, n),
+        Plain::BigEndianFlags(size, _) => push_network(out, size, n),
         _ => Ok(()),
     }
 }
 
-/// Adds a signed number of four bytes or fewer as its style says, in two's complement.
-fn push_signed(out: &mut Vec<u8>, style: Style, z: i64) -> Result<(), AllocError>
-    requires { SignedFits (plain_of style) z }
-    ensures { OnOk result (out.new.items ≡ out.old.items ++ form_signed (plain_of style) z) }
+/// Adds a signed number of four bytes or fewer as it is spelled, in two's complement.
+fn push_signed(out: &mut Vec<u8>, plain: Plain, z: i64) -> Result<(), AllocError>
+    requires { SignedFits (form plain) z }
+    ensures { OnOk result (out.new.items ≡ out.old.items ++ form_signed (form plain) z) }
 {
-    match style {
-        Style::Plain(Plain::Signed(Size::One)) => out.extend_from_slice(&(z as i8).to_le_bytes()),
-        Style::Plain(Plain::Signed(Size::Two)) => out.extend_from_slice(&(z as i16).to_le_bytes()),
-        Style::Plain(Plain::Signed(Size::Four)) => out.extend_from_slice(&(z as i32).to_le_bytes()),
-        Style::Plain(Plain::Signed(Size::Eight)) => out.extend_from_slice(&z.to_le_bytes()),
+    match plain {
+        Plain::Signed(Size::One) => out.extend_from_slice(&(z as i8).to_le_bytes()),
+        Plain::Signed(Size::Two) => out.extend_from_slice(&(z as i16).to_le_bytes()),
+        Plain::Signed(Size::Four) => out.extend_from_slice(&(z as i32).to_le_bytes()),
+        Plain::Signed(Size::Eight) => out.extend_from_slice(&z.to_le_bytes()),
         _ => Ok(()),
     }
 }
@@ -84,8 +84,8 @@ pub fn push_payload(out: &mut Vec<u8>, style: Style, value: Value<'_>) -> Result
         Value::Array(_, bytes) | Value::List(_, bytes) => out.extend_from_slice(bytes),
         Value::Nest(_, bytes) => out.extend_from_slice(bytes),
         Value::Flag => out.extend_from_slice(&[]),
-        Value::Unsigned(n) => push_unsigned(out, style, n),
-        Value::Signed(z) => push_signed(out, style, z),
+        Value::Unsigned(n) => push_unsigned(out, style.plain(), n),
+        Value::Signed(z) => push_signed(out, style.plain(), z),
         Value::Text(text) => push_text(out, text),
         Value::Mac(octets) => out.extend_from_slice(&octets),
         Value::Ipv4(address) => out.extend_from_slice(&address.octets()),

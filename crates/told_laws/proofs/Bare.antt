@@ -1,12 +1,12 @@
 -- Members without the values of those that hold others: they have the same leaves.
-use Rattle.std.proofs.Common.{◌≡◌, ℕ, ◌+◌, Bool, true, false, List, [], ◌∷◌, ◌++◌, map, refl, sym, ap, ◌∙◌}
-use Rattle.std.specs.Prelude.{Option, Some, None, cond}
+use Rattle.std.proofs.Common.{◌≡◌, ℕ, ◌+◌, Bool, true, false, List, [], ◌∷◌, ◌++◌, map, not, refl, sym, ap, ◌∙◌}
+use Rattle.std.specs.Prelude.{◌&&◌, Option, Some, None, cond}
 use Rattle.std.specs.List.{flat_map}
 use Rattle.json.specs.Token.{Token, begin_object}
 use Rattle.shown.specs.Drafts.{list_of}
 use Rattle.frame_diff.specs.Forests.{Forest, Held, Member, Step, comes, forest, is_step, leaves, leaves_at, left_of}
-use Rattle.frame_diff.specs.Members.{alone, earlier, group_of, is_nest, list_at, placed, placed_one, places}
-use Rattle.frame_diff.specs.Members.{unless_none, value_in}
+use Rattle.frame_diff.specs.Members.{alone, earlier, group_of, is_nest, list_at, placed, places}
+use Rattle.frame_diff.specs.Members.{are_plain, unless_none, value_in, values_inside}
 
 -- the value of an object or a list, if it holds no members
 abbrev pub nest_value : List Token → Forest → List Token
@@ -119,15 +119,7 @@ placed_bare : (n : ℕ) (hs : List (Option Held)) → bare_all (placed n hs) ≡
 placed_bare n [] = refl
 placed_bare n (None ∷ hs) = placed_bare (n + 1) hs
 placed_bare n (Some held ∷ hs) =
-    bare_append (placed_one n (Some held)) (placed (n + 1) hs)
-    ∙ (λ k. by (is_nest held.0) k ++ placed_bare (n + 1) hs k)
-    ∙ ap (λ b. cond b ((Step.place n, bare_held held) ∷ []) [] ++ placed (n + 1) (bare_opts hs))
-    (sym (nest_bare held.0 held.1))
-  where
-    by : (b : Bool) → bare_all (cond b ((Step.place n, held) ∷ []) [])
-        ≡ cond b ((Step.place n, bare_held held) ∷ []) []
-    by true = refl
-    by false = refl
+    ap (λ ms. (Step.place n, bare_held held) ∷ ms) (placed_bare (n + 1) hs)
 
 places_bare : (hs : List (Option Held)) → bare (places hs) ≡ places (bare_opts hs)
 places_bare hs = forest_bare (placed 0 hs) ∙ ap forest (placed_bare 0 hs)
@@ -154,6 +146,7 @@ list_same s hs js same =
 abbrev pub alone_bare : Member → Option Held
 alone_bare (Step.name name, held) =
     Some (begin_object ∷ [], Forest.tree (Step.name name) held.0 held.1 Forest.none)
+alone_bare (Step.array name, held) = None
 alone_bare (Step.part sort text, held) = None
 alone_bare (Step.place n, held) = None
 alone_bare (Step.repeated, held) = None
@@ -161,6 +154,7 @@ alone_bare (Step.other, held) = None
 
 one_alone : (m : Member) → bare_opt (alone m) ≡ alone_bare (bare_one m)
 one_alone (Step.name name, held) = refl
+one_alone (Step.array name, held) = refl
 one_alone (Step.part sort text, held) = refl
 one_alone (Step.place n, held) = refl
 one_alone (Step.repeated, held) = refl
@@ -220,45 +214,66 @@ some_there m (n ∷ ns) = by (comes m.0 (n ∷ ns)) (some_there n ns)
 abbrev pub values : List (Option Held) → List Token
 values hs = flat_map value_in hs
 
-placed_none : (n : ℕ) (hs : List (Option Held)) → is_none (forest (placed n hs)) ≡ true
-    → values hs ≡ values (bare_opts hs)
-placed_none n [] none = refl
-placed_none n (None ∷ hs) none = placed_none (n + 1) hs none
-placed_none n (Some held ∷ hs) none = by (is_nest held.0) none (placed_none (n + 1) hs)
+plain_values : (hs : List (Option Held)) → are_plain hs ≡ true → values hs ≡ values (bare_opts hs)
+plain_values [] plain = refl
+plain_values (None ∷ hs) plain = plain_values hs plain
+plain_values (Some held ∷ hs) plain = by (is_nest held.0) plain (plain_values hs)
   where
-    by : (b : Bool)
-        → is_none (forest (cond b ((Step.place n, held) ∷ []) [] ++ placed (n + 1) hs)) ≡ true
-        → (is_none (forest (placed (n + 1) hs)) ≡ true → values hs ≡ values (bare_opts hs))
+    by : (b : Bool) → (not b && are_plain hs) ≡ true
+        → (are_plain hs ≡ true → values hs ≡ values (bare_opts hs))
         → held.0 ++ values hs ≡ cond b (nest_value held.0 held.1) held.0 ++ values (bare_opts hs)
-    by true h later =
-        let clash : true ≡ false = sym h ∙ some_there (Step.place n, held) (placed (n + 1) hs) in absurd cc
+    by true h later = absurd cc
     by false h later = ap (λ vs. held.0 ++ vs) (later h)
 
+plain_bare : (hs : List (Option Held)) → are_plain (bare_opts hs) ≡ are_plain hs
+plain_bare [] = refl
+plain_bare (None ∷ hs) = plain_bare hs
+plain_bare (Some held ∷ hs) = λ k. not (nest_bare held.0 held.1 k) && plain_bare hs k
+
+inside_bare : (hs : List (Option Held)) → bare (values_inside hs) ≡ values_inside (bare_opts hs)
+inside_bare hs = by (are_plain hs) ∙ ap (λ b. cond b Forest.none (places (bare_opts hs))) (sym (plain_bare hs))
+  where
+    by : (b : Bool) → bare (cond b Forest.none (places hs)) ≡ cond b Forest.none (places (bare_opts hs))
+    by true = refl
+    by false = places_bare hs
+
+placed_some : (n : ℕ) (hs : List (Option Held)) → are_plain hs ≡ false → is_none (forest (placed n hs)) ≡ false
+placed_some n [] some = absurd cc
+placed_some n (None ∷ hs) some = placed_some (n + 1) hs some
+placed_some n (Some held ∷ hs) some = some_there (Step.place n, held) (placed (n + 1) hs)
+
+inside_is : (hs : List (Option Held)) → is_none (values_inside hs) ≡ are_plain hs
+inside_is hs = by (are_plain hs) refl
+  where
+    by : (b : Bool) → are_plain hs ≡ b → is_none (cond b Forest.none (places hs)) ≡ b
+    by true is = refl
+    by false is = placed_some 0 hs is
+
 abbrev pub list_value : List (Option Held) → List Token
-list_value hs = nest_value (list_of (values hs)) (places hs)
+list_value hs = nest_value (list_of (values hs)) (values_inside hs)
 
 list_value_bare : (hs : List (Option Held)) → list_value hs ≡ list_value (bare_opts hs)
 list_value_bare hs =
-    nest_by (list_of (values hs)) (places hs)
-    ∙ by (is_none (places hs)) refl
+    nest_by (list_of (values hs)) (values_inside hs)
+    ∙ by (is_none (values_inside hs)) refl
     ∙ ap (λ b. cond b (list_of (values (bare_opts hs))) (begin_object ∷ []))
-    (sym (ap is_none (sym (places_bare hs)) ∙ none_bare (places hs)))
-    ∙ sym (nest_by (list_of (values (bare_opts hs))) (places (bare_opts hs)))
+    (sym (ap is_none (sym (inside_bare hs)) ∙ none_bare (values_inside hs)))
+    ∙ sym (nest_by (list_of (values (bare_opts hs))) (values_inside (bare_opts hs)))
   where
-    by : (b : Bool) → is_none (places hs) ≡ b
+    by : (b : Bool) → is_none (values_inside hs) ≡ b
         → cond b (list_of (values hs)) (begin_object ∷ [])
         ≡ cond b (list_of (values (bare_opts hs))) (begin_object ∷ [])
-    by true none = ap list_of (placed_none 0 hs none)
+    by true none = ap list_of (plain_values hs (sym (inside_is hs) ∙ none))
     by false some = refl
 
 group_bare : (s : Step) (hs : List (Option Held))
-    → bare_one (group_of s hs) ≡ (s, (list_value (bare_opts hs), places (bare_opts hs)))
-group_bare s hs = λ k. (s, (list_value_bare hs k, places_bare hs k))
+    → bare_one (group_of s hs) ≡ (s, (list_value (bare_opts hs), values_inside (bare_opts hs)))
+group_bare s hs = λ k. (s, (list_value_bare hs k, inside_bare hs k))
 
 pub group_same : (s : Step) (hs js : List (Option Held)) → bare_opts hs ≡ bare_opts js
     → bare_one (group_of s hs) ≡ bare_one (group_of s js)
 group_same s hs js same =
-    group_bare s hs ∙ ap (λ os. (s, (list_value os, places os))) same ∙ sym (group_bare s js)
+    group_bare s hs ∙ ap (λ os. (s, (list_value os, values_inside os))) same ∙ sym (group_bare s js)
 
 -- ** an object, and the members inside it
 

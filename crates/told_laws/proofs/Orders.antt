@@ -13,9 +13,9 @@ use Rattle.link_state.specs.Table.{Action}
 use Rattle.shown.specs.Drafts.{object_of}
 use Rattle.frame_shown.specs.Frames.{entries_in as entries_shown, frame_item, items_in, levels, list_shown}
 use Rattle.frame_shown.specs.Frames.{way_shown}
-use Rattle.frame_shown.specs.Items.{members_of, listed_under, objects_under}
+use Rattle.frame_shown.specs.Items.{Lists, members_of, listed_under, objects_under}
 use Rattle.frame_shown.specs.Messages.{address_len, header_members, with_address_len}
-use Rattle.frame_shown.specs.Tables.{Known, entry_list, group_name, is_kept, row_in}
+use Rattle.frame_shown.specs.Tables.{Known, entry_list, group_name, row_in, is_each, lists_in}
 use Rattle.frame_shown.specs.Values.{Nesting, form_shown, info_of, ipv6_counters_shown, meaning_shown}
 use Rattle.frame_shown.specs.declared.form.Around.{Around}
 use Rattle.frame_shown.specs.declared.form.Form.{Form}
@@ -32,6 +32,7 @@ use Rattle.frame_diff.specs.Counters.{action_in, is_clear}
 use Rattle.frame_diff.specs.Forests.{Forest, Held, Member, Step, forest, leaves, rest_step, entries_step}
 use Rattle.frame_diff.specs.Forests.{values_step}
 use Rattle.frame_diff.specs.Members.{Inner, Parts, Reading, attributes_in, earlier, entries_in, entry_of, form_inside}
+use Rattle.frame_diff.specs.Members.{is_unnamed, array_at, arrays_in, arrays_of, value_with, values_with}
 use Rattle.frame_diff.specs.Members.{frame_member, held_by, inner_by, is_nest, is_some, kept_in}
 use Rattle.frame_diff.specs.Members.{list_at, listed_in}
 use Rattle.frame_diff.specs.Members.{list_members, meaning_inside, members_in, message_forest, message_members}
@@ -78,6 +79,11 @@ none_there : {X : Type 0} (xs : List X) → is_some xs ≡ false → xs ≡ []
 none_there [] h = refl
 none_there (x ∷ xs) h = absurd cc
 
+-- of no frames there is no member
+no_arrays : (lists : Lists) → members_of lists [] ≡ []
+no_arrays [] = refl
+no_arrays (l ∷ lists) = no_arrays lists
+
 -- of no frames it is one object, whatever they are shown by
 shown_none : (nest other : Nesting) (cx theirs : Around) (list : Shape) (p : List ℕ) → frames_in (items p) ≡ []
     → list_shown nest cx list p ≡ list_shown other theirs list p
@@ -91,8 +97,10 @@ shown_none nest other cx theirs (Shapes.Entries group) p none =
     ∙ ap (λ fs. object_of (objects_under (group_name group) (entries_shown other theirs (entry_list group) fs)))
     (sym none)
 shown_none nest other cx theirs list p none =
-    ap (λ fs. object_of (members_of (map (frame_item nest cx list) fs))) none
-    ∙ ap (λ fs. object_of (members_of (map (frame_item other theirs list) fs))) (sym none)
+    ap (λ fs. object_of (members_of (lists_in cx list) (map (frame_item nest cx list) fs))) none
+    ∙ (λ k. object_of (no_arrays (lists_in cx list) k))
+    ∙ sym (λ k. object_of (no_arrays (lists_in theirs list) k))
+    ∙ ap (λ fs. object_of (members_of (lists_in theirs list) (map (frame_item other theirs list) fs))) (sym none)
 
 -- counters of IPv6 are an object, or a list, in each order
 ipv6_nest : (order : Order) (p : List ℕ) → is_nest (ipv6_counters_shown order p) ≡ true
@@ -187,7 +195,7 @@ module _ (cx : Around) (order : Order) (nest other : Nesting) (inner theirs : In
 
     by_same : (action : Action) (row : Known) (f : Frame) → is_way (is_clear action) row.1 ≡ true
         → bare_all (named_by r action row f) ≡ bare_all (named_by s action row f)
-    by_same action row f h = by (is_kept row.1 f.payload)
+    by_same action row f h = by (is_unnamed row.1 f.payload)
       where
         by : (b : Bool)
             → bare_all (cond b [] ((Step.name row.0, held_by r action row.1 f.payload) ∷ []))
@@ -200,19 +208,51 @@ module _ (cx : Around) (order : Order) (nest other : Nesting) (inner theirs : In
     named_same list fs h = bare_flat (frame_member r list) (frame_member s list) fs
         (λ f. by_same (action_in true list (number f)) (row_in cx list (number f)) f (row_way cx list (number f) h))
 
+    value_same : (list : Shape) (n : ℕ) (f : Frame) → is_shape list ≡ true
+        → bare_opts (value_with r list n f) ≡ bare_opts (value_with s list n f)
+    value_same list n f h =
+        let row : Known = row_in cx list (number f) in
+        by row (action_in true list (number f)) (row_way cx list (number f) h) (number f == n) (is_each row.1)
+      where
+        by : (row : Known) (action : Action) → is_way (is_clear action) row.1 ≡ true → (b c : Bool)
+            → bare_opts (cond b (cond c (Some (held_by r action row.1 f.payload) ∷ []) []) [])
+            ≡ bare_opts (cond b (cond c (Some (held_by s action row.1 f.payload) ∷ []) []) [])
+        by row action way true true = ap (λ held. Some held ∷ []) (held_same action row.1 f.payload way)
+        by row action way true false = refl
+        by row action way false c = refl
+
+    array_same : (name : List ℕ) (hs js : List (Option Held)) → bare_opts hs ≡ bare_opts js
+        → bare_all (array_at name hs) ≡ bare_all (array_at name js)
+    array_same name [] [] same = refl
+    array_same name [] (j ∷ js) same = absurd cc
+    array_same name (h ∷ hs) [] same = absurd cc
+    array_same name (h ∷ hs) (j ∷ js) same =
+        ap (λ m. m ∷ []) (group_same (Step.array name) (h ∷ hs) (j ∷ js) same)
+
+    arrays_same : (list : Shape) (lists : Lists) (fs : List Frame) → is_shape list ≡ true
+        → bare_all (arrays_of r list lists fs) ≡ bare_all (arrays_of s list lists fs)
+    arrays_same list lists fs h =
+        bare_flat (λ l. array_at l.1 (values_with r list l.0 fs)) (λ l. array_at l.1 (values_with s list l.0 fs)) lists
+        (λ l. array_same l.1 (values_with r list l.0 fs) (values_with s list l.0 fs)
+        (opts_flat (value_with r list l.0) (value_with s list l.0) fs (λ f. value_same list l.0 f h)))
+
     members_same : (list : Shape) (fs : List Frame) → is_shape list ≡ true
         → bare_all (members_in r list fs) ≡ bare_all (members_in s list fs)
     members_same list fs h =
         let own = named_in r list fs in
         let ones = named_in s list fs in
+        let lists = arrays_in r list fs in
+        let lists_too = arrays_in s list fs in
         let kept = list_at Step.other (kept_in r list fs) in
-        bare_append (own ++ list_at Step.repeated (earlier own)) kept
-        ∙ ap (λ ms. ms ++ bare_all kept) (bare_append own (list_at Step.repeated (earlier own)))
-        ∙ (λ k. (named_same list fs h k
+        bare_append (own ++ lists ++ list_at Step.repeated (earlier own)) kept
+        ∙ ap (λ ms. ms ++ bare_all kept) (bare_append (own ++ lists) (list_at Step.repeated (earlier own))
+        ∙ ap (λ ms. ms ++ bare_all (list_at Step.repeated (earlier own))) (bare_append own lists))
+        ∙ (λ k. ((named_same list fs h k ++ arrays_same list (lists_in cx list) fs h k)
         ++ list_same Step.repeated (earlier own) (earlier ones) (earlier_same own ones (named_same list fs h)) k)
         ++ bare_all kept)
-        ∙ ap (λ ms. ms ++ bare_all kept) (sym (bare_append ones (list_at Step.repeated (earlier ones))))
-        ∙ sym (bare_append (ones ++ list_at Step.repeated (earlier ones)) kept)
+        ∙ ap (λ ms. ms ++ bare_all kept) (sym (bare_append (ones ++ lists_too) (list_at Step.repeated (earlier ones))
+        ∙ ap (λ ms. ms ++ bare_all (list_at Step.repeated (earlier ones))) (bare_append ones lists_too)))
+        ∙ sym (bare_append (ones ++ lists_too ++ list_at Step.repeated (earlier ones)) kept)
 
     -- values in one list
     opts_same : (ms ns : List Member) → bare_all ms ≡ bare_all ns
@@ -234,15 +274,18 @@ module _ (cx : Around) (order : Order) (nest other : Nesting) (inner theirs : In
         → bare_held (entry_of r list p) ≡ bare_held (entry_of s list p)
     entry_same list p h =
         let fs = frames_in (items p) in
-        left_same (object_of (members_of (items_in nest cx list (items p))))
-        (object_of (members_of (items_in other (with_order cx order) list (items p)))) (is_some fs)
+        left_same (object_of (members_of (lists_in cx list) (items_in nest cx list (items p))))
+        (object_of (members_of (lists_in cx list) (items_in other (with_order cx order) list (items p)))) (is_some fs)
         (members_in r list fs) (members_in s list fs) refl refl (λ none. entry_none (none_there fs none))
         (members_same list fs h)
       where
-        entry_none : frames_in (items p) ≡ [] → object_of (members_of (items_in nest cx list (items p)))
-            ≡ object_of (members_of (items_in other (with_order cx order) list (items p)))
-        entry_none none = ap (λ fs. object_of (members_of (map (frame_item nest cx list) fs))) none
-            ∙ ap (λ fs. object_of (members_of (map (frame_item other (with_order cx order) list) fs))) (sym none)
+        entry_none : frames_in (items p) ≡ [] → object_of (members_of (lists_in cx list)
+            (items_in nest cx list (items p)))
+            ≡ object_of (members_of (lists_in cx list) (items_in other (with_order cx order) list (items p)))
+        entry_none none = ap (λ fs. object_of (members_of (lists_in cx list) (map (frame_item nest cx list) fs))) none
+            ∙ ap (λ fs. object_of (members_of (lists_in cx list)
+            (map (frame_item other (with_order cx order) list) fs)))
+            (sym none)
 
     entries_same : (list : Shape) (fs : List Frame) → is_shape list ≡ true
         → bare_opts (entries_in r list fs) ≡ bare_opts (entries_in s list fs)

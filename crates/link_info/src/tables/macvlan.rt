@@ -1,7 +1,7 @@
 //! The data of macvlan, macvtap, ipvlan and ipvtap (`IFLA_MACVLAN_*`, `IFLA_IPVLAN_*`, linux/if_link.h).
 
 use crate::place::Place;
-use crate::style::{Names, Plain, Row, Size, Style};
+use crate::style::{Element, Names, Plain, Row, Size, Style};
 use crate::tables::{I32, MAC, U32};
 
 /// How a macvlan passes packets on (`enum macvlan_mode`).
@@ -43,7 +43,7 @@ pub const MACVLAN: &[Row] = &[
 ];
 
 /// Addresses that packets are taken from.
-pub const MACVLAN_ADDRESSES: &[Row] = &[Row(4, "macaddr", MAC)];
+pub const MACVLAN_ADDRESSES: &[Row] = &[Row(4, "macaddr", Style::Each(Element::Plain(Plain::Mac)))];
 
 /// The data of an ipvlan or ipvtap.
 pub const IPVLAN: &[Row] = &[

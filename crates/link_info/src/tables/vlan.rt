@@ -1,7 +1,7 @@
 //! The data of a vlan (`IFLA_VLAN_*`, linux/if_link.h).
 
 use crate::place::Place;
-use crate::style::{Member, Names, Plain, Row, Size, Style};
+use crate::style::{Element, Member, Names, Plain, Row, Size, Style};
 use crate::tables::U16;
 
 /// Protocols of vlans (`ETH_P_8021*`, linux/if_ether.h).
@@ -42,4 +42,4 @@ pub const VLAN: &[Row] = &[
 ];
 
 /// Mappings of priorities.
-pub const VLAN_QOS: &[Row] = &[Row(1, "mapping", Style::Record(MAPPING))];
+pub const VLAN_QOS: &[Row] = &[Row(1, "mapping", Style::Each(Element::Record(MAPPING)))];

@@ -61,11 +61,21 @@ tell_again-requires-clause-beside g c =
 
 pub tell_again-requires-clause-names : goal.tell_again-requires-clause-names
 tell_again-requires-clause-names g c =
-    again_named (record { around = c.args.own.around; list = c.args.own.list; bytes = c.behind-rest.result })
+    again_named (record {
+      around = c.args.own.around;
+      list = c.args.own.list;
+      number = c.args.own.number;
+      bytes = c.behind-rest.result;
+    })
     c.again-again.result c.again-again.ensures.row c.requires.names
 
 pub tell_again-requires-clause-rows : goal.tell_again-requires-clause-rows
 tell_again-requires-clause-rows g c h =
-    again_rows (record { around = c.args.own.around; list = c.args.own.list; bytes = c.behind-rest.result })
+    again_rows (record {
+      around = c.args.own.around;
+      list = c.args.own.list;
+      number = c.args.own.number;
+      bytes = c.behind-rest.result;
+    })
     c.args.others c.again-again.result c.beside_again.result.0 c.again-again.ensures.row c.beside_again.ensures.row
     (c.requires.rows h)

@@ -11,7 +11,7 @@ returns-then-is_some-clause-value c nest inner =
     let left : items c.behind-rest.result.now ≡ c.next.new.self =
     c.behind-rest.ensures c.next.new.self (c.loop-item.invariant.behind ∙ here) in
     let list = c.args.list in
-    value_taken nest inner c.args.is_state list.list list.around.now c.in-Ok.frame c.pick-value.result
+    value_taken nest inner c.args.is_state list.number list.list list.around.now c.in-Ok.frame c.pick-value.result
     c.loop-item.item-iterator c.next.new.self (group_at nest inner c.args.is_state list) here
     (c.pick-value.ensures.values nest inner) (c.loop-item.invariant.same nest inner)
     (sym c.is_some.ensures ∙ c.if-is_some.true)
@@ -23,7 +23,7 @@ returns-then-is_some-clause-rest c nest inner =
     let left : items c.behind-rest.result.now ≡ c.next.new.self =
     c.behind-rest.ensures c.next.new.self (c.loop-item.invariant.behind ∙ here) in
     let list = c.args.list in
-    rest_taken nest inner c.args.is_state list.list list.around.now c.in-Ok.frame c.pick-value.result
+    rest_taken nest inner c.args.is_state list.number list.list list.around.now c.in-Ok.frame c.pick-value.result
     c.loop-item.item-iterator c.next.new.self c.behind-rest.result.now (group_at nest inner c.args.is_state list) here
     (c.pick-value.ensures.values nest inner) (c.loop-item.invariant.same nest inner) left
     (sym c.is_some.ensures ∙ c.if-is_some.true)
@@ -37,7 +37,7 @@ loop-item-preserved c =
     let list = c.args.list in
     record {
       behind = left;
-      same = λ nest inner. none_taken nest inner c.args.is_state list.list list.around.now c.in-Ok.frame
+      same = λ nest inner. none_taken nest inner c.args.is_state list.number list.list list.around.now c.in-Ok.frame
           c.pick-value.result c.loop-item.item-iterator c.next.new.self (group_at nest inner c.args.is_state list)
           here (c.pick-value.ensures.values nest inner)
           (none_there c.pick-value.result (sym c.is_some.ensures ∙ c.if-is_some.false))

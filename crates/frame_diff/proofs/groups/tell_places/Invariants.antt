@@ -4,7 +4,7 @@ use Rattle.link_info.specs.Tables.{frames_in}
 use Rattle.shown.specs.Drafts.{with_members}
 use Rattle.frame_shown.specs.Items.{objects}
 use Rattle.frame_diff.specs.Forests.{forest}
-use Rattle.frame_diff.specs.Groups.{group_at, group_values, is_entries}
+use Rattle.frame_diff.specs.Groups.{group_at, picked_values, is_entries}
 use Rattle.frame_diff.specs.Items.{items_told}
 use Rattle.frame_diff.specs.Members.{placed, places}
 use Rattle.frame_diff.specs.Walked.{reading_at}
@@ -20,7 +20,7 @@ invariant-loop-item g l =
       around : l.rest.around.now ≡ l.others.around.now;
       few : l.place + frame_count l.item-iterator ≤ frame_count (items l.own.bytes.now);
       told : with_members (objects (items_told l.pass.side l.path
-          (forest (placed l.place (group_values r l.own.list (frames_in l.item-iterator))))
+          (forest (placed l.place (picked_values r l.own.number l.own.list (frames_in l.item-iterator))))
           (forest (placed l.place (group_at nest inner l.pass.is_state l.rest))))) l.page
           ≡ with_members (objects (items_told l.pass.side l.path
           (places (group_at nest inner l.pass.is_state l.own))

@@ -40,7 +40,7 @@ tell_next-requires-clause-single g c h =
     let left : items c.behind-rest.result.now ≡ c.next.new.self =
     c.behind-rest.ensures c.next.new.self (c.loop-item.invariant.left ∙ here) in
     none_left own.bytes.now c.loop-item.rest.now
-    (record { around = own.around; list = own.list; bytes = c.behind-rest.result }) c.in-Ok.frame
+    (record { around = own.around; list = own.list; number = own.number; bytes = c.behind-rest.result }) c.in-Ok.frame
     c.next.new.self c.loop-item.invariant.front (c.loop-item.invariant.left ∙ here) left (c.requires.single h)
 
 pub tell_next-requires-clause-once : goal.tell_next-requires-clause-once
@@ -55,7 +55,8 @@ tell_next-requires-clause-once g c h =
       alike = once.0;
       rows = c.requires.rows once.0;
       none = none_left own.bytes.now c.loop-item.rest.now
-          (record { around = own.around; list = own.list; bytes = c.behind-rest.result }) c.in-Ok.frame
+          (record { around = own.around; list = own.list; number = own.number; bytes = c.behind-rest.result })
+          c.in-Ok.frame
           c.next.new.self c.loop-item.invariant.front (c.loop-item.invariant.left ∙ here) left
           (c.requires.single once.1);
       once = once.2;

@@ -25,7 +25,7 @@ returns g c =
     (c.attribute-own.ensures.held g.W.Depth.nest g.W.Walk.inner c.args.pass.is_state)
     (c.attribute_there-there.ensures.held g.W.Depth.nest g.W.Walk.inner c.args.pass.is_state)
     c.attribute_there-there.ensures.row c.attribute_there-there.ensures.frame
-    (sym c.is_kept.ensures ∙ c.if-is_kept.false) (sym c.is_kept_there.ensures ∙ c.if-is_kept_there.false)
+    (sym c.is_unnamed.ensures ∙ c.if-is_unnamed.false) (sym c.is_unnamed_there.ensures ∙ c.if-is_unnamed_there.false)
     c.requires.none c.requires.once c.requires.found c.row_in.result.0.now
     (ap (λ (row : Known). row.0) c.row_in.ensures.row))
     c.tell_unless_same.ensures

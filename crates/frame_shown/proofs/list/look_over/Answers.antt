@@ -2,11 +2,12 @@ use Rattle.std.proofs.Common.{◌≡◌, ◌∷◌, ap, sym, ◌∙◌, refl}
 use Rattle.std.specs.Prelude.{Some, None, Ok}
 use Rattle.std.proofs.lemmas.List.{length-set}
 use Rattle.nla_wire.specs.Items.{items as read}
-use Rattle.frame_shown.specs.Items.{number_in, are_any, kept_ones, earlier_ones}
+use Rattle.std.specs.List.{list_any}
+use Rattle.frame_shown.specs.Items.{number_in, are_any, is_value, kept_ones, earlier_ones}
 use Rattle.frame_shown.specs.Frames.{frame_item, items_in}
 use Rattle.frame_shown.proofs.Items.{none_repeats}
 use Rattle.std.proofs.Math.Bool.{or-false}
-use Rattle.frame_shown.proofs.Steps.{named_looked, named_kept, kept_looked, kept_found}
+use Rattle.frame_shown.proofs.Steps.{any_kept_next, any_value_next, kept_looked, named_kept, named_looked, named_valued}
 use Rattle.frame_shown.proofs.list.look_over.Goals as goal
 
 pub loop-item-init : goal.loop-item-init
@@ -21,6 +22,8 @@ loop-item-init g c =
           xs))) first;
       kept = or-false _ ∙ ap (λ xs. are_any (kept_ones (items_in (g.D.Depth.nest c.args.cx.now) c.args.cx.now
           c.args.list.now xs))) first;
+      value = or-false _ ∙ ap (λ xs. list_any is_value (items_in (g.D.Depth.nest c.args.cx.now) c.args.cx.now
+          c.args.list.now xs)) first;
     }
 
 pub loop-item-preserved-in-Some-number_in : goal.loop-item-preserved-in-Some-number_in
@@ -39,6 +42,8 @@ loop-item-preserved-in-Some-number_in g c =
           c.in-Some-number_in.ensures.small is c.loop-item.invariant.repeated;
       kept = named_kept (g.D.Depth.nest c.args.cx.now) c.args.cx.now c.args.list.now c.in-Ok.frame
           c.loop-item.item-iterator c.next.new.self here m c.loop-item.is_any_kept _ is c.loop-item.invariant.kept;
+      value = named_valued (g.D.Depth.nest c.args.cx.now) c.args.cx.now c.args.list.now c.in-Ok.frame
+          c.loop-item.item-iterator c.next.new.self here m c.loop-item.is_any_value _ is c.loop-item.invariant.value;
     }
 
 pub loop-item-preserved : goal.loop-item-preserved
@@ -52,6 +57,10 @@ loop-item-preserved g c =
       repeated = kept_looked (g.D.Depth.nest c.args.cx.now) c.args.cx.now c.args.list.now c.in-Ok.frame
           c.loop-item.item-iterator c.next.new.self here c.loop-item.seen c.loop-item.is_any_repeated _ is
           c.loop-item.invariant.repeated;
-      kept = kept_found (g.D.Depth.nest c.args.cx.now) c.args.cx.now c.args.list.now c.in-Ok.frame
-          c.loop-item.item-iterator c.next.new.self here c.loop-item.is_any_kept _ is c.loop-item.invariant.kept;
+      kept = any_kept_next (g.D.Depth.nest c.args.cx.now) c.args.cx.now c.args.list.now c.in-Ok.frame
+          c.loop-item.item-iterator c.next.new.self here c.loop-item.is_any_kept _ _ c.left_by-left.ensures.kept
+          c.loop-item.invariant.kept;
+      value = any_value_next (g.D.Depth.nest c.args.cx.now) c.args.cx.now c.args.list.now c.in-Ok.frame
+          c.loop-item.item-iterator c.next.new.self here c.loop-item.is_any_value _ _ c.left_by-left.ensures.value
+          c.loop-item.invariant.value;
     }

@@ -1,7 +1,8 @@
 use Rattle.std.proofs.Common.{◌≡◌, length}
 use Rattle.std.specs.Prelude.{◌||◌}
+use Rattle.std.specs.List.{list_any}
 use Rattle.nla_wire.specs.Items.{items}
-use Rattle.frame_shown.specs.Items.{are_any, earlier_ones, kept_ones}
+use Rattle.frame_shown.specs.Items.{are_any, earlier_ones, is_value, kept_ones}
 use Rattle.frame_shown.specs.Frames.{items_in}
 use Rattle.frame_shown.proofs.Items.{repeats}
 use Rattle.frame_shown.proofs.list.look_over.Given as goal
@@ -13,4 +14,6 @@ invariant-loop-item g l = record {
       ≡ are_any (earlier_ones (items_in (g.D.Depth.nest l.cx) l.cx l.list (items l.bytes)));
   kept : (are_any (kept_ones (items_in (g.D.Depth.nest l.cx) l.cx l.list l.item-iterator)) || l.is_any_kept)
       ≡ are_any (kept_ones (items_in (g.D.Depth.nest l.cx) l.cx l.list (items l.bytes)));
+  value : (list_any is_value (items_in (g.D.Depth.nest l.cx) l.cx l.list l.item-iterator) || l.is_any_value)
+      ≡ list_any is_value (items_in (g.D.Depth.nest l.cx) l.cx l.list (items l.bytes));
 }

@@ -1,9 +1,9 @@
 use Rattle.std.proofs.Common.{◌≡◌}
 use Rattle.std.specs.Prelude.{◌||◌}
-use Rattle.std.specs.List.{flat_map}
+use Rattle.std.specs.List.{flat_map, list_any}
 use Rattle.nla_wire.specs.Items.{items}
 use Rattle.shown.specs.Drafts.{with_members}
-use Rattle.frame_shown.specs.Items.{are_any, kept_ones, shown_as}
+use Rattle.frame_shown.specs.Items.{are_any, is_value, kept_ones, shown_as}
 use Rattle.frame_shown.specs.Frames.{items_in}
 use Rattle.frame_shown.proofs.list.show_named.Given as goal
 
@@ -13,4 +13,6 @@ invariant-loop-item g l = record {
       ≡ with_members (flat_map shown_as (items_in (g.D.Depth.nest l.cx) l.cx l.list (items l.bytes))) l.fn.page;
   kept : (are_any (kept_ones (items_in (g.D.Depth.nest l.cx) l.cx l.list l.item-iterator)) || l.is_any_kept)
       ≡ are_any (kept_ones (items_in (g.D.Depth.nest l.cx) l.cx l.list (items l.bytes)));
+  value : (list_any is_value (items_in (g.D.Depth.nest l.cx) l.cx l.list l.item-iterator) || l.is_any_value)
+      ≡ list_any is_value (items_in (g.D.Depth.nest l.cx) l.cx l.list (items l.bytes));
 }

@@ -12,7 +12,7 @@ returns g c =
     let its = items_in (g.D.Depth.nest c.args.cx.now) c.args.cx.now c.args.list.now (read c.args.bytes.now) in
     record {
       shown = named_shown c.args.name.now its c.args.page.now _ _
-          (c.in_ok-is_any_kept.ensures.shown ∙ ap (with_members (flat_map shown_as its)) c.in_ok-begin.ensures)
+          (c.in_ok-left.ensures.shown ∙ ap (with_members (flat_map shown_as its)) c.in_ok-begin.ensures)
           c.in_ok-end.ensures;
-      kept = c.in_ok-is_any_kept.ensures.kept;
+      kept = c.in_ok-left.ensures.kept;
     }
