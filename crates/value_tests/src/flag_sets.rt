@@ -1,6 +1,6 @@
 //! Sets of flags: the bits of each flag, names, texts, and the operators, which both sets have alike.
 
-use crate::testing::{is_same, prints};
+use crate::testing::{holds, is_same, prints};
 use bitflags::Flags;
 use link_vals::{Inet6IfaceFlags, LinkFlags};
 use nla_wire::exact::same;
@@ -143,39 +143,46 @@ fn what_sets_have(rt: HostRuntime) {
 #[test]
 fn changes(rt: HostRuntime) {
     let flags = changed!(LinkFlags, Up, Debug, Loopback);
-    assert_eq!(rt; flags, LinkFlags::Up);
+    is_same(&rt, &flags, &LinkFlags::Up);
     let flags = changed!(Inet6IfaceFlags, Otherconf, Ready, RsSent);
-    assert_eq!(rt; flags, Inet6IfaceFlags::Otherconf);
+    is_same(&rt, &flags, &Inet6IfaceFlags::Otherconf);
 }
 
 #[test]
 fn assignments(rt: HostRuntime) {
     let flags = assigned!(LinkFlags, Up, Debug, Loopback);
-    assert_eq!(rt; flags, LinkFlags::Up | LinkFlags::Loopback);
+    is_same(&rt, &flags, &(LinkFlags::Up | LinkFlags::Loopback));
     let flags = assigned!(Inet6IfaceFlags, Otherconf, Ready, RsSent);
-    assert_eq!(rt; flags, Inet6IfaceFlags::Otherconf | Inet6IfaceFlags::RsSent);
+    is_same(
+        &rt,
+        &flags,
+        &(Inet6IfaceFlags::Otherconf | Inet6IfaceFlags::RsSent),
+    );
 }
+
+/// Sets of flags, and how they are printed.
+const LINK_FLAG_TEXTS: &[(u32, &str)] = &[
+    (0, ""),
+    (0x11043, "Up | Broadcast | Running | Multicast | LowerUp"),
+    (0x8000_0001, "Up | 0x80000000"),
+    (0x80000, "0x80000"),
+    (
+        0x7ffff,
+        "Up | Broadcast | Debug | Loopback | Pointopoint | Notrailers | Running | Noarp | Promisc | Allmulti | \
+            Controller | Port | Multicast | Portsel | Automedia | Dynamic | LowerUp | Dormant | Echo",
+    ),
+    (
+        0xffff_ffff,
+        "Up | Broadcast | Debug | Loopback | Pointopoint | Notrailers | Running | Noarp | Promisc | Allmulti | \
+            Controller | Port | Multicast | Portsel | Automedia | Dynamic | LowerUp | Dormant | Echo | 0xfff80000",
+    ),
+];
 
 #[test]
 fn link_flag_texts(rt: HostRuntime) {
-    for (bits, text) in [
-        (0, ""),
-        (0x11043, "Up | Broadcast | Running | Multicast | LowerUp"),
-        (0x8000_0001, "Up | 0x80000000"),
-        (0x80000, "0x80000"),
-        (
-            0x7ffff,
-            "Up | Broadcast | Debug | Loopback | Pointopoint | Notrailers | Running | Noarp | Promisc | Allmulti | \
-                Controller | Port | Multicast | Portsel | Automedia | Dynamic | LowerUp | Dormant | Echo",
-        ),
-        (
-            0xffff_ffff,
-            "Up | Broadcast | Debug | Loopback | Pointopoint | Notrailers | Running | Noarp | Promisc | Allmulti | \
-                Controller | Port | Multicast | Portsel | Automedia | Dynamic | LowerUp | Dormant | Echo | 0xfff80000",
-        ),
-    ] {
-        let flags = LinkFlags::from_bits_retain(bits);
-        assert!(rt; flags.bits() == bits, "{text}");
+    for (bits, text) in LINK_FLAG_TEXTS {
+        let flags = LinkFlags::from_bits_retain(*bits);
+        holds(&rt, text, flags.bits() == *bits);
         prints(&rt, rt.alloc(), &flags, text);
     }
 }
@@ -206,19 +213,22 @@ const LINK_FLAGS: &[(LinkFlags, &str, u32)] = &[
 #[test]
 fn link_flag_numbers(rt: HostRuntime) {
     for (flag, name, bits) in LINK_FLAGS {
-        assert!(rt; flag.bits() == *bits, "{name}");
-        assert!(rt; LinkFlags::from_bits_retain(*bits) == *flag, "{name}");
-        assert!(rt; LinkFlags::from_name(name) == Some(*flag), "{name}");
+        holds(&rt, name, flag.bits() == *bits);
+        holds(&rt, name, LinkFlags::from_bits_retain(*bits) == *flag);
+        holds(&rt, name, LinkFlags::from_name(name) == Some(*flag));
         prints(&rt, rt.alloc(), flag, name);
     }
 }
 
+/// Texts that are no name of a flag.
+const NAMES_OF_NO_LINK_FLAGS: &[&str] = &[
+    "", "up", "UP", "uP", "Up ", "echo", "ECHO", "lowerUp", "Lowerup", "LOWERUP", "IFF_UP",
+];
+
 #[test]
 fn names_of_no_link_flags(rt: HostRuntime) {
-    for name in [
-        "", "up", "UP", "uP", "Up ", "echo", "ECHO", "lowerUp", "Lowerup", "LOWERUP", "IFF_UP",
-    ] {
-        assert!(rt; LinkFlags::from_name(name).is_none(), "{name:?}");
+    for name in NAMES_OF_NO_LINK_FLAGS {
+        holds(&rt, name, LinkFlags::from_name(name).is_none());
     }
 }
 
@@ -232,34 +242,39 @@ fn link_flag_sets(rt: HostRuntime) {
 }
 
 /// `IF_RA_OTHERCONF` to `IF_READY` of net/if_inet6.h in the kernel.
+const INTERFACE_FLAGS: &[(Inet6IfaceFlags, &str, u32)] = &[
+    (Inet6IfaceFlags::Otherconf, "Otherconf", 0x80),
+    (Inet6IfaceFlags::RaManaged, "RaManaged", 0x40),
+    (Inet6IfaceFlags::RaRcvd, "RaRcvd", 0x20),
+    (Inet6IfaceFlags::RsSent, "RsSent", 0x10),
+    (Inet6IfaceFlags::Ready, "Ready", 0x8000_0000),
+];
+
 #[test]
 fn interface_flag_names(rt: HostRuntime) {
-    for (flag, name, bits) in [
-        (Inet6IfaceFlags::Otherconf, "Otherconf", 0x80),
-        (Inet6IfaceFlags::RaManaged, "RaManaged", 0x40),
-        (Inet6IfaceFlags::RaRcvd, "RaRcvd", 0x20),
-        (Inet6IfaceFlags::RsSent, "RsSent", 0x10),
-        (Inet6IfaceFlags::Ready, "Ready", 0x8000_0000),
-    ] {
-        assert!(rt; flag.bits() == bits, "{name}");
-        assert!(rt; Inet6IfaceFlags::from_bits_retain(bits) == flag, "{name}");
-        assert!(rt; Inet6IfaceFlags::from_name(name) == Some(flag), "{name}");
+    for (flag, name, bits) in INTERFACE_FLAGS {
+        holds(&rt, name, flag.bits() == *bits);
+        holds(&rt, name, Inet6IfaceFlags::from_bits_retain(*bits) == *flag);
+        holds(&rt, name, Inet6IfaceFlags::from_name(name) == Some(*flag));
     }
 }
 
+/// Texts that are no name of a flag of an interface.
+const NAMES_OF_NO_INTERFACE_FLAGS: &[&str] = &[
+    "",
+    "ready",
+    "READY",
+    "Ready ",
+    "OtherConf",
+    "OTHERCONF",
+    "raManaged",
+    "RARCVD",
+    "Rssent",
+];
+
 #[test]
 fn names_of_no_interface_flags(rt: HostRuntime) {
-    for name in [
-        "",
-        "ready",
-        "READY",
-        "Ready ",
-        "OtherConf",
-        "OTHERCONF",
-        "raManaged",
-        "RARCVD",
-        "Rssent",
-    ] {
-        assert!(rt; Inet6IfaceFlags::from_name(name).is_none(), "{name:?}");
+    for name in NAMES_OF_NO_INTERFACE_FLAGS {
+        holds(&rt, name, Inet6IfaceFlags::from_name(name).is_none());
     }
 }

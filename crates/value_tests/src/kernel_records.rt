@@ -1,7 +1,7 @@
 //! The kernel's records: each field at its offset, payloads that are shorter or longer, and how they are printed.
 
-use crate::testing::{is_read, is_same, prints_as, too_few};
-use expected::{equal, is_stored, zeros_after};
+use crate::testing::{is_read, is_same, is_text, is_written, prints_as, too_few};
+use expected::zeros_after;
 use link_recs::*;
 use nla_wire::{PlainRecord, Record};
 
@@ -26,7 +26,7 @@ fn statistics_stand_at_their_offsets(rt: HostRuntime) {
         ..Stats::default()
     };
     is_same(&rt, &Stats::read_padded(&bytes), &stats);
-    assert!(rt; equal(StatsBuffer::from(&stats).as_bytes(), &bytes));
+    is_text(&rt, StatsBuffer::from(&stats).as_bytes(), &bytes);
 }
 
 /// Offsets of the kernel's `struct rtnl_link_stats64`, linux/if_link.h.
@@ -45,7 +45,7 @@ fn long_statistics_stand_at_their_offsets(rt: HostRuntime) {
         ..Stats64::default()
     };
     is_same(&rt, &Stats64::read_padded(&bytes), &stats);
-    assert!(rt; equal(Stats64Buffer::from(&stats).as_bytes(), &bytes));
+    is_text(&rt, Stats64Buffer::from(&stats).as_bytes(), &bytes);
 }
 
 /// Settings of IPv4 with five numbers.
@@ -67,7 +67,7 @@ fn settings_of_ipv4_stand_at_their_offsets(rt: HostRuntime) {
     put(&mut bytes, &[(0, 1), (44, 2), (100, 3), (128, 4), (132, 5)]);
     let conf = settings_of_ipv4();
     is_same(&rt, &InetDevConf::read_padded(&bytes), &conf);
-    assert!(rt; equal(InetDevConfBuffer::from(&conf).as_bytes(), &bytes));
+    is_text(&rt, InetDevConfBuffer::from(&conf).as_bytes(), &bytes);
 }
 
 #[test]
@@ -103,7 +103,7 @@ fn settings_of_ipv6_stand_at_their_offsets(rt: HostRuntime) {
         ..Inet6DevConf::default()
     };
     is_same(&rt, &Inet6DevConf::read_padded(&bytes), &conf);
-    assert!(rt; equal(Inet6DevConfBuffer::from(&conf).as_bytes(), &bytes));
+    is_text(&rt, Inet6DevConfBuffer::from(&conf).as_bytes(), &bytes);
 }
 
 /// Numbers of the constants IPSTATS_MIB_* of linux/snmp.h, times eight; after them this project's own field.
@@ -124,7 +124,7 @@ fn counters_of_ipv6_stand_at_their_offsets(rt: HostRuntime) {
         ..Inet6Stats::default()
     };
     is_same(&rt, &Inet6Stats::read_padded(&bytes), &stats);
-    assert!(rt; equal(Inet6StatsBuffer::from(&stats).as_bytes(), &bytes));
+    is_text(&rt, Inet6StatsBuffer::from(&stats).as_bytes(), &bytes);
 }
 
 /// Numbers of the constants ICMP6_MIB_* of linux/snmp.h, times eight.
@@ -140,7 +140,7 @@ fn counters_of_icmpv6_stand_at_their_offsets(rt: HostRuntime) {
         ..Icmp6Stats::default()
     };
     is_same(&rt, &Icmp6Stats::read_padded(&bytes), &stats);
-    assert!(rt; equal(Icmp6StatsBuffer::from(&stats).as_bytes(), &bytes));
+    is_text(&rt, Icmp6StatsBuffer::from(&stats).as_bytes(), &bytes);
 }
 
 /// Offsets of `struct rtnl_link_ifmap`, linux/if_link.h.
@@ -157,7 +157,7 @@ fn maps_stand_at_their_offsets(rt: HostRuntime) {
         ..Map::default()
     };
     is_read(&rt, Map::parse(&bytes), &map);
-    assert!(rt; equal(MapBuffer::from(&map).as_bytes(), &bytes));
+    is_text(&rt, MapBuffer::from(&map).as_bytes(), &bytes);
 }
 
 /// Offsets of `struct ifla_cacheinfo`, linux/if_link.h.
@@ -174,7 +174,7 @@ fn times_stand_at_their_offsets(rt: HostRuntime) {
         retrans_time: 4,
     };
     is_read(&rt, Inet6CacheInfo::parse(&bytes), &times);
-    assert!(rt; equal(Inet6CacheInfoBuffer::from(&times).as_bytes(), &bytes));
+    is_text(&rt, Inet6CacheInfoBuffer::from(&times).as_bytes(), &bytes);
 }
 
 #[test]
@@ -236,17 +236,17 @@ fn payloads_are_cut_or_filled_up(rt: HostRuntime) {
     let text: [u8; 100] = zeros_after(&[0x64, 0x00, 0x07, 0x00, 0x01]);
     assert!(rt; Stats::measure_filled(&[1]) == Some(96));
     let len = Stats::write_filled(7, &[1], &mut out);
-    assert!(rt; is_stored(len, &out, &text));
+    is_written(&rt, len, &out, &text);
     let mut out = [255; 205];
     let text: [u8; 204] = zeros_after(&[0xcc, 0x00, 0x17, 0x00, 0x02]);
     assert!(rt; Stats64::measure_filled(&[2]) == Some(200));
     let len = Stats64::write_filled(23, &[2], &mut out);
-    assert!(rt; is_stored(len, &out, &text));
+    is_written(&rt, len, &out, &text);
     let mut out = [255; 141];
     let text: [u8; 140] = zeros_after(&[0x8c, 0x00, 0x01, 0x00, 0x03]);
     assert!(rt; InetDevConf::measure_filled(&[3]) == Some(136));
     let len = InetDevConf::write_filled(1, &[3], &mut out);
-    assert!(rt; is_stored(len, &out, &text));
+    is_written(&rt, len, &out, &text);
 }
 
 #[test]
@@ -255,17 +255,17 @@ fn payloads_of_ipv6_are_cut_or_filled_up(rt: HostRuntime) {
     let text: [u8; 244] = zeros_after(&[0xf4, 0x00, 0x02, 0x00, 0x04]);
     assert!(rt; Inet6DevConf::measure_filled(&[4]) == Some(240));
     let len = Inet6DevConf::write_filled(2, &[4], &mut out);
-    assert!(rt; is_stored(len, &out, &text));
+    is_written(&rt, len, &out, &text);
     let mut out = [255; 317];
     let text: [u8; 316] = zeros_after(&[0x3c, 0x01, 0x03, 0x00, 0x05]);
     assert!(rt; Inet6Stats::measure_filled(&[5]) == Some(312));
     let len = Inet6Stats::write_filled(3, &[5], &mut out);
-    assert!(rt; is_stored(len, &out, &text));
+    is_written(&rt, len, &out, &text);
     let mut out = [255; 61];
     let text: [u8; 60] = zeros_after(&[0x3c, 0x00, 0x06, 0x00, 0x06]);
     assert!(rt; Icmp6Stats::measure_filled(&[6]) == Some(56));
     let len = Icmp6Stats::write_filled(6, &[6], &mut out);
-    assert!(rt; is_stored(len, &out, &text));
+    is_written(&rt, len, &out, &text);
 }
 
 #[test]
@@ -277,7 +277,7 @@ fn payloads_are_written_as_records(rt: HostRuntime) {
     text[..4].copy_from_slice(&[0x14, 0x00, 0x05, 0x00]);
     assert!(rt; Inet6CacheInfo::measure_sized(&info) == Some(16));
     let len = Inet6CacheInfo::write_sized(5, &info, &mut out);
-    assert!(rt; is_stored(len, &out, &text));
+    is_written(&rt, len, &out, &text);
     let mut out = [255; 37];
     let map = [8; 32];
     let mut text = [8; 36];
@@ -285,7 +285,7 @@ fn payloads_are_written_as_records(rt: HostRuntime) {
     text[32..].copy_from_slice(&[0; 4]);
     assert!(rt; Map::measure_sized(&map) == Some(32));
     let len = Map::write_sized(14, &map, &mut out);
-    assert!(rt; is_stored(len, &out, &text));
+    is_written(&rt, len, &out, &text);
 }
 
 #[test]
@@ -315,15 +315,15 @@ fn long_payloads_mean_their_front(rt: HostRuntime) {
     is_read(&rt, Map::parse(&[255; 33]), &map);
     let mut text = [255; 32];
     put(&mut text, &[(28, 0), (29, 0), (30, 0), (31, 0)]);
-    assert!(rt; equal(MapBuffer::from(&map).as_bytes(), &text));
+    is_text(&rt, MapBuffer::from(&map).as_bytes(), &text);
     is_read(&rt, Stats::parse(&[0; 97]), &Stats::default());
 }
 
 #[test]
 fn buffers_keep_padding(rt: HostRuntime) {
     let (buffer, rest) = MapBuffer::read_from_prefix(&[255; 33]).expect(&rt, "memory");
-    assert!(rt; equal(buffer.as_bytes(), &[255; 32]));
-    assert!(rt; equal(rest, &[255]));
+    is_text(&rt, buffer.as_bytes(), &[255; 32]);
+    is_text(&rt, rest, &[255]);
 }
 
 #[test]
@@ -337,7 +337,7 @@ fn texts_stand_at_the_end_of_a_longer_buffer(rt: HostRuntime) {
     assert!(rt; stats.fill(&mut buffer) == 2);
     let mut text = [0; 58];
     put(&mut text, &[(0, 9), (1, 9), (2, 7)]);
-    assert!(rt; equal(&buffer, &text));
+    is_text(&rt, &buffer, &text);
 }
 
 #[test]
@@ -350,7 +350,7 @@ fn maps_stand_at_the_end_of_a_longer_buffer(rt: HostRuntime) {
     assert!(rt; map.fill(&mut buffer) == 1);
     let mut text = [0; 33];
     put(&mut text, &[(0, 9), (28, 3)]);
-    assert!(rt; equal(&buffer, &text));
+    is_text(&rt, &buffer, &text);
 }
 
 #[test]

@@ -1,7 +1,6 @@
 //! Frames at the front of bytes, and the frames of a byte string.
 
-use crate::testing::{is_same, refuses};
-use expected::equal;
+use crate::testing::{is_same, is_text, refuses};
 use nla_wire::*;
 
 #[test]
@@ -39,7 +38,7 @@ fn reads_frames(rt: HostRuntime) {
     is_same(&rt, &numbers, &[0xc02a, 42, 6]);
     let flags = [frame.nested_flag(), frame.network_byte_order_flag()];
     is_same(&rt, &flags, &[true, true]);
-    assert!(rt; equal(frame.value(), &[0xde, 0xad]));
+    is_text(&rt, frame.value(), &[0xde, 0xad]);
     assert!(rt; frame.clone().expect(&rt, "memory") == frame);
 }
 

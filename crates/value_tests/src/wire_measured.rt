@@ -4,14 +4,14 @@ ghost use Rattle.std.proofs.Common.{rules};
 ghost use Rattle.std.specs.Prelude.{◌<◌};
 ghost use Rattle.std.specs.Int.{w16, to_le_bytes};
 
-use expected::{equal, filled, is_stored};
+use crate::testing::{is_at, is_text, is_written, room_of};
 use nla_wire::*;
 use std::alloc::Global;
 use std::process::Abort;
 
 /// An attribute of this kind that is kept as it is, of so many bytes of 97.
 fn letters(rt: &impl Abort, alloc: Global, kind: u16, count: usize) -> DefaultNla {
-    DefaultNla::new(kind, filled(alloc, 97, count).expect(rt, "memory"))
+    DefaultNla::new(kind, room_of(rt, alloc, 97, count))
 }
 
 /// A number below 1000, which is written as the attribute of kind 9. It says only what each value has to say.
@@ -51,7 +51,12 @@ fn measures_what_fits(rt: HostRuntime) {
     assert!(rt; small.measure() == Some(2));
     let mut out = [255; 9];
     let len = small.write(&mut out);
-    assert!(rt; is_stored(len, &out, &[0x06, 0x00, 0x09, 0x00, 0xe7, 0x03, 0x00, 0x00]));
+    is_written(
+        &rt,
+        len,
+        &out,
+        &[0x06, 0x00, 0x09, 0x00, 0xe7, 0x03, 0x00, 0x00],
+    );
     let both = [small, Small { number: 1000 }];
     assert!(rt; nlas_measure(&both).is_none());
     assert!(rt; nlas_measure(&both[..1]) == Some(8));
@@ -67,8 +72,8 @@ fn measures_values(rt: HostRuntime) {
         (65532, None),
     ] {
         let nla = letters(&rt, rt.alloc(), 20, count);
-        assert_eq!(rt; nla.measure(), wanted, "at {count}");
-        assert!(rt; nla.fits() == wanted.is_some(), "at {count}");
+        is_at(&rt, count, &nla.measure(), &wanted);
+        is_at(&rt, count, &nla.fits(), &wanted.is_some());
     }
 }
 
@@ -80,25 +85,30 @@ fn writes_values(rt: HostRuntime) {
     assert!(rt; kept.buffer_len() == 8);
     let mut out = [255; 9];
     let len = kept.write(&mut out);
-    assert!(rt; is_stored(len, &out, &[0x05, 0x00, 0x01, 0x00, 0x07, 0x00, 0x00, 0x00]));
+    is_written(
+        &rt,
+        len,
+        &out,
+        &[0x05, 0x00, 0x01, 0x00, 0x07, 0x00, 0x00, 0x00],
+    );
     let none = letters(&rt, rt.alloc(), 0xc02a, 0);
     assert!(rt; none.measure() == Some(0));
     let mut out = [255; 9];
     let len = none.write(&mut out);
-    assert!(rt; is_stored(len, &out, &[0x04, 0x00, 0x2a, 0xc0]));
+    is_written(&rt, len, &out, &[0x04, 0x00, 0x2a, 0xc0]);
 }
 
 #[test]
 fn writes_the_longest_value(rt: HostRuntime) {
     let longest = letters(&rt, rt.alloc(), 20, 65531);
-    let mut out = filled(rt.alloc(), 255, 65537).expect(&rt, "memory");
+    let mut out = room_of(&rt, rt.alloc(), 255, 65537);
     let out = out.as_mut_slice();
     assert!(rt; out.len() == 65537);
     assert!(rt; longest.measure() == Some(65531));
     assert!(rt; longest.write(out) == 65536);
-    assert!(rt; equal(&out[..4], &[0xff, 0xff, 0x14, 0x00]));
-    assert!(rt; equal(&out[4..65535], &[0x61; 65531]));
-    assert!(rt; equal(&out[65535..], &[0x00, 0xff]));
+    is_text(&rt, &out[..4], &[0xff, 0xff, 0x14, 0x00]);
+    is_text(&rt, &out[4..65535], &[0x61; 65531]);
+    is_text(&rt, &out[65535..], &[0x00, 0xff]);
 }
 
 /// An attribute of one letter and one of none.
@@ -112,27 +122,25 @@ fn writes_lists(rt: HostRuntime) {
     assert!(rt; nlas_measure(&nlas) == Some(12));
     let mut out = [255; 13];
     let len = nlas_write(&nlas, &mut out);
-    assert!(rt;
-        is_stored(
-            len,
-            &out,
-            &[
-                0x05, 0x00, 0x01, 0x00, 0x61, 0x00, 0x00, 0x00, 0x04, 0x00, 0x02, 0x80
-            ]
-        )
+    is_written(
+        &rt,
+        len,
+        &out,
+        &[
+            0x05, 0x00, 0x01, 0x00, 0x61, 0x00, 0x00, 0x00, 0x04, 0x00, 0x02, 0x80,
+        ],
     );
     assert!(rt; list_measure(&nlas) == Some(12));
     let mut out = [255; 17];
     let len = write_list(52, &nlas, &mut out);
-    assert!(rt;
-        is_stored(
-            len,
-            &out,
-            &[
-                0x10, 0x00, 0x34, 0x00, 0x05, 0x00, 0x01, 0x00, 0x61, 0x00, 0x00, 0x00, 0x04, 0x00,
-                0x02, 0x80
-            ]
-        )
+    is_written(
+        &rt,
+        len,
+        &out,
+        &[
+            0x10, 0x00, 0x34, 0x00, 0x05, 0x00, 0x01, 0x00, 0x61, 0x00, 0x00, 0x00, 0x04, 0x00,
+            0x02, 0x80,
+        ],
     );
 }
 
@@ -142,10 +150,10 @@ fn writes_empty_lists(rt: HostRuntime) {
     assert!(rt; nlas_measure(none) == Some(0));
     let mut out = [255; 5];
     let len = nlas_write(none, &mut out);
-    assert!(rt; is_stored(len, &out, &[]));
+    is_written(&rt, len, &out, &[]);
     assert!(rt; list_measure(none) == Some(0));
     let len = write_list(0x8034, none, &mut out);
-    assert!(rt; is_stored(len, &out, &[0x04, 0x00, 0x34, 0x80]));
+    is_written(&rt, len, &out, &[0x04, 0x00, 0x34, 0x80]);
 }
 
 /// A list that is the value of an attribute has at most 65531 bytes of text, and so at most 65528. One that is not may
@@ -169,20 +177,11 @@ fn measures_long_lists(rt: HostRuntime) {
             nlas.push(letters(&rt, alloc, 2, count))
                 .expect(&rt, "memory");
         }
-        assert_eq!(rt;
-            nlas_measure(nlas.as_slice()),
-            all,
-            "at {first} and {second:?}"
-        );
-        assert_eq!(rt;
-            list_measure(nlas.as_slice()),
-            nested,
-            "at {first} and {second:?}"
-        );
-        let fit = nlas_fit(nlas.as_slice());
-        assert!(rt; fit == all.is_some(), "at {first} and {second:?}");
-        let fits = list_fits(nlas.as_slice());
-        assert!(rt; fits == nested.is_some(), "at {first} and {second:?}");
+        let nlas = nlas.as_slice();
+        is_at(&rt, first, &nlas_measure(nlas), &all);
+        is_at(&rt, first, &list_measure(nlas), &nested);
+        is_at(&rt, first, &nlas_fit(nlas), &all.is_some());
+        is_at(&rt, first, &list_fits(nlas), &nested.is_some());
     }
 }
 
@@ -192,7 +191,11 @@ fn writes_the_longest_list(rt: HostRuntime) {
     let mut out = [255; 65533];
     assert!(rt; list_measure(&nlas) == Some(65528));
     assert!(rt; write_list(52, &nlas, &mut out) == 65532);
-    assert!(rt; equal(&out[..8], &[0xfc, 0xff, 0x34, 0x00, 0xf8, 0xff, 0x01, 0x00]));
-    assert!(rt; equal(&out[8..65532], &[0x61; 65524]));
-    assert!(rt; equal(&out[65531..], &[0x61, 0xff]));
+    is_text(
+        &rt,
+        &out[..8],
+        &[0xfc, 0xff, 0x34, 0x00, 0xf8, 0xff, 0x01, 0x00],
+    );
+    is_text(&rt, &out[8..65532], &[0x61; 65524]);
+    is_text(&rt, &out[65531..], &[0x61, 0xff]);
 }

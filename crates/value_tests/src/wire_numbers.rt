@@ -1,7 +1,6 @@
 //! Numbers, addresses and texts as payloads.
 
-use crate::testing::{is_read, refuses};
-use expected::equal;
+use crate::testing::{is_read, is_text, refuses};
 use nla_wire::error::checked;
 use nla_wire::*;
 use std::alloc::Global;
@@ -41,32 +40,28 @@ fn refuses_payloads(rt: HostRuntime) {
 fn writes_numbers(rt: HostRuntime) {
     let mut out = [255; 9];
     emit_u16(&mut out, 0x1234);
-    assert!(rt;
-        equal(
-            &out,
-            &[0x34, 0x12, 0xff, 0xff, 0xff, 0xff, 0xff, 0xff, 0xff]
-        )
+    is_text(
+        &rt,
+        &out,
+        &[0x34, 0x12, 0xff, 0xff, 0xff, 0xff, 0xff, 0xff, 0xff],
     );
     emit_u32(&mut out, 1500);
-    assert!(rt;
-        equal(
-            &out,
-            &[0xdc, 0x05, 0x00, 0x00, 0xff, 0xff, 0xff, 0xff, 0xff]
-        )
+    is_text(
+        &rt,
+        &out,
+        &[0xdc, 0x05, 0x00, 0x00, 0xff, 0xff, 0xff, 0xff, 0xff],
     );
     emit_u64(&mut out, 0x0123_4567_89ab_cdef);
-    assert!(rt;
-        equal(
-            &out,
-            &[0xef, 0xcd, 0xab, 0x89, 0x67, 0x45, 0x23, 0x01, 0xff]
-        )
+    is_text(
+        &rt,
+        &out,
+        &[0xef, 0xcd, 0xab, 0x89, 0x67, 0x45, 0x23, 0x01, 0xff],
     );
     emit_i32(&mut out, -2);
-    assert!(rt;
-        equal(
-            &out,
-            &[0xfe, 0xff, 0xff, 0xff, 0x67, 0x45, 0x23, 0x01, 0xff]
-        )
+    is_text(
+        &rt,
+        &out,
+        &[0xfe, 0xff, 0xff, 0xff, 0x67, 0x45, 0x23, 0x01, 0xff],
     );
 }
 

@@ -1,7 +1,6 @@
 //! Causes, fault texts, and bytes, texts and lists as values.
 
-use crate::testing::{copied, is_same, prints};
-use expected::equal;
+use crate::testing::{copied, is_same, is_text, prints};
 use nla_wire::error::checked;
 use nla_wire::*;
 
@@ -34,8 +33,8 @@ fn keeps_bytes(rt: HostRuntime) {
     let copy = copied(&rt, rt.alloc(), &bytes);
     let other = Bytes::from_slice(rt.alloc(), &[1, 2, 4]).expect(&rt, "memory");
     assert!(rt; other != bytes);
-    assert!(rt; equal(bytes.as_slice(), &[1, 2, 3]));
-    assert!(rt; equal(copy.into_vec().as_slice(), &[1, 2, 3]));
+    is_text(&rt, bytes.as_slice(), &[1, 2, 3]);
+    is_text(&rt, copy.into_vec().as_slice(), &[1, 2, 3]);
 }
 
 #[test]

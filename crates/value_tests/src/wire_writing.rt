@@ -1,7 +1,6 @@
 //! Attributes measured and written again from payloads, with no memory.
 
-use crate::testing::fits_in;
-use expected::{equal, filled, is_stored};
+use crate::testing::{fits_in, is_at, is_text, is_written, room_of};
 use nla_wire::*;
 use std::alloc::Global;
 use std::process::Abort;
@@ -10,15 +9,40 @@ use std::process::Abort;
 fn writes_short_payloads(rt: HostRuntime) {
     let mut out = [255; 9];
     let len = write_text_payload(3, b"lo\0", &mut out);
-    assert!(rt; is_stored(len, &out, &[0x07, 0x00, 0x03, 0x00, 0x6c, 0x6f, 0x00, 0x00]));
+    is_written(
+        &rt,
+        len,
+        &out,
+        &[0x07, 0x00, 0x03, 0x00, 0x6c, 0x6f, 0x00, 0x00],
+    );
     let len = write_u8_payload(1, &[7], &mut out);
-    assert!(rt; is_stored(len, &out, &[0x05, 0x00, 0x01, 0x00, 0x07, 0x00, 0x00, 0x00]));
+    is_written(
+        &rt,
+        len,
+        &out,
+        &[0x05, 0x00, 0x01, 0x00, 0x07, 0x00, 0x00, 0x00],
+    );
     let len = write_u16_payload(68, &[0x01, 0x02], &mut out);
-    assert!(rt; is_stored(len, &out, &[0x06, 0x00, 0x44, 0x00, 0x01, 0x02, 0x00, 0x00]));
+    is_written(
+        &rt,
+        len,
+        &out,
+        &[0x06, 0x00, 0x44, 0x00, 0x01, 0x02, 0x00, 0x00],
+    );
     let len = write_u32_payload(4, &[0xdc, 0x05, 0x00, 0x00], &mut out);
-    assert!(rt; is_stored(len, &out, &[0x08, 0x00, 0x04, 0x00, 0xdc, 0x05, 0x00, 0x00]));
+    is_written(
+        &rt,
+        len,
+        &out,
+        &[0x08, 0x00, 0x04, 0x00, 0xdc, 0x05, 0x00, 0x00],
+    );
     let len = write_i32_payload(28, &[255; 4], &mut out);
-    assert!(rt; is_stored(len, &out, &[0x08, 0x00, 0x1c, 0x00, 0xff, 0xff, 0xff, 0xff]));
+    is_written(
+        &rt,
+        len,
+        &out,
+        &[0x08, 0x00, 0x1c, 0x00, 0xff, 0xff, 0xff, 0xff],
+    );
 }
 
 #[test]
@@ -29,14 +53,13 @@ fn writes_long_payloads(rt: HostRuntime) {
         &[0x01, 0x00, 0x00, 0x00, 0x00, 0x00, 0x00, 0x02],
         &mut out,
     );
-    assert!(rt;
-        is_stored(
-            len,
-            &out,
-            &[
-                0x0c, 0x00, 0x00, 0x00, 0x01, 0x00, 0x00, 0x00, 0x00, 0x00, 0x00, 0x02
-            ]
-        )
+    is_written(
+        &rt,
+        len,
+        &out,
+        &[
+            0x0c, 0x00, 0x00, 0x00, 0x01, 0x00, 0x00, 0x00, 0x00, 0x00, 0x00, 0x02,
+        ],
     );
     let mut out = [255; 21];
     let len = write_ipv6_addr_payload(7, &[1; 16], &mut out);
@@ -44,7 +67,7 @@ fn writes_long_payloads(rt: HostRuntime) {
         0x14, 0x00, 0x07, 0x00, 0x01, 0x01, 0x01, 0x01, 0x01, 0x01, 0x01, 0x01, 0x01, 0x01, 0x01,
         0x01, 0x01, 0x01, 0x01, 0x01,
     ];
-    assert!(rt; is_stored(len, &out, &text));
+    is_written(&rt, len, &out, &text);
 }
 
 #[test]
@@ -52,20 +75,34 @@ fn writes_long_payloads(rt: HostRuntime) {
 fn cuts_and_fills_payloads(rt: HostRuntime) {
     let mut out = [255; 16];
     let len = write_filled_payload(7, 4, &[0x01, 0x02], &mut out);
-    assert!(rt; is_stored(len, &out, &[0x08, 0x00, 0x07, 0x00, 0x01, 0x02, 0x00, 0x00]));
+    is_written(
+        &rt,
+        len,
+        &out,
+        &[0x08, 0x00, 0x07, 0x00, 0x01, 0x02, 0x00, 0x00],
+    );
     let len = write_filled_payload(7, 4, &[0x01, 0x02, 0x03, 0x04, 0x05], &mut out);
-    assert!(rt; is_stored(len, &out, &[0x08, 0x00, 0x07, 0x00, 0x01, 0x02, 0x03, 0x04]));
+    is_written(
+        &rt,
+        len,
+        &out,
+        &[0x08, 0x00, 0x07, 0x00, 0x01, 0x02, 0x03, 0x04],
+    );
     let len = write_filled_payload(7, 4, &[], &mut out);
-    assert!(rt; is_stored(len, &out, &[0x08, 0x00, 0x07, 0x00, 0x00, 0x00, 0x00, 0x00]));
+    is_written(
+        &rt,
+        len,
+        &out,
+        &[0x08, 0x00, 0x07, 0x00, 0x00, 0x00, 0x00, 0x00],
+    );
     let len = write_filled_payload(7, 5, &[0x01, 0x02], &mut out);
-    assert!(rt;
-        is_stored(
-            len,
-            &out,
-            &[
-                0x09, 0x00, 0x07, 0x00, 0x01, 0x02, 0x00, 0x00, 0x00, 0x00, 0x00, 0x00
-            ]
-        )
+    is_written(
+        &rt,
+        len,
+        &out,
+        &[
+            0x09, 0x00, 0x07, 0x00, 0x01, 0x02, 0x00, 0x00, 0x00, 0x00, 0x00, 0x00,
+        ],
     );
 }
 
@@ -75,14 +112,11 @@ fn writes_texts_of_payloads(rt: HostRuntime) {
     let text = [
         0x09, 0x00, 0x35, 0x00, 0x77, 0x61, 0x6e, 0x30, 0x00, 0x00, 0x00, 0x00,
     ];
-    for (label, payload) in [
-        ("a NUL", b"wan0\0".as_slice()),
-        ("no NUL", b"wan0".as_slice()),
-    ] {
+    for payload in [b"wan0\0".as_slice(), b"wan0"] {
         let mut out = [255; 13];
-        assert!(rt; measure_text(payload) == Some(5), "{label}");
+        assert!(rt; measure_text(payload) == Some(5));
         let len = write_text_payload(53, payload, &mut out);
-        assert!(rt; is_stored(len, &out, &text), "{label}");
+        is_written(&rt, len, &out, &text);
     }
 }
 
@@ -101,61 +135,66 @@ fn measures_numbers_and_addresses(rt: HostRuntime) {
     }
 }
 
+/// Payloads, and the length of their texts.
+const TEXTS: &[(&[u8], Option<usize>)] = &[
+    (b"", Some(1)),
+    (b"\0", Some(1)),
+    (b"\0\0", Some(2)),
+    (b"lo", Some(3)),
+    (b"lo\0", Some(3)),
+    (&[0xc3, 0xa4, 0x00], Some(3)),
+    (&[0xc3, 0x28], None),
+    (&[0xc3, 0x00], None),
+    (&[0x6c, 0xff, 0x6f], None),
+];
+
 #[test]
 fn measures_texts(rt: HostRuntime) {
-    for (payload, wanted) in [
-        (b"".as_slice(), Some(1)),
-        (b"\0".as_slice(), Some(1)),
-        (b"\0\0".as_slice(), Some(2)),
-        (b"lo".as_slice(), Some(3)),
-        (b"lo\0".as_slice(), Some(3)),
-        ([0xc3, 0xa4, 0x00].as_slice(), Some(3)),
-        ([0xc3, 0x28].as_slice(), None),
-        ([0xc3, 0x00].as_slice(), None),
-        ([0x6c, 0xff, 0x6f].as_slice(), None),
-    ] {
-        assert_eq!(rt; measure_text(payload), wanted, "at {payload:?}");
+    for (payload, wanted) in TEXTS {
+        is_at(&rt, payload.len(), &measure_text(payload), wanted);
     }
 }
 
 /// So many letters, and so many NULs after them.
 fn letters(rt: &impl Abort, alloc: Global, count: usize, nuls: usize) -> Vec<u8> {
-    let mut bytes = filled(alloc, 97, count).expect(rt, "memory");
+    let mut bytes = room_of(rt, alloc, 97, count);
     for _ in 0..nuls {
         bytes.push(0).expect(rt, "memory");
     }
     bytes
 }
 
+/// How many letters and NULs, and the length of their text.
+const LONG_TEXTS: &[(usize, usize, Option<usize>)] = &[
+    (65529, 0, Some(65530)),
+    (65530, 0, Some(65531)),
+    (65531, 0, None),
+    (65529, 2, Some(65531)),
+    (65530, 1, Some(65531)),
+    (65530, 2, None),
+    (65531, 1, None),
+];
+
 /// A text of 65530 bytes and its NUL are as much as an attribute's value may be.
 #[test]
 fn measures_the_longest_texts(rt: HostRuntime) {
-    for (count, nuls, wanted) in [
-        (65529, 0, Some(65530)),
-        (65530, 0, Some(65531)),
-        (65531, 0, None),
-        (65529, 2, Some(65531)),
-        (65530, 1, Some(65531)),
-        (65530, 2, None),
-        (65531, 1, None),
-    ] {
-        let payload = letters(&rt, rt.alloc(), count, nuls);
-        let found = measure_text(payload.as_slice());
-        assert_eq!(rt; found, wanted, "at {count} and {nuls}");
+    for (count, nuls, wanted) in LONG_TEXTS {
+        let payload = letters(&rt, rt.alloc(), *count, *nuls);
+        is_at(&rt, *count, &measure_text(payload.as_slice()), wanted);
     }
 }
 
 #[test]
 #[tactic(auto, unfolding(nla_wire::specs::Payloads::read_text))]
 fn writes_the_longest_text(rt: HostRuntime) {
-    for (label, nuls) in [("no NUL", 0), ("a NUL", 1)] {
+    for nuls in [0, 1] {
         let payload = letters(&rt, rt.alloc(), 65530, nuls);
         let mut out = [255; 65537];
-        assert!(rt; measure_text(payload.as_slice()) == Some(65531), "{label}");
+        assert!(rt; measure_text(payload.as_slice()) == Some(65531));
         let len = write_text_payload(20, payload.as_slice(), &mut out);
-        assert!(rt; len == 65536, "{label}");
-        assert!(rt; equal(&out[..4], &[0xff, 0xff, 0x14, 0x00]), "{label}");
-        assert!(rt; equal(&out[4..65534], &[0x61; 65530]), "{label}");
-        assert!(rt; equal(&out[65534..], &[0x00, 0x00, 0xff]), "{label}");
+        is_at(&rt, nuls, &len, &65536);
+        is_text(&rt, &out[..4], &[0xff, 0xff, 0x14, 0x00]);
+        is_text(&rt, &out[4..65534], &[0x61; 65530]);
+        is_text(&rt, &out[65534..], &[0x00, 0x00, 0xff]);
     }
 }
