@@ -5,7 +5,8 @@
 
 The lines are made: messages of tests/state/pairs.txt, beside themselves, beside the other one of their pair, which has
 the same state, and with attributes that are changed, renamed, moved, dropped and added; then with attributes among
-them that are refused, once or more often. COUNT says how many are made.
+them that are refused, once or more often; and messages with lists, some values of which are damaged. COUNT says how
+many are made.
 Words in front of a line are told as linkshow tells them.
 """
 import random
@@ -59,6 +60,30 @@ def spoilt(rng, message):
     return message[:HEADER_SIZE] + b"".join(attribute(*it) for it in found)
 
 
+def listed(rng, number, value):
+    """Returns up to four attributes of a number, with values of numbers below 3; one in twelve is damaged."""
+    return [attribute(number, value(rng.randrange(3)) if rng.randrange(12) else b"odd")
+            for _ in range(rng.choice([0, 1, 1, 2, 3, 4]))]
+
+
+def with_lists(rng, which):
+    """Returns a message with lists, and with attributes that come twice: of a bridge, a vlan or a macvlan."""
+    spec = which == 0 and [
+        *listed(rng, 2, lambda n: bytes([2 * rng.randrange(3), 0, n, 0])),
+        *listed(rng, 3, lambda n: attribute(1, bytes([n, 0, 0, 0])) + attribute(2, bytes([n, 0]))),
+        *listed(rng, 6, lambda _: b"".join(listed(rng, 1, lambda n: attribute(1, bytes([n, 0]))))),
+        *listed(rng, 1, lambda n: bytes([n, 0])), *listed(rng, 99, lambda n: bytes(n))]
+    mappings = [attribute(number, b"".join(listed(rng, 1, lambda n: bytes([n, 0, 0, 0, rng.randrange(3), 0, 0, 0]))))
+                for number in (3, 4, 4)]
+    addresses = [attribute(5, b"".join(listed(rng, 4, lambda n: bytes([2, 0, 0, 0, 0, n]))))]
+    kind, found = [(b"bridge", spec), (b"vlan", mappings), (b"macvlan", addresses)][which]
+    rng.shuffle(found)
+    inside = b"".join(found)
+    info = attribute(1, kind + b"\0") + attribute(2, inside)
+    front = bytes([0 if which else 7, *bytes(3), 1, *bytes(HEADER_SIZE - 5)])
+    return front + (attribute(18, info) if which else attribute(26, inside))
+
+
 def changed(linkdiff, linkshow, messages, *options):
     """Holds what is told of two messages each, of a host of its own, to the model; returns how many changed."""
     digits = [[it.hex().encode() for it in pair] for pair in messages]
@@ -88,6 +113,10 @@ def main(linkdiff, linkshow, count="300"):
     for options in ("--lenient",), ("--lenient", "--counters"):
         different = changed(linkdiff, linkshow, made, *options)
         print(f"diff_tests: {' '.join([*options, count])} messages with refused attributes, {different} differ: ok")
+    made = [(with_lists(rng, at % 3), with_lists(rng, at % 3)) for at in range(int(count))]
+    for options in (), ("--counters",), ("--lenient",), ("--lenient", "--counters"):
+        different = changed(linkdiff, linkshow, made, *options)
+        print(f"diff_tests: {' '.join([*options, count])} messages with lists, of which {different} differ: ok")
 
 
 if __name__ == "__main__":

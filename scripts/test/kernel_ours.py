@@ -15,7 +15,8 @@ import typed
 # a form: a word as u32, be16, ipv4, string, struct, nest; names of values or flags, the record or the place inside; and
 # the type of the value, where that is not the word's own
 Form = namedtuple("Form", "word names record place value", defaults=(None, None, None, None))
-Row = namedtuple("Row", "number name form")
+# an attribute that is a list comes any number of times, once for each value
+Row = namedtuple("Row", "number name form is_list", defaults=(False,))
 # a field of a record: the type is u8 to u64, s8 to s64, be16, or as 32 bytes
 Field = namedtuple("Field", "name offset type")
 
@@ -56,6 +57,7 @@ class Repository:
         self.read_values()
         self.read_records()
         self.read_places()
+        self.read_lists()
         self.read_link_info()
         self.levels = second.ROWS
         self.constants = {(crate, name): int(n, 0) for crate in CRATES for name, n in re.findall(
@@ -153,6 +155,15 @@ class Repository:
             return Form("nest", place=self.tables[words[1]])
         return self.form(words[3 if words[0] == "as_form" else 1])
 
+    def read_lists(self):
+        """The rows of the places that linkshow shows as lists."""
+        code = self.code("frame_shown/src/tables.rt")
+        shown = re.findall(r'"([\w-]+)",\s*Form::List\(\s*List::(?:Listed|Entries)\(', code)
+        names = {name.replace("-", "") for name in shown}
+        nests = {row.form.place for rows in self.places.values() for row in rows if row.name.lower() in names}
+        for place in nests & self.places.keys():
+            self.places[place] = [row._replace(is_list=True) for row in self.places[place]]
+
     # ** the rows of link_info
 
     def read_link_info(self):
@@ -168,7 +179,8 @@ class Repository:
                     raise Unread(f"{key}: a name comes twice")
         text = typed.read("place.rt", folder)
         for place, file, table in re.findall(r"Place::(\w+) => (\w+)::(\w+),", text):
-            self.places[place] = [Row(number, name, self.style(it)) for number, name, it in found[f"{file}.{table}"]]
+            self.places[place] = [Row(number, name, self.style(typed.of_one(it)), it[0] == "Each")
+                                  for number, name, it in found[f"{file}.{table}"]]
         for call, table in (("of_kind", "KINDS"), ("of_slave_kind", "SLAVE_KINDS")):
             body = re.search(r"\bconst %s: [^=]*= &\[(.*?)\];" % table, text, flags=re.S)
             for kind, place in re.findall(r'KindRow\("(\w+)", Place::(\w+)\)', body.group(1)):

@@ -1,12 +1,14 @@
-"""Compares the numbers, names, sizes and orders of fields of this repository with the files of the kernel.
+"""Compares the numbers, names, sizes and orders of fields of this repository, and which attributes are lists, with the
+files of the kernel.
 
 It fails on a difference for which kernel_names.txt has no reason. The kernel's files are a tree of its sources, such a
 tree packed as a .tar.xz, or the file rt_link.yaml, and then the headers are those of /usr/include. They are named as
 the argument or by KERNEL in the environment, else they are what Debian's linux-source-6.12 installs. Where there is no
 such file, only the names that linkshow shows are compared, with the specs. What is newer than the files is told, and is
 no difference. Number and name of each row stand beside the headers, its form beside rt_link.yaml where that has it, and
-beside what the kernel's own code puts into messages or takes from them; the fields of records beside structures; names
-of values and flags beside enums and tables of the code.
+beside what the kernel's own code puts into messages or takes from them. A row is a list where rt_link.yaml says
+`multi-attr`. The fields of records stand beside structures; names of values and flags beside enums and tables of the
+code.
 """
 
 import argparse
@@ -226,6 +228,9 @@ def compare_places(ours, kernel, report):
             named = sorted((name for name, n in group.items() if n == row.number),
                            key=lambda name: plain(name) != plain(row.name))
             compare_number("%s.%s" % (kind, row.name), row, named, group, report)
+            is_list = listed.get(row.number, {}).get("multi-attr", False)
+            report.compare("lists, yaml", "%s.%s" % (kind, row.name),
+                           ("list", yes_or_no(row.is_list), yes_or_no(is_list)))
             compare_form("%s.%s" % (kind, row.name), row, named, (known, listed.get(row.number), code, ours), report)
         numbers = {row.number for row in rows}
         for name, n in group.items() if known.whole else ():
@@ -234,6 +239,10 @@ def compare_places(ours, kernel, report):
         for n, attribute in () if known.whole else listed.items():
             if attribute["type"] != "pad" and n not in numbers:
                 report.compare("rows, yaml", kind, ("line", "none", attribute["name"]))
+
+
+def yes_or_no(it):
+    return "yes" if it else "no"
 
 
 def compare_number(where, row, named, group, report):
@@ -350,7 +359,7 @@ def compare_levels(ours, kernel, report):
 
 def as_json(ours):
     """The tables: the rows of places, the fields of records, values and flags, and what the state encoding clears."""
-    rows = [{"place": place, "number": it.number, "name": it.name, "form": it.form._asdict()}
+    rows = [{"place": place, "number": it.number, "name": it.name, "form": it.form._asdict(), "list": it.is_list}
             for place, listed in ours.places.items() for it in listed]
     records = [{"record": kind, "size": size, "fields": [field._asdict() for field in fields]}
                for kind, (fields, size) in ours.records.items()]

@@ -221,12 +221,9 @@ SETS = {
 
 
 def members(it, name):
-    """All of a name: of a list its members, else those under `repeated` and the last."""
-    value = it.get(name, MISSING)
-    if value is MISSING:
-        return []
-    earlier = [other[name] for other in it.get("repeated", []) if isinstance(other, dict) and name in other]
-    return value if isinstance(value, list) and not earlier else earlier + [value]
+    """The members of a list; what is no list has none."""
+    value = it.get(name)
+    return value if isinstance(value, list) else []
 
 
 def find(it, path, at=()):

@@ -35,6 +35,23 @@ static const uint8_t kept[] = {HEADER, NAME, ALIAS(0xe9), MTU(0xdc), CHANGES(1)}
 static const uint8_t kept_too[] = {HEADER, NAME, ALIAS(0xe8), MTU(0xdc), CHANGES(1)};
 static const uint8_t ports[] = {HEADER, 8, 0, 24, 0, 4, 0, 2, 0};
 
+/* A port of a bridge with one VLAN, and with another one behind it: a list of one element, and of two. */
+#define BRIDGE_PORT 7, 0, 0, 0, 2, 0, 0, 0, 0, 0, 0, 0, 0, 0, 0, 0
+static const uint8_t one_vlan[] = {BRIDGE_PORT, 12, 0, 26, 0, 8, 0, 2, 0, 6, 0, 1, 0};
+static const uint8_t vlans[] = {BRIDGE_PORT, 20, 0, 26, 0, 8, 0, 2, 0, 6, 0, 1, 0, 8, 0, 2, 0, 0, 0, 9, 0};
+/* The one VLAN, and behind it a damaged element: of two bytes, and of three. */
+static const uint8_t damaged[] = {BRIDGE_PORT, 20, 0, 26, 0, 8, 0, 2, 0, 6, 0, 1, 0, 6, 0, 2, 0, 'a', 'b', 0, 0};
+static const uint8_t damaged_too[] = {BRIDGE_PORT, 20, 0, 26, 0, 8, 0, 2, 0, 6, 0, 1, 0, 7, 0, 2, 0, 'a', 'b', 'c', 0};
+static const char one_said[] = "{\"ifi-family\":7,\"ifi-type\":0,\"ifi-index\":2,\"ifi-flags\":[],\"ifi-change\":0,"
+                               "\"af-spec\":{\"vlan-info\":[{\"flags\":[\"pvid\",\"untagged\"],\"vid\":1}]}}";
+static const char vlans_said[] = "{\"ifi-family\":7,\"ifi-type\":0,\"ifi-index\":2,\"ifi-flags\":[],\"ifi-change\":0,"
+                                 "\"af-spec\":{\"vlan-info\":[{\"flags\":[\"pvid\",\"untagged\"],\"vid\":1},"
+                                 "{\"flags\":[],\"vid\":9}]}}";
+static const char vlan_came[] = "[{\"path\":\"af-spec.vlan-info.1.flags\",\"new\":[]},"
+                                "{\"path\":\"af-spec.vlan-info.1.vid\",\"new\":9}]";
+static const char damage_turned[] = "[{\"path\":\"af-spec.vlan-info.1\",\"old\":\"6162\",\"new\":\"616263\"}]";
+static const char damage_went[] = "[{\"path\":\"af-spec.vlan-info.1\",\"old\":\"6162\"}]";
+
 static const char said[] = "{\"ifi-family\":0,\"ifi-type\":1,\"ifi-index\":7,\"ifi-flags\":[\"up\",\"broadcast\","
                            "\"running\",\"lower-up\"],\"ifi-change\":0,\"ifname\":\"lo\",\"mtu\":1500,"
                            "\"carrier-changes\":1}";
@@ -74,6 +91,9 @@ CALL(shows_refused, linkwire_show(wrong, sizeof wrong, 0, LINKWIRE_LENIENT | LIN
 CALL(shows_nothing_leniently, linkwire_show(message, 3, 0, LINKWIRE_LENIENT, out, cap))
 CALL(shows_no_counter, linkwire_show(message, sizeof message, 0, LINKWIRE_COUNTERS, out, cap))
 
+CALL(shows_one_vlan, linkwire_show(one_vlan, sizeof one_vlan, 0, 0, out, cap))
+CALL(shows_vlans, linkwire_show(vlans, sizeof vlans, 0, LINKWIRE_LENIENT, out, cap))
+
 static const char changed[] = "[{\"path\":\"mtu\",\"old\":1500,\"new\":1501},{\"path\":\"ifalias\",\"new\":\"a\"}]";
 static const char changed_back[] = "[{\"path\":\"mtu\",\"old\":1501,\"new\":1500},"
                                    "{\"path\":\"ifalias\",\"old\":\"a\"}]";
@@ -89,6 +109,9 @@ CALL(tells_back, DIFF(turned, message, 0))
 CALL(tells_counters, DIFF(message, turned, LINKWIRE_COUNTERS))
 CALL(tells_leniently, DIFF(message, turned, LINKWIRE_LENIENT))
 CALL(tells_all, DIFF(message, turned, LINKWIRE_LENIENT | LINKWIRE_COUNTERS))
+CALL(tells_vlan, DIFF(one_vlan, vlans, 0))
+CALL(tells_damage, DIFF(damaged, damaged_too, 0))
+CALL(tells_no_damage, DIFF(damaged, one_vlan, LINKWIRE_LENIENT | LINKWIRE_COUNTERS))
 
 /* What writes nothing into a buffer: equal messages, and what is refused. */
 static void writes_nothing(void) {
@@ -212,6 +235,11 @@ int main(int count, char **words) {
     answers(__LINE__, changed_all, tells_counters);
     answers(__LINE__, changed, tells_leniently);
     answers(__LINE__, changed_all, tells_all);
+    answers(__LINE__, one_said, shows_one_vlan);
+    answers(__LINE__, vlans_said, shows_vlans);
+    answers(__LINE__, vlan_came, tells_vlan);
+    answers(__LINE__, damage_turned, tells_damage);
+    answers(__LINE__, damage_went, tells_no_damage);
     writes_nothing();
     orders();
     return failures != 0;

@@ -61,6 +61,19 @@ def paths(name):
     return f" refused.{name}", "".join(f" refused.repeated.{at}.{name}" for at in range(79))
 
 
+def vlans(*values, more=b""):
+    """The VLANs of a bridge, in a list of an attribute for each; other attributes stand in front of them.
+
+    A value is a VLAN's id, or bytes, which are all of a damaged element.
+    """
+    infos = [it if isinstance(it, bytes) else struct.pack("<HH", 0, it) for it in values]
+    return attribute(26, more + b"".join(attribute(2, it) for it in infos))
+
+
+def data(name, inside):
+    return attribute(18, attribute(1, name) + attribute(2, inside))
+
+
 def functions(count):
     """So many virtual functions, each with one setting."""
     return attribute(22, b"".join(attribute(1, attribute(4, struct.pack("<II", at, 1))) for at in range(count)))
@@ -136,6 +149,28 @@ STREAMS = [
       link(protinfo(counted(), counted(1, 1)), family=10), link(family=10)],
      ["new 5", *["changed 5 ifname mtu", "changed 5 mtu ifname"] * 2, "changed 5 ifname mtu", "changed 5 mtu",
       "changed 5 state"]),
+    ("a value of a list is told at its place, also where there is one", [],
+     [link(vlans(1), family=7), link(vlans(2), family=7), link(vlans(2, 3), family=7), link(vlans(2), family=7)],
+     ["new 5", "changed 5 af-spec.vlan-info.0.vid",
+      *["changed 5 af-spec.vlan-info.1.flags af-spec.vlan-info.1.vid"] * 2]),
+    ("a damaged element beside whole ones changes, goes, comes, and is a whole one", [],
+     [link(vlans(*values), family=7) for values in ((1, b"ab"), (1, b"abc"), (1,), (1, b"ab"), (1, 2), (b"ab", 2))],
+     ["new 5", *["changed 5 af-spec.vlan-info.1"] * 3,
+      "changed 5 af-spec.vlan-info.1 af-spec.vlan-info.1.flags af-spec.vlan-info.1.vid",
+      "changed 5 af-spec.vlan-info.0.flags af-spec.vlan-info.0.vid af-spec.vlan-info.0"]),
+    ("damaged elements alone are one value", [],
+     [link(vlans(*values), family=7) for values in ((b"ab",), (b"ab", b"abc"), (b"ab", 1), (b"abc",))],
+     ["new 5", "changed 5 af-spec.vlan-info", "changed 5 af-spec.vlan-info af-spec.vlan-info.0"
+      " af-spec.vlan-info.1.flags af-spec.vlan-info.1.vid",
+      "changed 5 af-spec.vlan-info.0 af-spec.vlan-info.1.flags af-spec.vlan-info.1.vid af-spec.vlan-info"]),
+    ("a list stands beside attributes that come twice", [],
+     [link(vlans(1, 2, more=attribute(1, b"\0\0") + attribute(1, b"\1\0")), family=7),
+      link(vlans(1, 3, more=attribute(1, b"\1\0") * 2), family=7)],
+     ["new 5", "changed 5 af-spec.vlan-info.1.vid af-spec.repeated.0.mode"]),
+    ("addresses are told as one list", [],
+     [link(data(b"macvlan", attribute(5, attribute(4, bytes(6))))),
+      link(data(b"macvlan", attribute(5, attribute(4, bytes(6)) * 2)))],
+     ["new 5", "changed 5 linkinfo.data.macaddr-data.macaddr"]),
     ("IFLA_EVENT is not compared", [], [link(NAME), link(NAME, EVENT), link(NAME, EVENT, mtu(9))],
      ["new 5", "changed 5 mtu"]),
 ]

@@ -23,10 +23,11 @@ TOP = os.path.dirname(os.path.dirname(os.path.dirname(os.path.abspath(__file__))
 PREFIX = re.compile(r"IFLA_(?:BRPORT|BR|BOND_SLAVE|BOND_AD_INFO|BOND|VXLAN|VLAN_QOS|VLAN|MACVLAN|IPVLAN|MACVTAP|GRE|"
                     r"IPTUN|VTI|GENEVE|INFO|INET6?|XDP|VRF_PORT|VRF|VF|PPP|TUN|HSR|XFRM|CAN|PORT|IP6GRE|IP6TNL|IPIP|"
                     r"SIT|GTP|PROTO_DOWN_REASON)_|IFLA_|AF_")
+PLACE = re.compile(r"\.\d+(?![^.])")
 # paths where they differ: by names, which pyroute2 has as numbers; by how a value is written; by the value
 NUMBERS = r"""
 ifi-flags|linkmode|event|ext-mask|xdp\.attached|protinfo\.state|linkinfo\.slave-data\.(?:mii-status|state)
-|af-spec\.(?:flags|mode|vlan-info\.flags|inet6\.addr-gen-mode|inet6\.flags)|linkinfo\.data\.flag\.(?:flags|mask)
+|af-spec\.(?:flags|mode|vlan-info\.\d+\.flags|inet6\.addr-gen-mode|inet6\.flags)|linkinfo\.data\.flag\.(?:flags|mask)
 |linkinfo\.data\.(?:ad-lacp-rate|ad-select|arp-all-targets|arp-validate|df|encap-flags|encap-type|fail-over-mac|flags
 |iflags|mode|oflags|primary-reselect|protocol|type|vlan-protocol|xmit-hash-policy)
 |vfinfo-list\.info\.\d+\.link-state\.link-state"""
@@ -70,20 +71,21 @@ NAMES = [(re.compile(pattern), name) for pattern, name in (
     (r"^(vfinfo-list\..*\.(?:rss-query-en|spoofchk|trust))\.[-a-z]+(?<!\.vf)$", r"\1.setting"),
     (r"^(vfinfo-list\..*\.)stats-", r"\1"), (r"^(vfinfo-list\..*)\.tx-rate\.tx-rate$", r"\1.tx-rate.rate"),
     (r"^(vfinfo-list\..*\.)ib-(?:node|port)-guid$", r"\1guid"))]
-# attributes that stand in a list as often as there is something
-MANY = "IFLA_VF_INFO", "IFLA_VF_VLAN_INFO", "IFLA_ALT_IFNAME"
+# attributes that stand in a list as often as there is something; one does so in this one alone
+MANY = "IFLA_VF_INFO", "IFLA_VF_VLAN_INFO", "IFLA_ALT_IFNAME", "IFLA_BRIDGE_VLAN_INFO", "IFLA_VLAN_QOS_MAPPING"
+MANY_IN = "IFLA_MACVLAN_MACADDR_DATA", "IFLA_MACVLAN_MACADDR"
 
 
-def plain(value):
-    """The values of pyroute2 as dicts by name, of one that comes twice the last."""
+def plain(value, around=""):
+    """The values of pyroute2 as dicts by name, of one that comes twice the last, and of a list all."""
     if not (hasattr(value, "get") and "attrs" in value):
         return value
     found = {key: it for key, it in value.items() if key not in ("attrs", "header", "event", "state", "__align")}
     for name, *rest in value["attrs"]:
-        if name in MANY:
-            found.setdefault(name, []).append(plain(rest[0]))
+        if name in MANY or (around, name) == MANY_IN:
+            found.setdefault(name, []).append(plain(rest[0], name))
         elif name != "UNKNOWN":
-            found[name] = plain(rest[0])
+            found[name] = plain(rest[0], name)
     return found
 
 
@@ -165,7 +167,7 @@ def main():
                 counts["alike"] += 1
             else:
                 differ[path].append((own[path], other[path]))
-                of = path, own.get("linkinfo.kind"), own.get("linkinfo.slave-kind")
+                of = PLACE.sub("", path), own.get("linkinfo.kind"), own.get("linkinfo.slave-kind")
                 named[of].add((str(own[path]), str(other[path])))
     kinds = Counter()
     for path, pairs in sorted(differ.items()):
@@ -175,7 +177,8 @@ def main():
             print(f"beside: {kind}: {path}: {len(pairs)}: {str(pairs[0][0])[:60]} and {str(pairs[0][1])[:60]}")
     print(f"python: beside pyroute2: {counts['messages']} messages, {counts['alike']} values alike, others on "
           f"{len(differ)} paths: " + ", ".join(f"{kinds[it]} {it}" for it in KINDS))
-    wrong = [of for of, pairs in named.items() if kind_of(of[0]) == "names" and not are_names(pairs)]
+    names = {PLACE.sub("", path) for path in differ if kind_of(path) == "names"}
+    wrong = [of for of, pairs in named.items() if of[0] in names and not are_names(pairs)]
     for of in wrong:
         print(f"beside: a number has two names, or two have one: {of}: {sorted(named[of])}")
     return 1 if wrong or kinds["unknown"] else 0

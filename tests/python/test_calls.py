@@ -150,6 +150,27 @@ class Calls(unittest.TestCase):
         self.assertEqual(list(linkwire.show_all([])), [])
         self.assertEqual(linkwire.show(LO, kernel="running"), linkwire.show(LO, kernel="6.1.0"))
 
+    def test_lists(self):
+        """An attribute that is a list is one also of one element; changes of its elements have their places."""
+        spec, one, other = numbers.IFLA_AF_SPEC, (2, b"\6\0\1\0"), (2, b"\0\0\x05\0")
+        alone, both = (linkwire.build([(spec, it)], index=7, family=7) for it in ([one], [one, other]))
+        first = {"flags": ["pvid", "untagged"], "vid": 1}
+        self.assertEqual([linkwire.show(it)["af-spec"]["vlan-info"] for it in (alone, both)],
+                         [[first], [first, {"flags": [], "vid": 5}]])
+        self.assertEqual(linkwire.diff(alone, both),
+                         [("af-spec.vlan-info.1.flags", None, []), ("af-spec.vlan-info.1.vid", None, 5)])
+        damaged = [linkwire.build([(spec, [one, *it])], index=7, family=7) for it in ([(2, b"ab")], [(2, b"abc")], [])]
+        self.assertEqual([linkwire.diff(*it) for it in zip(damaged, damaged[1:])],
+                         [[("af-spec.vlan-info.1", *it)] for it in (("6162", "616263"), ("616263", None))])
+        macs = [(18, [(1, "macvlan"), (2, [(4, bytes(6)), (5, [(4, bytes([it] * 6)) for it in some])])])
+                for some in ((1,), (1, 2))]
+        data = [linkwire.show(linkwire.build([it]))["linkinfo"]["data"] for it in macs]
+        texts = ["01:01:01:01:01:01", "02:02:02:02:02:02"]
+        self.assertEqual(data, [{"macaddr": "00:00:00:00:00:00", "macaddr-data": {"macaddr": it}}
+                                for it in (texts[:1], texts)])
+        self.assertEqual(linkwire.diff(*(linkwire.build([it]) for it in macs)),
+                         [("linkinfo.data.macaddr-data.macaddr", texts[:1], texts)])
+
     def test_long_diff(self):
         longer = linkwire.build([(numbers.IFLA_IFALIAS, '"' * 60000)])
         self.assertEqual(linkwire.diff(longer[:16], longer), [("ifalias", None, '"' * 60000)])

@@ -30,7 +30,15 @@ def port_too(*settings):
 
 
 def vlan(*entries):
-    return n.IFLA_AF_SPEC, [(2, flags.to_bytes(2, "little") + vid.to_bytes(2, "little")) for flags, vid in entries]
+    """Flags and numbers of VLANs; a damaged one is bytes."""
+    return n.IFLA_AF_SPEC, [(2, it if isinstance(it, bytes) else b"".join(one.to_bytes(2, "little") for one in it))
+                            for it in entries]
+
+
+def mapping(*pairs):
+    """The priorities of a vlan; a damaged pair is bytes."""
+    found = [(1, it if isinstance(it, bytes) else b"".join(map(u32, it))) for it in pairs]
+    return n.IFLA_LINKINFO, [(1, "vlan"), (2, [(3, found)])]
 
 
 BR = link(9, "br0")
@@ -52,6 +60,20 @@ ROWS = [
     ("VLANs are sets", View(), [BR, link(2, "e", *port(9)), link(2, "e", vlan((6, 1)), family=7)],
      [link(2, "e", vlan((6, 1), (8, 3), (16, 4)), family=7)],
      [("changed", "e", "br0", [("port.vlan", {(1, "pvid,untagged")}, {(1, "pvid,untagged"), (3, ""), (4, "")})])]),
+    ("other lists by their places", View(), [link(2, "e", mapping((1, 2), (3, 4)))],
+     [link(2, "e", mapping((1, 5), (3, 4))), link(2, "e", mapping((1, 5)))],
+     [("changed", "e", "", [("data.egress-qos.mapping.0.to", 2, 5)]),
+      ("changed", "e", "", [("data.egress-qos.mapping.1.from", 3, None), ("data.egress-qos.mapping.1.to", 4, None)])]),
+    ("a damaged element of a list is a text", View(), [link(2, "e", mapping((1, 2), b"ab"))],
+     [link(2, "e", mapping((1, 2), b"abc")), link(2, "e", mapping((1, 2))), link(2, "e", mapping((1, 2), b"ab"))],
+     [("changed", "e", "", [("data.egress-qos.mapping.1", *it)]) for it in (("6162", "616263"), ("616263", None),
+                                                                            (None, "6162"))]),
+    ("a damaged VLAN is none", View(details=True),
+     [BR, link(2, "e", *port(9)), link(2, "e", vlan((6, 1), b"ab"), family=7)],
+     [link(2, "e", vlan((6, 1), *it), family=7) for it in ([b"abc"], [], [b"ab"], [(0, 2)], [b"ab"])],
+     [("changed", "e", "br0", [("port.vlan", *it)]) for it in (
+         ({(1, "pvid,untagged")}, {(1, "pvid,untagged"), (2, "")}),
+         ({(1, "pvid,untagged"), (2, "")}, {(1, "pvid,untagged")}))]),
     ("what seldom matters", View(), [link(2, "e")], [link(2, "e", (n.IFLA_CARRIER, u8(1)), flags=0x40)], []),
     ("it too", View(details=True), [link(2, "e")], [link(2, "e", (n.IFLA_CARRIER, u8(1)), flags=0x40)],
      [("changed", "e", "", [("ifi-flags", [], ["running"]), ("carrier", None, 1)])]),
@@ -140,9 +162,25 @@ class Views(unittest.TestCase):
     def test_vlans(self):
         for entries, wanted in (([], set()), ([(0, 5)], {(5, "")}), ([(2, 1), (4, 2)], {(1, "pvid"), (2, "untagged")}),
                                 ([(8, 3), (16, 5)], {(3, ""), (4, ""), (5, "")}), ([(16, 5)], {(5, "")}),
-                                ([(8, 6), (16, 5)], {(5, "")})):
+                                ([(8, 6), (16, 5)], {(5, "")}), ([(8, 3)], set()),
+                                ([(8, 3), (8, 5), (16, 6)], {(5, ""), (6, "")}),
+                                ([(8, 3), (0, 4), (16, 6)], {(4, ""), (6, "")}),
+                                ([(8, 3), (16, 4), (16, 6)], {(3, ""), (4, ""), (6, "")}),
+                                ([(12, 3), (20, 4), (6, 1)], {(3, "untagged"), (4, "untagged"), (1, "pvid,untagged")}),
+                                ([(8, 1), (16, 4094)], {(at, "") for at in range(1, 4095)})):
             self.assertEqual(vlans(link(2, "e", vlan(*entries), family=7)), wanted)
         self.assertEqual(vlans(link(2, "e") + b"\5\0"), set())
+
+    def test_damaged_vlans(self):
+        """Elements of another size are passed over, and end a range; a list of attributes may be damaged itself."""
+        one, begin, end = ((2, it) for it in (b"\6\0\1\0", b"\x08\0\5\0", b"\x10\0\7\0"))
+        for payload, wanted in (([(2, b"")], set()), ([(2, b"ab"), one, (2, bytes(8))], {(1, "pvid,untagged")}),
+                                ([begin, (2, b"abc"), end], {(7, "")}), ([begin, end, (2, b"abc")], {5, 6, 7}),
+                                ([(0, b"\2\0"), one, (3, [(1, u32(5))]), (0, b"\1\0")], {(1, "pvid,untagged")}),
+                                (b"abc", set()), (b"", set())):
+            wanted = {it if isinstance(it, tuple) else (it, "") for it in wanted}
+            self.assertEqual(vlans(link(2, "e", (n.IFLA_AF_SPEC, payload), family=7)), wanted)
+        self.assertEqual(vlans(link(2, "e", vlan((6, 1)))), set())  # a message of family 0 has none
 
     def test_flat(self):
         self.assertEqual(flat({"a": {"b": 1, "c": {"d": [1]}}, "e": {}, "f": None}),

@@ -121,7 +121,9 @@ def plain_size(text):
 
 def data_form(text, members, tables):
     """The form of a style of link data, for lines.c: further ones are f for no bytes, a for values of one size one
-    after the other, and p for such values as attributes."""
+    after the other, and p for such values as attributes. That of a list is the form of one attribute."""
+    if each := re.fullmatch(r"Style::Each\(\s*Element::(.*?),?\s*\)", text, re.S):
+        return data_form("MAC" if each[1] == "Plain(Plain::Mac)" else f"Style::{each[1]}", members, tables)
     if text in BASIC:
         return f"{'n' if BASIC[text] in SIZES.values() else 'b'} {BASIC[text]}"
     word, of = re.fullmatch(r"Style::(\w+)(?:\((.*)\))?", text, re.S).groups()

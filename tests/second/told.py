@@ -141,8 +141,12 @@ def raw(refused):
 
 
 def under(path, value, out):
-    parts = value.items() if isinstance(value, dict) else [(str(at), it) for at, it in enumerate(value)
-                                                           if isinstance(it, (dict, list))]
+    """A list that holds an object or a list is told by place; any other one is a value."""
+    parts = []
+    if isinstance(value, dict):
+        parts = list(value.items())
+    elif any(isinstance(it, (dict, list)) for it in value):
+        parts = [(str(at), it) for at, it in enumerate(value)]
     if not parts and path:
         out.append((path, value))
     for name, it in parts:
