@@ -22,7 +22,7 @@ only() {
 speed_library() {
     local kit flags
     kit=$(dirname "$(dirname "$(readlink -f "$(command -v rt)")")")
-    read -ra flags <<<"$(python3 "$top/scripts/make/targets.py" x86_64)"
+    read -ra flags <<<"$(flags_for x86_64)"
     (cd "$top/crates/link_speed" && runs rt lib "${flags[@]}")
     only bench_ "$top/crates/link_speed/out/liblink_speed.a" "$kit/c/liblibc_c.a"
 }
@@ -65,7 +65,7 @@ debian=$(find "$registry" -maxdepth 1 -name 'netlink-packet-route-0.*' 2>/dev/nu
 objects=()
 if command -v cargo >/dev/null; then
     # for the processors that the proved build is for
-    read -ra target <<<"$(python3 "$top/scripts/make/targets.py" "$(uname -m)")"
+    read -ra target <<<"$(flags_for "$(uname -m)")"
     RUSTFLAGS="-C target-cpu=${target[3]}" CARGO_TARGET_DIR=$folder/target \
         package rust_crate "$library" lib.rs '[dependencies]' "$own" "${lto[@]}"
     only cargo_ "$folder/target/release/librust_crate.a"

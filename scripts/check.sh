@@ -1,13 +1,14 @@
 #!/usr/bin/env bash
-# That rust/ and dist/ fit the crates, the gate, and then the scripts over what it left: the programs, and the libraries
-# that the library for C and the texts of dist/ stand on. So little is proved twice. The scripts of the libraries and
-# the texts of the programs come beside the scripts of the programs, of the crate in rust/ and of the tables, and what
-# they print comes after. The last line is the gate's own, printed again.
+# That rust/ and dist/ fit the crates, the gate, and then the scripts over what it left: so little is proved twice. The
+# scripts of the libraries and the texts of the programs run beside those of the programs, and what they print comes
+# after. The last line is the gate's own, printed again.
 set -euo pipefail
 cd "$(dirname "$0")/.."
 folder=$(mktemp -d)
 trap 'kill $(jobs -p) 2>/dev/null || true; rm -rf "$folder"' EXIT
 read -ra names <<<"$(sed -n 's/^PROGRAMS = //p' dist/Makefile)"
+linkwire=crates/linkwire/out/linkwire linkshow=crates/linkshow/out/linkshow linkstate=crates/linkstate/out/linkstate
+linkdiff=crates/linkdiff/out/linkdiff folders=(crates/{linkwire,linkshow,linkstate,linkdiff}/out out)
 
 # stage NAME COMMAND..: the command between two lines, of which the second has its seconds
 stage() {
@@ -17,9 +18,7 @@ stage() {
     echo "check: $1 .. $((SECONDS - start)) s" | tee -a "$folder/stages"
 }
 
-gate() {
-    rt ci | tee "$folder/gate"
-}
+gate() { rt ci | tee "$folder/gate"; }
 
 libraries() {
     stage 'the text of link_c' scripts/make/dist.sh --compare link_c
@@ -27,16 +26,14 @@ libraries() {
     scripts/make/c_library.sh --built
     make -s -o out/library.o out/liblinkwire.a out/liblinkwire.so.0
     stage 'c_tests.sh, with state_live.sh' scripts/test/c_tests.sh out/liblinkwire.a crates/linkdiff/out out
-    stage call_answers.py python3 scripts/test/call_answers.py out/liblinkwire.a crates/linkshow/out/linkshow \
-        crates/linkdiff/out/linkdiff
+    stage call_answers.py python3 scripts/test/call_answers.py out/liblinkwire.a "$linkshow" "$linkdiff"
     stage second.sh scripts/test/second.sh out out/liblinkwire.a
     stage 'compilers.sh, of the library' scripts/test/compilers.sh --library out
     stage linkdump_tests.sh scripts/test/linkdump_tests.sh
     stage fuzz.sh scripts/test/fuzz.sh 30
     stage python_tests.sh scripts/test/python_tests.sh out
     stage linkwatch_tests.sh scripts/test/linkwatch_tests.sh out
-    python3 scripts/test/readme.py out/liblinkwire.a crates/linkwire/out crates/linkshow/out crates/linkstate/out \
-        crates/linkdiff/out out
+    python3 scripts/test/readme.py out/liblinkwire.a "${folders[@]}"
     stage 'builds of dist/' scripts/test/dist_tests.sh
 }
 
@@ -53,24 +50,22 @@ programs() {
     for name in "${names[@]}"; do
         stage "program.sh $name" scripts/test/program.sh "$name"
     done
-    python3 scripts/test/state_tests.py crates/linkstate/out/linkstate
-    stage diff_tests.py python3 scripts/test/diff_tests.py crates/linkdiff/out/linkdiff crates/linkshow/out/linkshow
-    stage sizes.py python3 scripts/test/sizes.py crates/linkwire/out crates/linkshow/out crates/linkstate/out \
-        crates/linkdiff/out out
-    python3 tests/linkdump/hosts.py --linkdiff crates/linkdiff/out/linkdiff
-    python3 tests/linkdiff/live.py out/linkdump crates/linkdiff/out/linkdiff
-    python3 tests/linkdiff/cases.py crates/linkdiff/out/linkdiff
-    python3 scripts/test/headline.py crates/linkwire/out/linkwire crates/linkshow/out/linkshow
-    python3 scripts/test/linkdiff_page.py crates/linkdiff/out/linkdiff
+    python3 scripts/test/state_tests.py "$linkstate"
+    stage diff_tests.py python3 scripts/test/diff_tests.py "$linkdiff" "$linkshow"
+    stage sizes.py python3 scripts/test/sizes.py "${folders[@]}"
+    python3 tests/linkdump/hosts.py --linkdiff "$linkdiff"
+    python3 tests/linkdiff/live.py out/linkdump "$linkdiff"
+    python3 tests/linkdiff/cases.py "$linkdiff"
+    python3 scripts/test/headline.py "$linkwire" "$linkshow"
+    python3 scripts/test/linkdiff_page.py "$linkdiff"
     stage damaged.py python3 scripts/test/damaged.py out
-    stage show_beside.py python3 scripts/test/show_beside.py crates/beside/out/beside crates/linkshow/out/linkshow
+    stage show_beside.py python3 scripts/test/show_beside.py crates/beside/out/beside "$linkshow"
     python3 scripts/test/kernel_messages.py
-    python3 scripts/test/kernel_truth.py crates/linkshow/out/linkshow
-    python3 scripts/test/kernel_truth.py --live crates/linkshow/out/linkshow out/linkdump
+    python3 scripts/test/kernel_truth.py "$linkshow"
+    python3 scripts/test/kernel_truth.py --live "$linkshow" out/linkdump
     scripts/test/rust_tests.sh
     stage processors.sh scripts/test/processors.sh
     stage compilers.sh scripts/test/compilers.sh out
-    scripts/test/parallel_test.sh
     scripts/test/parallel_hosts.sh
     scripts/test/test_progress.sh
     scripts/test/refused_memory.sh

@@ -1,8 +1,8 @@
 # shellcheck shell=bash disable=SC2034
 # What the scripts share, `. "$(dirname "$0")/../common.sh"`: `self` stands in front of what a script says, by default
-# its name; `top` is the repository, and `folder` is one for the script alone, which goes at its end.
+# its name without `_tests`; `top` is the repository, and `folder` is one for the script alone, which goes at its end.
 set -euo pipefail
-self=${self:-$(basename "$0" .sh)}
+self=${self:-$(basename "${0%_tests.sh}" .sh)}
 top=$(cd "$(dirname "${BASH_SOURCE[0]}")/.." && pwd)
 
 # lacks WHAT..: says that it is skipped, and goes on; `skips` ends there
@@ -29,6 +29,13 @@ fails() {
 tries() {
     status=0
     "$@" >"$folder/out" 2>"$folder/err" || status=$?
+}
+
+# fails_with TEXT COMMAND..: it fails, and says that
+fails_with() {
+    tries "${@:2}"
+    { [ "$status" != 0 ] && grep -qF -e "$1" "$folder/out" "$folder/err"; } ||
+        fails "${*:2}: status $status, and it does not say '$1'"
 }
 
 # A script runs itself again as `SCRIPT --inside FOLDER WORD..`: `inside` is 1 there, and its words stay.
@@ -64,10 +71,7 @@ has() {
 
 # needs COMMAND..: else the script is skipped
 needs() {
-    local it
-    for it in "$@"; do
-        command -v "$it" >/dev/null || skips "no $it"
-    done
+    has 'all of it' "$@" || exit 0
 }
 
 # has_namespace WHAT: whether a network namespace may be made, and ip is there, else it says that WHAT is skipped
@@ -79,14 +83,9 @@ has_namespace() {
 # program NAME [FOLDER..]: where the program is, in these folders, else as the gate left it or in out/; nothing where it
 # is not built
 program() {
-    local it
+    local IFS=:
     [ "$#" != 1 ] || set -- "$1" "$top/crates/$1/out" "$top/out"
-    for it in "${@:2}"; do
-        if [ -x "$it/$1" ]; then
-            realpath "$it/$1"
-            return
-        fi
-    done
+    PATH=${*:2} type -P "$1" | xargs -r realpath || true
 }
 
 # each_python COMMAND..: at once, with version and path of each Python from 3.9 to 3.13 that runs, on the path or
@@ -95,9 +94,9 @@ each_python() {
     local version it found waits=()
     for version in 3.9 3.10 3.11 3.12 3.13; do
         found=''
-        for it in "$(command -v "python$version" || true)" /usr/bin/"python$version" \
+        for it in "python$version" /usr/bin/"python$version" \
             "${PYENV_ROOT:-$HOME/.pyenv}"/versions/"$version".*/bin/"python$version"; do
-            [ -n "$found" ] || ! [ -x "$it" ] || ! "$it" -c '' 2>/dev/null || found=$it
+            [ -n "$found" ] || ! "$it" -c '' 2>/dev/null || found=$(command -v "$it")
         done
         [ -n "$found" ] || { lacks "Python $version: it is not here" && continue; }
         "$@" "$version" "$found" &
@@ -113,6 +112,11 @@ strict() {
     has types mypy || return 0
     runs mypy --strict --cache-dir="$folder/mypy" "python/$1"
     echo "$self: mypy --strict: $(tail -n 1 "$log")"
+}
+
+# block PAGE LANGUAGE [LINE]: the first block of that language in a page of docs/, behind that line
+block() {
+    sed -n "/^${3:-}/,\${/^\`\`\`$2\$/,\${/^\`\`\`$2\$/d;/^\`\`\`\$/q;p}}" "$top/docs/$1"
 }
 
 # reads ARRAY FILE: the lines of a file of tests/, without comments
@@ -142,27 +146,6 @@ passed() {
     awk '/^test result: ok/ { ok += $4; not += $8 } END { print ok " tests passed, " not " ignored" }' "$log"
 }
 
-# says NAME COMMAND..: what it says where it fails, and `status` is 1 then, else that it is well
-status=0
-says() {
-    if "${@:2}" >"$folder/log" 2>&1; then
-        echo "$self: $1: ok"
-    else
-        cat "$folder/log" >&2
-        echo "$self: $1: failed" >&2
-        status=1
-    fi
-}
-
-# where NAME HAS COMMAND..: what `says` does, or that NAME is skipped where the command HAS is not there
-where() {
-    if $2 >/dev/null 2>&1; then
-        says "$1" "${@:3}"
-    else
-        echo "$self: $1: skipped: not installed"
-    fi
-}
-
 # preloads FILE FLAG..: compiles tests/FILE.c, whose functions stand for those of the C library, as $folder/preloaded.so
 preloads() {
     ${CC:-cc} -O2 -Wall -Wextra -Werror "${@:2}" -shared -fPIC -o "$folder/preloaded.so" "$top/tests/$1.c" -ldl
@@ -182,6 +165,30 @@ with() {
 # asked COUNT: whether what ran last has sent so many requests
 asked() {
     [ "$(grep -sc '^asked$' "$folder/err")" -ge "$1" ] 2>/dev/null
+}
+
+# flags by which a compiler's own code looks at what it does
+sanitizers=(-g "-fsanitize=address,undefined" -fno-sanitize-recover=all)
+
+# makes_lines -DLINES_ALONE|LIBRARY..: compiles $folder/lines, which makes the lines of tests/second, and with a library
+# calls it
+makes_lines() {
+    "${CC:-cc}" -std=gnu11 -O2 -Wall -Wextra -Werror -I"$top/include" -o "$folder/lines" "$top/tests/second/lines.c" \
+        "$@"
+}
+
+# tests_c LIBRARY LAWS CC [COMMAND..]: runs tests/c, by the command, on a library of rust/capi, with so many messages of
+# the laws
+tests_c() {
+    local test
+    for test in "$top"/tests/c/*.c; do
+        runs "$3" -std=gnu11 -O1 -Wall -Wextra -I"$top/include" -o "$folder/c" "$test" "$1" -lpthread -ldl -lm
+        if [ "${test##*/}" = laws.c ]; then
+            runs "${@:4}" "$folder/c" "$2"
+        else
+            runs "${@:4}" "$folder/c" </dev/null
+        fi
+    done
 }
 
 # makes_linkdump: compiles $folder/linkdump, without captures
@@ -206,6 +213,11 @@ copies_tree() {
         2>/dev/null | tar -x -C "$1"
     PATH=$(tr ':' '\n' <<<"$PATH" | while read -r it; do [ -e "$it/rt" ] || echo "$it"; done | paste -sd :)
     unset CC LD OBJCOPY AR CPPFLAGS CFLAGS LDFLAGS MAKEFLAGS MFLAGS MAKELEVEL PROVE
+}
+
+# flags_for PROCESSOR: those by which the toolchain builds for it
+flags_for() {
+    awk -v it="$1" '$1 == it { print "--target", $2, "--cpu", $3 }' "$top/scripts/make/targets.txt"
 }
 
 # crates_below CRATE: the repository's crates that it stands on, each after those below it, and at the end itself

@@ -2,7 +2,7 @@
 """Fills in the values over borrowed bytes of crates/link_view, of the rows of `LinkAttribute`, of those of the enums of
 inner lists, and of the lines of their tables. A variant, the arm that reads it and the line that says what it stands
 for are made of one row, and the proof refuses a row that does not fit the table. What else is written of an enum of an
-inner list is the same of each, but for its names.
+inner list is made of what stands there of the first one, with other names.
 
     python3 scripts/erase/borrowed.py       fills in `borrowed`, `nest`, `afspec` and `vf` of crates/link_view
 
@@ -164,36 +164,29 @@ def parts(crate, enum, said, rows):
             ", ".join(opened), "\n".join(body))
 
 
+def names(crate, enum):
+    """The names of an enum in what is written of it."""
+    return place_of(crate, enum), f"owned_{keys.snake(enum)}", enum, f"specs.{module_of(crate).capitalize()}."
+
+
+def block(crate, enum, said, rows):
+    """What is written of an enum: what stands there of the first one, with other names and other parts."""
+    found = BLOCK.search((VIEW / f"src/{module_of(keys.INNER[0])}.rt").read_text("utf-8"))
+    ends = [found.start(), *map(found.end, range(1, 6))], [*map(found.start, range(1, 6)), found.end()]
+    text = "\0".join(found.string[start:end] for start, end in zip(*ends))
+    for one, other in zip(names(keys.INNER[0], found[2]), names(crate, enum)):
+        text = text.replace(one, other)
+    for part in parts(crate, enum, said, rows):
+        text = text.replace("\0", part, 1)
+    return text if rows else re.sub(r"\bkind\b", "_kind", text, count=2)     # `read` looks at none
+
+
 def members(crate, text):
-    made = {enum: parts(crate, enum, said, rows) for enum, said, rows in inner(crate)}
+    made = {enum: block(crate, enum, said, rows) for enum, said, rows in inner(crate)}
     there = [found[2] for found in BLOCK.finditer(text)]
     if sorted(there) != sorted(made):
         raise ValueError(f"borrowed.py: {module_of(crate)}.rt has {', '.join(there)}, and not {', '.join(made)}")
-    return BLOCK.sub(lambda found: with_parts(found, made[found[2]]), text)
-
-
-def with_parts(found, made):
-    """What was found with other parts."""
-    text, at = "", found.start()
-    for number, part in enumerate(made, 1):
-        text += found.string[at:found.start(number)] + part
-        at = found.end(number)
-    return text + found.string[at:found.end()]
-
-
-def unlike():
-    """The enums of inner lists of which is written what is not written of the first, but for its names."""
-    first = None
-    for crate in keys.INNER:
-        for found in BLOCK.finditer((VIEW / f"src/{module_of(crate)}.rt").read_text("utf-8")):
-            enum, text = found[2], squeezed(with_parts(found, [""] * 5))
-            names = {f"owned_{keys.snake(enum)}": "owned", place_of(crate, enum): "place", enum: "",
-                     f"specs.{module_of(crate).capitalize()}.": "", "_kind:": "kind:", "_kind≡": "kind≡"}
-            for name, instead in names.items():
-                text = text.replace(name, instead)
-            first = first or text
-            if text != first:
-                yield enum
+    return BLOCK.sub(lambda found: made[found[2]], text)
 
 
 def member_specs(crate, text):
@@ -232,8 +225,6 @@ def stale():
         text = make(before)
         if squeezed(before) != squeezed(text):
             yield there, text
-    for enum in unlike():
-        raise ValueError(f"borrowed.py: of Borrowed{enum} is written what is not written of those beside it")
 
 
 def main():

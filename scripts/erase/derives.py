@@ -4,8 +4,8 @@ import re
 from source import DOC, PAIR, letters
 
 # Of these no value is stored: they are borrowed, are rows of tables, or say why something was refused.
-NOT_STORED = {"CanonError", "Cause", "DecodeError", "Field", "Fields", "Info", "InfoError", "Kind", "KindRow",
-              "Level", "Member", "Place", "Plain", "RoomError", "Row", "Size", "Style", "Value"}
+NOT_STORED = {"CanonError", "Cause", "DecodeError", "Element", "Field", "Fields", "Info", "InfoError", "Kind",
+              "KindRow", "Level", "Member", "Place", "Plain", "RoomError", "Row", "Size", "Style", "Value"}
 # `Debug` of these is written by hand: it names the flags.
 FLAG_SETS = {"LinkFlags", "Inet6IfaceFlags"}
 # A new kernel adds to these: attributes and members, names of numbers, fields of records; so they are in
@@ -23,8 +23,8 @@ ORDER = ["Clone", "Copy", "Debug", "Default", "PartialEq", "Eq", "PartialOrd", "
 # These are empty lists by default, as in netlink-packet-route.
 EMPTY = {"LinkVfInfo", "LinkVfPort"}
 # Equality of these is written out, for their models, or they are not compared in the sources.
-COMPARED = {"DefaultNla", "Field", "Info", "KindRow", "Member", "NlaBuffer", "Place", "Plain", "Row", "Size",
-            "Style", "Value", "WirelessEventView"}
+COMPARED = {"DefaultNla", "Element", "Field", "Info", "KindRow", "Member", "NlaBuffer", "Place", "Plain", "Row",
+            "Size", "Style", "Value", "WirelessEventView"}
 # A new kernel adds to these too, which borrow and so are not stored.
 BORROW = {"WirelessEventView"}
 

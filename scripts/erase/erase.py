@@ -18,7 +18,6 @@ from pathlib import Path
 
 import borrowed
 import derives
-import examples
 import keys
 import memory
 import older
@@ -28,6 +27,7 @@ import rules
 import surface
 import typed
 import words
+from examples import Examples
 from source import Source, Unknown
 
 HERE = Path(__file__).resolve().parent
@@ -80,8 +80,7 @@ class Mode:
         self.memory_names = set()           # functions that fail for memory alone
         self.public = set()                 # names that a user sees
         self.conditions = []                # what calls require that a user sees
-        self.examples = examples.read() if self.is_crate else {}
-        self.shown = set()                  # the calls that have one, or a link to one
+        self.examples = Examples() if self.is_crate else None
 
     def sources(self):
         """The sources of what is made: the crate of each, its name without `.rt`, and its path."""
@@ -129,7 +128,7 @@ def erase(path, text, crate, mode):
         rules.apply(s, rules.NEVER)
         owed.check(s, found, mode.public)
         words.docs(s, lambda name, call: owed.told(
-            call, found.get(name, []), mode.memory_names, examples.of(name, mode)), mode.public)
+            call, found.get(name, []), mode.memory_names, mode.examples.of(name)), mode.public)
         surface.must_use(s, mode.public)
         imported += paths.of_alloc(s)
     if not mode.is_tests:
@@ -217,8 +216,9 @@ def make_all(mode, out):
         write(out / "src" / "generated" / "places.rs", typed.text())
         write(out / "src" / "generated" / "keys.rs", keys.text())
         write(out / "MOVING.md", typed.moving(read(TOP / "rust" / "MOVING.md")))
-        if examples.unused(mode):
-            raise Unknown(f"examples.md: no public call is named {examples.unused(mode)}")
+        unused = mode.examples.keys() - mode.examples.shown
+        if unused:
+            raise Unknown(f"examples.md: no public call is named {min(unused)}")
         write(out / "conditions.txt", "\n".join(sorted(mode.conditions)) + "\n")
         lay_out(out / "src" / "generated")
 

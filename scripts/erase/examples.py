@@ -6,34 +6,26 @@ PAGE = Path(__file__).with_name("examples.md")
 PART = re.compile(r"^## (\S+)\n\n(?:Besides: ([^`]+)\.\n\n)?```rust\n(.*?)\n```$", re.M | re.S)
 
 
-def read():
+class Examples(dict):
     """By the name of a call, without its module: paragraphs of docs."""
-    text, found = PAGE.read_text("utf-8"), {}
-    for name, besides, code in PART.findall(text):
-        put(found, name, ["```", *code.split("\n"), "```"])
-        for other in besides.replace(",", " ").split():
-            put(found, other, [f"[`{short(name)}`](crate::{name}) has an example."])
-    if len(PART.findall(text)) != text.count("\n## "):
-        raise ValueError("examples.md: a part has another form")
-    return found
 
+    def __init__(self):
+        super().__init__()
+        self.shown = set()                  # the calls that have one, or a link to one
+        text = PAGE.read_text("utf-8")
+        parts = PART.findall(text)
+        for name, besides, code in parts:
+            self.put(name, ["```", *code.split("\n"), "```"])
+            for other in besides.replace(",", " ").split():
+                self.put(other, [f"[`{name.removeprefix('info::')}`](crate::{name}) has an example."])
+        if len(parts) != text.count("\n## "):
+            raise ValueError("examples.md: a part has another form")
 
-def put(found, name, paragraph):
-    if short(name) in found:
-        raise ValueError(f"examples.md: {name} has two examples")
-    found[short(name)] = paragraph
+    def put(self, name, paragraph):
+        if self.setdefault(name.removeprefix("info::"), paragraph) is not paragraph:
+            raise ValueError(f"examples.md: {name} has two examples")
 
-
-def short(name):
-    return name.removeprefix("info::")
-
-
-def of(name, mode):
-    """The paragraphs of a call's own."""
-    mode.shown.add(name)
-    return [mode.examples[name]] if name in mode.examples else []
-
-
-def unused(mode):
-    """A name that no public call has, or None."""
-    return next(iter(sorted(mode.examples.keys() - mode.shown)), None)
+    def of(self, name):
+        """The paragraphs of a call's own."""
+        self.shown.add(name)
+        return [self[name]] if name in self else []

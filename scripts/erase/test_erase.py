@@ -78,13 +78,10 @@ MAKES = {
 def main():
     forms = FORM.findall(Path(__file__).with_name("forms.txt").read_text("utf-8"))
     wrong = [(text, it) for what, text, wanted in forms for it in [MAKES[what](text)] if it != wanted]
-    for text, it in wrong:
-        print(f"{text}made into:\n{it}")
     if wrong:
-        return 1
+        return "\n".join(f"{text}made into:\n{it}" for text, it in wrong)
     counts = Counter(what for what, _, _ in forms)
-    print(f"erase: forms as in forms.txt: {', '.join(f'{n} {what}' for what, n in counts.items())}")
-    return 0
+    return print(f"erase: forms as in forms.txt: {', '.join(f'{n} {what}' for what, n in counts.items())}")
 
 
 if __name__ == "__main__":

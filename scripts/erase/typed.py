@@ -74,7 +74,7 @@ def constants(text):
     text = re.sub(r"//.*", "", text).replace("&[", "[")
     text = re.sub(r"Size::(\w+)", lambda it: str(SIZES[it[1]]), text)
     text = re.sub(r"Place::(\w+)", r'"\1"', text)
-    text = re.sub(r"(?:Style|Plain)::(\w+)(\(?)", lambda it: f'("{it[1]}", ' + ")" * (not it[2]), text)
+    text = re.sub(r"(?:Style|Element|Plain)::(\w+)(\(?)", lambda it: f'("{it[1]}", ' + ")" * (not it[2]), text)
     return CONSTANT.findall(re.sub(r"\b(?:Row|Member)\(", "(", text))
 
 
@@ -90,6 +90,11 @@ def tables(crate=CRATE):
                     local[one] = found[name, one] = eval(text, local)
         common = common or local                # what all have
     return found
+
+
+def of_one(style):
+    """The style of one attribute, also where the row is that of a list."""
+    return style[1] if style[0] == "Each" else style
 
 
 def camel(text):
@@ -130,7 +135,8 @@ class Maker:
         self.rows = tables()
         text = read("place.rt")
         docs = {name: words for words, name in re.findall(r"/// ([^\n]+)\n    (\w+),\n", text)}
-        self.places = {place: (docs[place], self.rows[file, table], f"{file}::{table}")
+        self.places = {place: (docs[place], [(*row[:2], of_one(row[2])) for row in self.rows[file, table]],
+                               f"{file}::{table}")
                        for place, file, table in re.findall(r"Place::(\w+) => (\w+)::(\w+),", text)}
         more = {name: eval(text) for name, _, text in constants(MORE)}
         self.places |= {place: (words, more[place.upper()], None)

@@ -1,13 +1,12 @@
 #!/usr/bin/env bash
-# Proves and builds the library for programs in C as one object, out/library.o, which has the code and what it calls of
-# the toolchain; its names are local, but for linkwire_*. dist/Makefile makes the libraries of it. With --built the
-# archive of the crate is there already.
-set -euo pipefail
-top=$(cd "$(dirname "$0")/../.." && pwd)
+# Proves and builds the library for programs in C as one object, out/library.o, with what it calls of the toolchain; its
+# names are local, but for linkwire_*. dist/Makefile makes the libraries of it. With --built the archive of the crate is
+# there already.
+. "$(dirname "$0")/../common.sh"
 kit=$(dirname "$(dirname "$(readlink -f "$(command -v rt)")")")
 mkdir -p "$top/out" "$top/crates/link_c/out"
 if [ "${1:-}" != --built ]; then
-    read -ra flags <<<"$(python3 "$top/scripts/make/targets.py" x86_64)"
+    read -ra flags <<<"$(flags_for x86_64)"
     "$top/scripts/make/progress.sh" link_c "$top/out/link_c.log" rt lib "${flags[@]}"
 fi
 cd "$top/out"

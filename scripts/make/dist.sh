@@ -1,8 +1,7 @@
 #!/usr/bin/env bash
-# Makes dist/ anew of what is proved, proving what is not: the texts and their sums. Standard error shows which crate is
-# at work, and standard output each verdict.
+# Makes dist/ anew of what is proved, proving what is not: the texts and their sums.
 #     dist.sh --compare NAME..    makes the texts of these in out/texts, over what the gate left, and compares
-#     dist.sh --against FOLDER NAME..   compares with those that were made
+#     dist.sh --against FOLDER NAME   compares with the one that was made
 #     dist.sh --by-rattle NAME    has the toolchain's own compiler make a library
 . "$(dirname "$0")/../common.sh"
 cd "$top"
@@ -11,20 +10,16 @@ mapfile -t archs < <(awk '!/^#/ { print $1 }' scripts/make/targets.txt)
 
 # verdicts NAME: what the toolchain said of the crate at last, for each processor
 verdicts() {
-    if [ "$(grep -c '^logic=proved .* target=' "$folder/log")" != "${#archs[@]}" ]; then
-        tail -n 40 "$folder/log" >&2
-        exit 1
-    fi
-    grep '^logic=proved .* target=' "$folder/log" | sed "s/^/dist: $1: /"
+    [ "$(grep -c '^logic=proved .* target=' "$log")" = "${#archs[@]}" ] || fails "$1 is not proved"
+    sed -n "/^logic=proved .* target=/s/^/dist: $1: /p" "$log"
 }
 
 # compares FOLDER NAME
 compares() {
     local arch
     for arch in "${archs[@]}"; do
-        if ! cmp "dist/$arch/$2.s" "$1/$arch/$2.s" >&2; then
+        cmp "dist/$arch/$2.s" "$1/$arch/$2.s" >&2 ||
             fails "dist/$arch/$2.s is not what is made of the crates: make dist makes it anew"
-        fi
     done
     echo "dist: $2: the texts are what is made of the crates"
 }
@@ -39,10 +34,7 @@ instructions() {
 is_built() {
     local built=crates/$1/out/lib$1.a
     [ -e "$built" ] || built=crates/$1/out/$1.o
-    if [ "$(uname -m)" != x86_64 ]; then
-        echo "dist: $1: the instructions: skipped: this is no x86_64"
-        return
-    fi
+    [ "$(uname -m)" = x86_64 ] || { lacks "$1: the instructions: this is no x86_64" && return; }
     ${CC:-cc} -c -o "$folder/text.o" "dist/x86_64/$1.s"
     instructions "$built" >"$folder/built"
     instructions "$folder/text.o" | cmp - "$folder/built" >&2
@@ -51,8 +43,7 @@ is_built() {
 
 # texts NAME TO: text.py in the crate's folder, in one process, as the gate's other scripts run beside it
 texts() {
-    (cd "crates/$1" && python3 "$top/scripts/make/text.py" "$2" 1) >"$folder/log" 2>&1 ||
-        { tail -n 40 "$folder/log" >&2; exit 1; }
+    runs env -C "crates/$1" python3 "$top/scripts/make/text.py" "$2" 1
 }
 
 case ${1:-} in
@@ -67,13 +58,11 @@ case ${1:-} in
     ;;
 --by-rattle)
     texts "$2" --by-rattle
-    sed -n "s/^logic=proved .* target=/dist: $2 by the toolchain's compiler: &/p" "$folder/log"
+    sed -n "s/^logic=proved .* target=/dist: $2 by the toolchain's compiler: &/p" "$log"
     exit
     ;;
 --against)
-    for name in "${@:3}"; do
-        compares "$2" "$name"
-    done
+    compares "$2" "$3"
     exit
     ;;
 esac
@@ -96,8 +85,7 @@ for arch in "${archs[@]}"; do
     mv "$folder/$arch"/*.s "dist/$arch/"
 done
 scripts/make/sums.sh make >"$folder/sums"
-if ! grep '  crates/' "$folder/sums" | cmp -s - "$folder/before"; then
+grep '  crates/' "$folder/sums" | cmp -s - "$folder/before" ||
     fails 'a source changed while the texts were made: run this again'
-fi
 mv "$folder/sums" dist/SUMS
 scripts/make/sums.sh check

@@ -8,13 +8,15 @@
 #     sums.sh why ARCH NAME.. -- FILE..   prints in a line what changed first of these texts, or of these files written
 #                             by hand, and what to do; nothing where all fit
 #     sums.sh check           compares all; where rt is on the path and is not the toolchain that made them, it says so
+self=dist
 . "$(dirname "$0")/../common.sh"
 shopt -s inherit_errexit
 export LC_ALL=C
 cd "$top"
 sums=dist/SUMS
 names() {
-    sed -n 's/^TEXTS = //p' dist/Makefile | sed "s/\$(PROGRAMS)/$(sed -n 's/^PROGRAMS = //p' dist/Makefile)/"
+    sed -n 's/^TEXTS = //p' dist/Makefile | sed "s/\$(PROGRAMS)/$(sed -n 's/^PROGRAMS = //p' dist/Makefile)/" |
+        tr ' ' '\n'
 }
 archs() {
     awk '!/^#/ { print $1 }' scripts/make/targets.txt
@@ -43,13 +45,11 @@ make_sums() {
     echo "# What dist/ and a build are made of: sha256sum -c dist/SUMS compares the files, scripts/make/sums.sh all."
     echo "# toolchain $(rt version)"
     for crate in "${all[@]}"; do
-        grep "^${crate}[: ]" crates.txt | sed 's/^/# crates.txt /'
+        sed -n "s/^${crate}[: ]/# crates.txt &/p" crates.txt
     done
     sources "${all[@]}" | sort -k 2
     for arch in $(archs); do
-        for name in $(names); do
-            sha256sum "dist/$arch/$name.s"
-        done
+        names | sed "s|.*|dist/$arch/&.s|" | xargs sha256sum
     done
     hand_written | xargs sha256sum
 }
@@ -64,10 +64,7 @@ make_written() {
 unfit() {
     local it all was now
     for it in "$sums" crates.txt; do
-        if [ ! -e "$it" ]; then
-            printf "%s $it is missing\n" "${@:2}"
-            return
-        fi
+        [ -e "$it" ] || { printf "%s $it is missing\n" "${@:2}" && return; }
     done
     was=$(sed 's/^# crates.txt //' "$sums")
     mapfile -t all < <(sed -n 's/^# crates.txt \([a-z0-9_]*\).*/\1/p' "$sums")
@@ -104,10 +101,7 @@ changed() {
 unfit_written() {
     local it
     for it in "$@"; do
-        if [ ! -e "$it" ]; then
-            echo "$it is missing"
-            return
-        fi
+        [ -e "$it" ] || { echo "$it is missing" && return; }
     done
     it=$(sha256sum "$@" | grep -vxFf "$sums" | sed -n '1s/^[^ ]* *//p') || true
     [ -z "$it" ] || echo "$it is not the file of $sums"
@@ -115,35 +109,27 @@ unfit_written() {
 
 # why ARCH NAME.. -- FILE..
 why() {
-    local what names=()
-    while [ "${2:---}" != -- ]; do
-        names+=("$2")
-        set -- "$1" "${@:3}"
-    done
-    what=$([ "${#names[@]}" = 0 ] || unfit "$1" "${names[@]}" | sed -n '1s/^[^ ]* //p')
+    local what names files words="$*"
+    read -ra names <<<"${words%% -- *}"
+    read -ra files <<<"${words#* -- }"
+    what=$([ "${#names[@]}" -lt 2 ] || unfit "${names[@]}" | sed -n '1s/^[^ ]* //p')
     if [ -n "$what" ]; then
         echo "$what. Put the file back. Without rt, build the last commit that changed dist/$1:" \
             "git checkout \$(git log -1 --format=%h dist/$1); with rt, make dist makes dist/ anew, and make PROVE=1" \
             "proves one build"
         return
     fi
-    what=$(unfit_written "${@:3}")
+    what=$(unfit_written "${files[@]}")
     [ -z "$what" ] || echo "$what: make sums writes its sum anew, or put the file back"
 }
 
 check() {
     local arch what by all files
-    read -ra all <<<"$(names)"
-    mapfile -t files < <(
-        hand_written
-        sed '/^#/d; /  crates\//d; /\.s$/d; s/^[^ ]* *//' "$sums"
-    )
+    mapfile -t all < <(names)
+    mapfile -t files < <(hand_written && sed '/^#/d; /  crates\//d; /\.s$/d; s/^[^ ]* *//' "$sums")
     for arch in $(archs); do
         what=$(why "$arch" "${all[@]}" -- "${files[@]}")
-        if [ -n "$what" ]; then
-            echo "dist: $what" >&2
-            return 1
-        fi
+        [ -z "$what" ] || fails "$what"
     done
     by=$(sed -n 's/^# toolchain //p' "$sums")
     if command -v rt >/dev/null && [ "$(rt version)" != "$by" ]; then

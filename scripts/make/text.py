@@ -5,24 +5,24 @@ toolchain else chooses: one takes the least of the processors, and where these h
 With --by-rattle in the place of FOLDER it has the toolchain's own compiler make the static library, for x86-64, as
 out/libNAME.by-rattle.a: the gate makes programs a second time, and no library.
 
-It begins with what was kept here, as `rt check` does, and where the toolchain shares kept work between checkouts with
-what was kept there. It stands over the libraries that the gate left; where one lacks it takes them as `rt lib` built
-them of the same files, if it finds all. No command of the toolchain does this.
-`rt ci` proves a static library and does not build it, and leaves the libraries below without the stamp by which `rt
-lib` knows them; and nothing writes the text.
+It begins with what was kept here or in another checkout, as `rt check` does. It stands over the libraries that the
+gate left; where one lacks it takes them as `rt lib` built them of the same files, if it finds all. No command of the
+toolchain does this: `rt ci` proves a static library and does not build it, and leaves the libraries below without the
+stamp by which `rt lib` knows them; and nothing writes the text.
 """
 
 import importlib.machinery
 import importlib.util
+import itertools
 import os
 import re
 import shlex
 import shutil
 import sys
 import tempfile
+from pathlib import Path
 
-from targets import targets
-
+TARGETS = Path(__file__).with_name("targets.txt")
 # Stands for the toolchain's clang, which is called with an empty environment, and has it write the text too. `-c` marks
 # the call that makes the code. That of x86-64 optimizes the module first, as a call of its own does on aarch64: it is
 # optimized once, and text and object are made of what comes of it, the same bytes in half the time. gas has no
@@ -56,8 +56,8 @@ esac
 MORE = {"x86_64": "-fforce-dwarf-frame", "aarch64": ""}
 
 QUOTED = re.compile(r'"([^"]*)"')
-SECTION = re.compile(r'(\s*\.section\s+)"([^"]*)"(.*)', re.S)
-STRING = re.compile(r"\s*\.(ascii|asciz|string|ident|file)\b")
+SECTION = re.compile(r'\s*\.section\s+"')
+OTHER = re.compile(r"\s*\.(section|ascii|asciz|string|ident|file)\b")     # no names are quoted there
 
 
 def plain(text):
@@ -65,41 +65,44 @@ def plain(text):
     marks for unwinding go into the section that is loaded, and not into one for debuggers."""
     names, taken = {}, set(re.findall(r"[\w.$]+", text, re.ASCII))
 
-    def rename(name):
+    def renamed(found):
+        name = found[1]
         if name.startswith(".note."):
             return f'"{name}"'
         if name not in names:
-            first = it = re.sub(r"[^\w.$]+", ".", name, flags=re.ASCII).rstrip(".")
-            number = 0
-            while it in taken:
-                number += 1
-                it = f"{first}.{number}"
-            names[name] = it
-            taken.add(it)
+            first = re.sub(r"[^\w.$]+", ".", name, flags=re.ASCII).rstrip(".")
+            numbered = (f"{first}.{number}" for number in itertools.count(1))
+            names[name] = next(it for it in itertools.chain([first], numbered) if it not in taken)
+            taken.add(names[name])
         return names[name]
 
     for line in text.splitlines(keepends=True):
-        section = SECTION.match(line)
-        if section:
-            line = section[1] + rename(section[2]) + section[3]
-        elif not (STRING.match(line) or line.lstrip().startswith(".section")):
-            line = QUOTED.sub(lambda it: rename(it[1]), line)
+        if SECTION.match(line):
+            line = QUOTED.sub(renamed, line, count=1)
+        elif not OTHER.match(line):
+            line = QUOTED.sub(renamed, line)
         if line.strip() != ".cfi_sections .debug_frame":
             yield line
 
 
 def stand_in(toolchain, folder, arch):
     """Makes a toolchain in the folder whose clang keeps the text, and returns where the text will be."""
-    os.mkdir(f"{folder}/bin")
-    os.symlink(f"{toolchain}/lib", f"{folder}/lib")
-    for name in os.listdir(f"{toolchain}/bin"):
-        if name != "clang":
-            os.symlink(f"{toolchain}/bin/{name}", f"{folder}/bin/{name}")
-    words = {"clang": shlex.quote(f"{toolchain}/bin/clang"), "folder": shlex.quote(folder), "more": MORE[arch]}
-    with open(f"{folder}/bin/clang", "w", encoding="utf-8") as it:
-        it.write(CLANG.format(**words))
-    os.chmod(f"{folder}/bin/clang", 0o755)
-    return f"{folder}/text.s"
+    (folder / "bin").mkdir()
+    (folder / "lib").symlink_to(toolchain / "lib")
+    for it in (toolchain / "bin").iterdir():
+        (folder / "bin" / it.name).symlink_to(it)
+    clang = folder / "bin/clang"
+    clang.unlink()
+    clang.write_text(CLANG.format(clang=shlex.quote(f"{toolchain}/bin/clang"), folder=shlex.quote(str(folder)),
+                                  more=MORE[arch]))
+    clang.chmod(0o755)
+    return folder / "text.s"
+
+
+def targets():
+    """The flags by processor."""
+    rows = [line.split() for line in TARGETS.read_text("utf-8").splitlines() if not line.startswith("#")]
+    return {arch: ["--target", target, "--cpu", cpu] for arch, target, cpu in rows}
 
 
 def command_of(kit):
@@ -112,51 +115,39 @@ def command_of(kit):
     return command
 
 
+def build(command, crate, backend, toolchain, words, to):
+    return crate.call(command.rtlib.RATTLE, "build", *crate.words(words), "--toolchain", str(toolchain),
+                      "--backend", backend, *command.rtlib.KEPT, "-o", to)
+
+
 def write_text(command, crate, arch, to, jobs):
     """Builds the crate for a processor, and writes its text."""
-    built = "libNAME.a" if crate.is_static else "NAME.o"
-    with tempfile.TemporaryDirectory() as folder:
-        file = stand_in(f"{command.KIT}/toolchain", folder, arch)
-        object_file = "out/" + built.replace("NAME", crate.name) if arch == "x86_64" else f"{folder}/built"
-        words = [*crate.words(targets()[arch] + jobs), "--toolchain", folder, "--backend", "llvm", *command.rtlib.KEPT]
-        status = crate.call(command.rtlib.RATTLE, "build", *words, "-o", object_file)
+    with tempfile.TemporaryDirectory() as name:
+        folder = Path(name)
+        text = stand_in(Path(command.KIT) / "toolchain", folder, arch)
+        built = f"out/lib{crate.name}.a" if crate.is_static else f"out/{crate.name}.o"
+        status = build(command, crate, "llvm", folder, targets()[arch] + jobs,
+                       built if arch == "x86_64" else f"{folder}/built")
         if status:
             return status
-        with open(file, encoding="utf-8") as it:
-            text = it.read()
-    os.makedirs(f"{to}/{arch}", exist_ok=True)
-    with open(f"{to}/{arch}/{crate.name}.s", "w", encoding="utf-8") as it:
-        it.writelines(plain(text))
+        (Path(to) / arch).mkdir(parents=True, exist_ok=True)
+        (Path(to) / arch / f"{crate.name}.s").write_text("".join(plain(text.read_text("utf-8"))), "utf-8")
     return 0
 
 
-def build_by_rattle(command, crate, jobs):
-    """Has the toolchain's own compiler make the library."""
-    words = [*crate.words(jobs), "--toolchain", f"{command.KIT}/toolchain", "--backend", "rattle", *command.rtlib.KEPT]
-    return crate.call(command.rtlib.RATTLE, "build", *words, "-o", f"out/lib{crate.name}.by-rattle.a")
-
-
-def shares(command):
-    """Whether this toolchain shares what was kept between the checkouts of a machine."""
-    return all(hasattr(command, it) for it in ("places_of", "take_rlib", "adopt", "offer"))
-
-
-def lacks_library(crate):
-    """Whether some library below is not in its out/. One that is taken from elsewhere does not go with those."""
-    return not all(os.path.exists(f"{it.folder}/out/rlib/{it.name}.rlib/format") for it in crate.below())
-
-
 def take_libraries(command, crate):
-    """Takes what `rt lib` built of the libraries below, here or in another checkout, where all are to be had."""
+    """Takes what `rt lib` built of the libraries below, here or in another checkout, where one is not in its out/ and
+    all are to be had: one that is taken from elsewhere does not go with those that are there."""
+    if all(os.path.exists(f"{it.folder}/out/rlib/{it.name}.rlib/format") for it in crate.below()):
+        return
+
     def is_kept(it):
         stamps = (command.rtlib.text_of(f"{at}/out/rlib/stamp") for at, _ in command.places_of(it))
         return it.is_built() or it.stamp() in stamps
 
     held = command.rtlib.lock(crate.below())
     if all(map(is_kept, crate.below())):
-        for it in crate.below():
-            if not it.is_built() and not command.take_rlib(it):
-                break
+        all(it.is_built() or command.take_rlib(it) for it in crate.below())     # up to the first that is gone
     for it in held:
         os.close(it)
 
@@ -166,20 +157,17 @@ def main(to, *jobs):
     here = os.getcwd()
     crates = command.rtlib.crates_below(os.path.dirname(os.path.dirname(here)))
     (crate,) = [it for it in crates if it.folder == here]
-    if shares(command) and lacks_library(crate):
-        take_libraries(command, crate)
+    take_libraries(command, crate)
     crate.held = command.rtlib.lock([crate])
-    if shares(command):
-        command.adopt(crate)
+    command.adopt(crate)
     os.makedirs("out", exist_ok=True)
     stamp = crate.stamp()
     jobs = [word for it in jobs for word in ("--jobs", it)]
     if to == "--by-rattle":
-        status = build_by_rattle(command, crate, jobs)
+        status = build(command, crate, "rattle", f"{command.KIT}/toolchain", jobs, f"out/lib{crate.name}.by-rattle.a")
     else:
         status = next(filter(None, (write_text(command, crate, arch, to, jobs) for arch in targets())), 0)
-    if shares(command):
-        command.offer(crate, None if status else stamp)
+    command.offer(crate, None if status else stamp)
     return status
 
 

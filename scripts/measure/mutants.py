@@ -60,12 +60,10 @@ class Run(NamedTuple):
 def words():
     parser = argparse.ArgumentParser()
     parser.add_argument("name", choices=("linkwire", "linkstate", "linkshow", "linkdiff", "link_c"))
-    parser.add_argument("--count", type=int, default=40)
-    parser.add_argument("--seed", type=int, default=7)
-    parser.add_argument("--jobs", type=int, default=2)
-    parser.add_argument("--least", type=int)
-    parser.add_argument("--list", action="store_true")
-    parser.add_argument("--unlike", action="store_true")
+    for option, most in ("--count", 40), ("--seed", 7), ("--jobs", 2), ("--least", None):
+        parser.add_argument(option, type=int, default=most)
+    for option in "--list", "--unlike":
+        parser.add_argument(option, action="store_true")
     return parser.parse_args()
 
 
@@ -95,16 +93,9 @@ def sites(text):
 
 def changed(line, how, chance):
     word = line.split()[0]
-    if how == "turned":
-        return line.replace(word, turned(word), 1)
-    if how == "by one":
-        return line.replace(word, BY_ONE[word], 1)
-    number = re.search(r"\$(-?\d+)", line)
-    return f"{line[:number.start()]}${int(number[1]) + chance.choice((-1, 1))}{line[number.end():]}"
-
-
-def said(text, at, new, function):
-    return f"{function}: {at + 1}: {' '.join(text[at].split())} -> {' '.join(new.split())}"
+    if how == "a number":
+        return re.sub(r"\$(-?\d+)", lambda it: f"${int(it[1]) + chance.choice((-1, 1))}", line, count=1)
+    return line.replace(word, turned(word) if how == "turned" else BY_ONE[word], 1)
 
 
 def around(name, text, at, new, function):
@@ -121,9 +112,10 @@ def around(name, text, at, new, function):
             if text[it].strip() and not re.match(r"\t\.", text[it]):
                 found.append(plain(text[it]))
             it += step
-        return found
+        return found[::step]
+
     function, *own = re.split(r"\.([0-9a-f]{16})(?:\.\d+)?$", function or "")
-    return "; ".join([f"{name} {function}: ", *near(-1)[::-1], f"[{plain(text[at])} -> {plain(new)}]", *near(1),
+    return "; ".join([f"{name} {function}: ", *near(-1), f"[{plain(text[at])} -> {plain(new)}]", *near(1),
                       *(f"of {it}" for it in own if it)])
 
 
@@ -144,8 +136,9 @@ def build(name, folder, text, to):
     """What is run of a text, at the path `to`; false where it does not assemble."""
     Path(f"{to}.s").write_text("\n".join(text))
     made = TOP / "out/dist"
-    as_library = "-shared", f"-Wl,-soname,{LIBRARY},--version-script={TOP}/dist/liblinkwire.map"
-    more = as_library if name == "link_c" else (*WRAPS, made / "errno.o")
+    more = (*WRAPS, made / "errno.o")
+    if name == "link_c":
+        more = "-shared", f"-Wl,-soname,{LIBRARY},--version-script={TOP}/dist/liblinkwire.map"
     return compiles("-c", "-o", f"{to}.o", f"{to}.s") and compiles(
         "-o", to, f"{to}.o", f"{folder}/watch.o", made / "heap.o", *more)
 
@@ -162,11 +155,10 @@ def prepare(name, folder, text):
     Path(f"{folder}/watch.c").write_text(WATCH)
     compiles("-c", "-O2", "-fPIC", "-o", f"{folder}/watch.o", f"{folder}/watch.c")
     if name == "linkdiff":
-        lines = (TOP / "tests/second/streams.txt").read_bytes().splitlines(True)
-        for it, part in ("old", lines[:450]), ("new", lines[450:]):
+        streams, hosts = (path.read_bytes().splitlines(True)
+                          for path in (TOP / "tests/second/streams.txt", Path(f"{folder}/hosts")))
+        for it, part in ("old", streams[:450]), ("new", streams[450:]), ("first", hosts[:6000]):
             Path(f"{folder}/{it}").write_bytes(b"".join(part))
-        lines = Path(f"{folder}/hosts").read_bytes().splitlines(True)
-        Path(f"{folder}/first").write_bytes(b"".join(lines[:6000]))
     if name == "link_c":
         build(name, folder, text, f"{folder}/{LIBRARY}")
         for it in ("lines", *TESTS):
@@ -243,12 +235,8 @@ class Wanted(NamedTuple):
 
 def is_told(name, folder, to, place, answered):
     """Whether a run that comes to a place ends otherwise, or writes something else, than the text as it is."""
-    for at, (it, want) in enumerate(zip(runs(name, folder), answered)):
-        if place in want.there:
-            status, is_same, _ = run(it, to, "" if it.writes else f"{folder}/wanted{at}", want.most)
-            if status != want.status or not is_same:
-                return True
-    return False
+    return any(run(it, to, "" if it.writes else f"{folder}/wanted{at}", want.most)[:2] != (want.status, True)
+               for at, (it, want) in enumerate(zip(runs(name, folder), answered)) if place in want.there)
 
 
 def answers(name, folder, text, lines):
@@ -300,12 +288,12 @@ def main():
             results[found] += 1
             if given.list:
                 print(f"mutants: {name}: {found}: {what}", flush=True)
-        for number, (at, how, function) in enumerate(picked):
+        for at, how, function in picked:
             new = changed(text[at], how, random.Random(chance.random()))
-            what = said(text, at, new, function)
+            what = f"{function}: {at + 1}: {' '.join(text[at].split())} -> {' '.join(new.split())}"
             fits = bool(pattern.search(around(name, text, at, new, function)))
             if at in there and not (fits and given.unlike):
-                work.append((number, at, new, what, fits))
+                work.append((len(work), at, new, what, fits))
             else:
                 count("alike" if at in there else "never executed", what)
         with multiprocessing.Pool(given.jobs) as pool:

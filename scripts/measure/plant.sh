@@ -10,9 +10,8 @@ if [ "${1:-}" = --minutes ]; then
     shift 2
 fi
 crates=("$@")
-[ "${#crates[@]}" != 0 ] || crates=(nla_wire link_vals link_recs link_vfrec link_nest link_vf link_afspec link_msg
-    link_state link_info link_c line_filter message_lines shown message_shown message_diff expected linkwire linkstate
-    linkshow linkdiff)
+[ "${#crates[@]}" != 0 ] || crates=(nla_wire link_{vals,recs,vfrec,nest,vf,afspec,msg,state,info,c} line_filter
+    message_lines shown message_{shown,diff} expected link{wire,state,show,diff})
 for crate in "${crates[@]}"; do
     (cd "crates/$crate" && rt plant --minutes "$minutes") >"$folder/log" 2>&1 || true
     {

@@ -16,7 +16,7 @@ import subprocess
 import sys
 
 sys.path.append(f"{os.path.dirname(os.path.dirname(os.path.abspath(__file__)))}/test")
-from shared import TOP, table
+from shared import TOP, read, table
 
 HEADER, SUMS = "include/linkwire.h", "dist/SUMS"
 PLACES = [(files, constant, re.compile(form, re.M))
@@ -24,11 +24,6 @@ PLACES = [(files, constant, re.compile(form, re.M))
 # a program that says its version, anywhere but in what tells of older ones
 ANYWHERE = re.compile(r"\blink(?:wire|show|state|dump|diff|watch)[ -]v?(\d+\.\d+\.\d+)")
 OLDER = {"CHANGELOG.md", "docs/DECISIONS.md"}
-
-
-def read(file):
-    with open(f"{TOP}/{file}", encoding="utf-8", errors="replace") as it:
-        return it.read()
 
 
 def main():
@@ -41,13 +36,10 @@ def main():
     places += [(file, "VERSION", ANYWHERE.findall(text)) for file, text in texts.items() if file not in OLDER]
     wrong = {f"{file}: {constant} is {it}, not {wanted[constant]}"
              for file, constant, found in places for it in found if it != wanted[constant]}
-    for it in sorted(wrong):
-        print(it)
     if wrong:
-        return 1
+        return "\n".join(sorted(wrong))
     count = sum(len(found) for *_, found in places)
-    print(f"version: {count} places are as {HEADER} and {SUMS} have it: {wanted['VERSION']}")
-    return 0
+    return print(f"version: {count} places are as {HEADER} and {SUMS} have it: {wanted['VERSION']}")
 
 
 if __name__ == "__main__":

@@ -1,16 +1,13 @@
 #!/usr/bin/env bash
-# Looks at the symbols of the libraries for programs in C, compiles the header in each language, and runs the tests of
-# tests/c, the laws, the examples on the running kernel, and what holds of state encodings there: c_tests.sh ARCHIVE
-# [FOLDER..]. The shared library is beside the archive; the folders have the programs linkdump and linkdiff, without
-# them it is that of the archive. With LONG=1 in the environment the kernel's links are polled for a minute. The last
-# line is 'c tests passed'.
+# Holds the libraries for programs in C to the header, and runs tests/c, the laws, and what needs the running kernel:
+# c_tests.sh ARCHIVE [FOLDER..]. The shared library is beside the archive; the folders, else that of the archive, have
+# linkdump and linkdiff. LONG=1 in the environment polls the kernel's links for a minute.
 self='c tests'
 . "$(dirname "$0")/../common.sh"
 library=$(realpath "$1")
 shared=${library%.a}.so.0
-warnings=(-Wall -Wextra -Wpedantic -Wconversion -Wshadow -Werror -I"$top/include")
 
-# What a library defines for others, one name a line.
+# names WORD.. LIBRARY: what it defines for others
 names() {
     nm --defined-only --extern-only --format=posix "$@" | awk 'NF > 1 { print $1 }' | sort
 }
@@ -23,47 +20,35 @@ done
 packed=$(sed -n 's/^ \(linkwire_.*\)@Base .*/\1/p' "$top/debian/liblinkwire0.symbols" | sort)
 [ "$packed" = "$declared" ] || fails 'debian/liblinkwire0.symbols has other names than the header declares'
 
-# Compiles the header's own program as a language, by each compiler of it that is there, and runs it.
+# header COMPILER:STANDARD FLAG..: compiles the header's own program, and runs it, where the compiler is there
 header() {
-    for compiler in "${@:2}"; do
-        command -v "$compiler" >/dev/null || continue
-        "$compiler" "${warnings[@]}" -std="$1" -o "$folder/header" \
-            -x "${1%[0-9][0-9]}" "$top/tests/c/header.c" -x none "$library"
-        "$folder/header"
-    done
+    local standard=${1#*:}
+    command -v "${1%:*}" >/dev/null || return 0
+    "${1%:*}" -std="$standard" -Werror "${@:2}" -I"$top/include" -o "$folder/header" \
+        -x "${standard%[0-9][0-9]}" "$top/tests/c/header.c" -x none "$library"
+    "$folder/header"
 }
+warnings=(-Wall -Wextra -Wpedantic -Wconversion -Wshadow)
+for it in {gcc,clang}:{c99,c11} {g,clang}++:c++17; do
+    header "$it" "${warnings[@]}"
+done
+header g++:c++11 "${warnings[@]}" -Wold-style-cast -Wuseless-cast -Wzero-as-null-pointer-constant
+# all that clang says, but for what no code can change: spaces in structs, and what older standards lack
+for it in clang:{c99,c11} clang++:c++{11,20}; do
+    header "$it" -Weverything -Wno-unknown-warning-option -Wno-padded -Wno-c++98-compat -Wno-c++98-compat-pedantic \
+        -Wno-unsafe-buffer-usage -Wno-declaration-after-statement -Wno-pre-c11-compat
+done
 
-# What clang says by -Weverything of the header, but for what no code can change: spaces in structs, and what older
-# standards lack.
-everything() {
-    local compiler
-    for compiler in "${@:2}"; do
-        command -v "$compiler" >/dev/null || continue
-        "$compiler" -Weverything -Werror -Wno-unknown-warning-option -Wno-padded -Wno-c++98-compat \
-            -Wno-c++98-compat-pedantic -Wno-unsafe-buffer-usage -Wno-declaration-after-statement -Wno-pre-c11-compat \
-            -std="$1" -I"$top/include" -fsyntax-only -x "${1%[0-9][0-9]}" "$top/tests/c/header.c"
-    done
-}
-everything c99 clang
-everything c11 clang
-everything c++11 clang++
-everything c++20 clang++
-header c99 gcc clang
-header c11 gcc clang
-header c++17 g++ clang++
-warnings+=(-Wold-style-cast -Wuseless-cast -Wzero-as-null-pointer-constant)
-header c++11 g++
-
+flags=(-std=c11 -O1 -Wall -Wextra -Wpedantic -Wshadow -Werror -I"$top/include")
 for test in "$top"/tests/c/*.c; do
-    program="$folder/$(basename "$test" .c)"
-    [ "${program##*/}" != laws ] || continue
-    flags=(-std=c11 -O1 -Wall -Wextra -Wpedantic -Wshadow -Werror -I"$top/include")
+    name=$(basename "$test" .c)
+    program=$folder/$name
+    [ "$name" != laws ] || continue
     ${CC:-cc} "${flags[@]}" -o "$program" "$test" "$library"
     "$program"
     # memory.c has an allocator of its own
-    [ "${program##*/}" != memory ] || continue
-    sanitized=(-fsanitize=address -fsanitize=undefined -fno-sanitize-recover=all)
-    if ${CC:-cc} "${flags[@]}" "${sanitized[@]}" -o "$program" "$test" "$library" 2>"$folder/log"; then
+    if [ "$name" != memory ] && ${CC:-cc} "${flags[@]}" "${sanitizers[@]}" -o "$program" "$test" "$library" 2>"$log"
+    then
         "$program"
     fi
 done

@@ -10,6 +10,7 @@ with the next one and with a damaged one, as states and as they are, strictly an
 is built. The last line is 'call_answers: ok'.
 """
 
+import fileinput
 import os
 import random
 import re
@@ -28,7 +29,6 @@ ORDERS = {0: "6.14", 1: "6.12.3", 2: "6.18"}
 FLAGS = {1: "--lenient", 2: "--counters"}
 LONGEST = 1 << 19
 DAMAGED = 4
-FAMILY, INDEX = slice(0, 1), slice(4, 8)
 # linkdiff passes over a message with a name and IFLA_WIRELESS alone
 WIRELESS = 11
 # an attribute IFLA_EVENT, which neither compares
@@ -38,12 +38,9 @@ OTHER = "another interface"
 
 def lines_of(files):
     """The digits of each line that has some."""
-    for file in files:
-        with open(file, "rb") as it:
-            for line in it:
-                words = line.split()
-                if words and re.fullmatch(rb"([0-9a-fA-F]{2})+", words[-1]) and len(words[-1]) <= LONGEST:
-                    yield words[-1].lower().decode()
+    for words in map(bytes.split, fileinput.input(files, mode="rb")):
+        if words and re.fullmatch(rb"([0-9a-fA-F]{2})+", words[-1]) and len(words[-1]) <= LONGEST:
+            yield words[-1].lower().decode()
 
 
 def options(flags):
@@ -73,10 +70,8 @@ def unannounced(digits):
 
 def of_one_interface(old, new):
     """The new message with the family and the index of the old one."""
-    made = bytearray(new)
-    if len(new) >= HEADER_SIZE <= len(old):
-        made[FAMILY], made[INDEX] = old[FAMILY], old[INDEX]
-    return bytes(made)
+    is_whole = len(new) >= HEADER_SIZE <= len(old)
+    return old[:1] + new[1:4] + old[4:8] + new[8:] if is_whole else new
 
 
 def pairs_of(lines, chance):

@@ -1,21 +1,11 @@
 #!/usr/bin/env bash
 # Compares what other compilers make of the programs and of the library with what tests/second has stored, which is what
-# LLVM's answer, byte for byte, on its lines with each option: compilers.sh [--library] MADE [FOLDER]. MADE has the
-# programs, or the library. The toolchain's own compiler made crates/NAME/out/NAME.by-rattle in the gate, and
-# scripts/make/dist.sh has it make crates/link_c/out/liblink_c.by-rattle.a; with FOLDER both are there. rustc makes the
-# library that rust/capi has, and scripts/test/erased_tests.sh the programs. What was not built is 'skipped'.
+# LLVM's answer: compilers.sh [--library] MADE [FOLDER]. MADE has the programs, or the library. FOLDER has
+# NAME.by-rattle of the toolchain's own compiler, else crates/NAME/out has, where the gate and `dist.sh --by-rattle`
+# left it. rustc makes the library that rust/capi has, and erased_tests.sh the programs.
 . "$(dirname "$0")/../common.sh"
 cd "$top"
-is_library=
-if [ "$1" = --library ]; then
-    is_library=yes
-    shift
-fi
-
-# links FILE WORD..: the lines, with a library or alone
-links() {
-    "${CC:-cc}" -std=gnu11 -O2 -Iinclude -o "$folder/$1" tests/second/lines.c "${@:2}"
-}
+own="the toolchain's compiler"
 
 # same WHO SET NAME FILE: what is read is what FILE has of this name
 same() {
@@ -26,33 +16,33 @@ same() {
 # each takes two minutes of the processor's time at most
 ulimit -t 120
 of_programs() {
-    local name other set it by="the toolchain's compiler"
+    local name other set it
     mkdir "$folder/by"
     for name in linkwire linkstate linkshow linkdiff; do
         other=${2:-crates/$name/out}/$name.by-rattle
         if [ ! -x "$other" ]; then
-            echo "compilers: $name: skipped: the gate has not built it a second time"
+            lacks "$name: the gate has not built it a second time"
             other=$1/$name
         fi
         ln -s "$(realpath "$other")" "$folder/by/$name"
     done
-    links lines -DLINES_ALONE
+    makes_lines -DLINES_ALONE
     for set in all digits more mixed; do
         "$folder/lines" "$set" >"$folder/set"
         for it in linkwire linkstate 'linkstate --lenient' linkshow; do
             # shellcheck disable=SC2086
-            "$folder/by/"$it <"$folder/set" | same "$by" "$set" "${it/ -/}" stored
+            "$folder/by/"$it <"$folder/set" | same "$own" "$set" "${it/ -/}" stored
         done
     done
     tests/second/held.sh "$folder/by" >"$folder/held"
-    grep -v '^#\|^held ' tests/second/held.txt | diff - "$folder/held" >&2 || fails "$by makes another one of it"
-    echo "compilers: by $by: linkshow and linkdiff: $(wc -l <"$folder/held") sums: the same"
+    grep -v '^#\|^held ' tests/second/held.txt | diff - "$folder/held" >&2 || fails "$own makes another one of it"
+    echo "compilers: by $own: linkshow and linkdiff: $(wc -l <"$folder/held") sums: the same"
 }
 
-# calls WHO WORD..: the calls of a library that another compiler made
+# calls WHO LIBRARY WORD..: the calls of a library that another compiler made
 calls() {
     local set
-    links lines "${@:2}"
+    makes_lines "${@:2}"
     for set in all more mixed; do
         "$folder/lines" "$set" calls | same "$1" "$set" calls stored
         "$folder/lines" "$set" held | same "$1" "$set" held held
@@ -60,21 +50,19 @@ calls() {
 }
 
 of_library() {
-    local own=${1:-crates/link_c/out}/liblink_c.by-rattle.a
-    if [ ! -e "$own" ]; then
-        echo "compilers: the library by the toolchain's compiler: skipped: it has not been built"
+    local library=${2:-crates/link_c/out}/liblink_c.by-rattle.a
+    if [ -e "$library" ]; then
+        calls "$own" "$library" dist/heap.c
     else
-        calls "the toolchain's compiler" "$own" dist/heap.c
+        lacks "the library by $own: it has not been built"
     fi
-    if [ ! -e rust/capi/Cargo.toml ] || ! command -v cargo >/dev/null; then
-        echo 'compilers: the library by rustc: skipped: there is no rust/capi, or no cargo'
-    else
+    if [ -e rust/capi/Cargo.toml ] && has 'the library by rustc' cargo; then
         CARGO_NET_OFFLINE=true runs cargo build --release --manifest-path rust/capi/Cargo.toml --target-dir out/capi
         calls rustc out/capi/release/liblinkwire.a -lgcc_s -lpthread -ldl -lm
     fi
 }
 
-if [ "$is_library" ]; then
+if [ "$1" = --library ]; then
     of_library "${@:2}"
 else
     of_programs "$@"

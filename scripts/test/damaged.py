@@ -119,14 +119,13 @@ def refused_as(at, line, answer):
     (_, kind, payload), = frames(bytes.fromhex(line))[0]
     holder = HOLDERS.get(kind & 0x3FFF, "")
     told = {"at": alone["at"], "fault": alone["fault"]}
-    told |= {it: alone[it] for it in ("got", "need", "want", "left", "length") if it in alone}
-    told["offset"] = alone["offset"] - HEADER_SIZE + at
+    for name, value in alone.items():       # numbers in the order of the answer
+        if name in ("got", "need", "want", "left", "length", "offset"):
+            told[name] = value - HEADER_SIZE + at if name == "offset" else value
     if alone["offset"] > HEADER_SIZE and alone["at"] != holder:
         told["in"] = holder.removeprefix("IFLA_").lower().replace("_", "-")
     told["payload"] = payload.hex()
-    # numbers in the order of the answer
-    order = [it for it in ("at", "fault", *alone, "in", "payload") if it in told]
-    return json.dumps({it: told[it] for it in dict.fromkeys(order)}, separators=(",", ":")).encode()
+    return json.dumps(told, separators=(",", ":")).encode()
 
 
 def leniently(show, lines, shown):

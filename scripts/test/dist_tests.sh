@@ -1,28 +1,21 @@
 #!/usr/bin/env bash
 # Builds copies of the tree from dist/ alone, with the toolchain off the path and hidden by a mount where that is
-# allowed, and runs them: here, under qemu-aarch64, on an old processor by qemu-x86_64, statically with musl, from the
-# archive of a release and from Debian's packages. What is not installed is 'skipped'. The last line is 'dist passed'.
-self=dist
+# allowed, and runs them: here, by qemu, with musl, from the archive of a release and from Debian's packages.
 . "$(dirname "$0")/../common.sh"
 if [ -z "$inside" ]; then
-    rt=$(command -v rt || true)
+    rt=$(command -v rt || true) hiding=()
     mkdir "$folder/empty"
     copies_tree "$folder/tree"
-    command=("$0" --inside "$folder")
-    if [ -n "$rt" ]; then
-        hidden="mount --bind '$folder/empty' '$(dirname "$(dirname "$(readlink -f "$rt")")")'"
-        if unshare -rm sh -c "$hidden" 2>/dev/null; then
-            command=(unshare -rm sh -c "$hidden && exec \"\$@\"" sh "${command[@]}")
-        else
-            lacks 'the toolchain hidden by a mount: it is not allowed here'
-        fi
+    hidden="mount --bind '$folder/empty' '$(dirname "$(dirname "$(readlink -f "$rt")")")'"
+    if [ -n "$rt" ] && unshare -rm sh -c "$hidden" 2>/dev/null; then
+        hiding=(unshare -rm sh -c "$hidden && exec \"\$@\"" sh)
+    elif [ -n "$rt" ]; then
+        lacks 'the toolchain hidden by a mount: it is not allowed here'
     fi
-    "${command[@]}"
+    "${hiding[@]}" "$0" --inside "$folder"
     exit
 fi
-if command -v rt >/dev/null; then
-    fails 'rt is in reach'
-fi
+! command -v rt >/dev/null || fails 'rt is in reach'
 cd "$folder/tree"
 read -ra programs <<<"$(sed -n 's/^PROGRAMS = //p' dist/Makefile)"
 
@@ -54,16 +47,10 @@ answer=$(echo 00000000000000000000000000000000060003006c6f | make -s run)
 [ "$answer" = 'ok 00000000000000000000000000000000070003006c6f0000' ]
 make -s build lib >/dev/null
 tests here
-# hardens WHAT FOLDER [LIBRARY]
-hardens() {
-    scripts/test/hardened.sh "${@:2}" >/dev/null
-    echo "dist: $1: hardened: ok"
-}
-hardens here out
-if has 'files that do not block, page faults' python3; then
-    python3 tests/program/waits.py out "${programs[@]}" | sed 's/^/dist: /'
-    python3 tests/program/faults.py out "${programs[@]}" | sed 's/^/dist: /'
-fi
+scripts/test/hardened.sh out
+for it in waits faults; do
+    python3 "tests/program/$it.py" out "${programs[@]}" | sed 's/^/dist: /'
+done
 scripts/test/laws.sh out/liblinkwire.a 50000 | sed 's/^/dist: sanitizers: /'
 python3 scripts/test/readme.py out/liblinkwire.a out
 scripts/test/test_install.sh
@@ -86,7 +73,7 @@ if has aarch64 qemu-aarch64 $gnu-gcc $gnu-ld $gnu-objcopy $gnu-ar; then
     another aarch64
     make -s CC=$gnu-gcc LD=$gnu-ld OBJCOPY=$gnu-objcopy AR=$gnu-ar PCAP= all
     CC=$gnu-gcc RUN="qemu-aarch64 -L /usr/$gnu" TESTS=$few tests aarch64
-    hardens aarch64 out
+    scripts/test/hardened.sh out
     dumps aarch64 qemu-aarch64 -L /usr/$gnu out/linkdump
 fi
 
@@ -100,21 +87,14 @@ cd "$folder/$(basename "$file" .tar.gz)"
 make -s install DESTDIR="$folder/stage"
 make -s uninstall DESTDIR="$folder/stage"
 [ -z "$(find "$folder/stage" ! -type d)" ]
-if has 'the archive: the package for Python' python3; then
-    python3 -B python/backend.py "$folder" >/dev/null
-fi
-make -s check >"$folder/log"
-tail -n 1 "$folder/log" | grep -qx 'self-test passed'
+python3 -B python/backend.py "$folder" >/dev/null
+runs make -s check
+tail -n 1 "$log" | grep -qx 'self-test passed'
 cp dist/heap.c "$folder/heap.c"
 echo '/* changed */' >>dist/heap.c
-# told TEXT COMMAND..: it fails, and says that
-told() {
-    tries "${@:2}"
-    { [ "$status" != 0 ] && grep -q "$1" "$folder/err"; } || fails "the archive: '$1' is not told"
-}
-told 'a file is not that of dist/SUMS' make -s check
+fails_with 'a file is not that of dist/SUMS' make -s check
 cp "$folder/heap.c" dist/heap.c
-told 'the crates, which are not in this archive' make -s PROVE=1
+fails_with 'the crates, which are not in this archive' make -s PROVE=1
 echo 'dist: the archive: the same bytes twice, built, tested, installed: ok'
 
 if has packages dpkg-buildpackage dh dh_python3 pkg-config; then
@@ -136,13 +116,11 @@ if has packages dpkg-buildpackage dh dh_python3 pkg-config; then
         cp "$folder/root/usr/bin/$program" out/
     done
     TESTS=header tests 'the programs of the packages'
-    hardens 'the programs of the packages' "$folder/root/usr/bin" "$lib/liblinkwire.so.0"
+    scripts/test/hardened.sh "$folder/root/usr/bin" "$lib/liblinkwire.so.0"
     "$folder/root/usr/bin/linkdump" --version >/dev/null
     export PYTHONPATH=$folder/root/usr/lib/python3/dist-packages LD_LIBRARY_PATH=$lib PYTHONDONTWRITEBYTECODE=1
-    if has 'packages: python3-linkwire' python3; then
-        python3 -c 'import linkwire; linkwire.check(linkwire.build([(3, "lo")]))'
-        "$folder/root/usr/bin/linkwatch" --version >/dev/null
-    fi
+    python3 -c 'import linkwire; linkwire.check(linkwire.build([(3, "lo")]))'
+    "$folder/root/usr/bin/linkwatch" --version >/dev/null
     echo 'dist: packages: the same bytes twice, unpacked and used by pkg-config: ok'
     if has 'packages: lintian' lintian; then
         tries lintian --no-cfg --display-info "$folder"/deb/*.deb

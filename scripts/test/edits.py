@@ -9,10 +9,9 @@
 A list has lines '# ..' at its head, then groups and edits with an empty line between them. A group is a line
 '== TITLE'. An edit is a headline in plain words, of 120 characters at most and in no other edit's words, a line
 'file: PATH' with a file of the crate, and pairs of lines 'old: TEXT' and 'new: TEXT', where the old text stands once in
-the file; further pairs, and further files, may follow. A text goes on
-in lines that begin with eight blanks, which are one blank in it. Each edit is written to FOLDER/NAME.edit, where NAME
-is its headline with _ between the words. With WORDS only those files stay in FOLDER whose name has these words, next
-to each other.
+the file; further pairs, and further files, may follow. A text goes on in lines that begin with eight blanks, which are
+one blank in it. Each edit is written to FOLDER/NAME.edit, where NAME is its headline with _ between the words. With
+WORDS only those files stay in FOLDER whose name has these words, next to each other.
 
 --fit says which edits of the lists (of all lists and of the gate's, in must-fail/, where none is named) do not fit
 their crate's files any more; where none is named, also whether the table of edits/README.md is as --table makes it,
@@ -23,18 +22,18 @@ and stays there.
 --apply makes one edit in the files of a crate's folder.
 """
 
-import glob
 import os
 import re
 import sys
+from pathlib import Path
 
-TOP = os.path.dirname(os.path.dirname(os.path.dirname(os.path.abspath(__file__))))
-PAGE = f"{TOP}/edits/README.md"
+TOP = Path(__file__).resolve().parents[2]
+PAGE = TOP / "edits/README.md"
 MADE = re.compile(r"(?<=<!-- made by scripts/test/edits.py --table -->\n).*?(?=<!-- made: end -->\n)", re.S)
 TABLE = "| edit | stands in | goal that stays open | tried in |\n|---|---|---|---|\n"
 NO_GOAL = "?"
+FIRST = "== the first to try\n"
 GROUP = re.compile(r"== \S.*\n")
-FIRST = re.compile(r"(?<=\n== the first to try\n\n).*?(?=\n== |\Z)", re.S)
 EDIT = re.compile(r"(?!file:|old:|new:|[#=])(?=.*[a-zA-Z0-9]).{1,120}\n"
                   r"(file: (src|specs|proofs)/\S+\n(old: .*\S.*\nnew:( .*)?\n)+)+")
 FORM = "an edit below a group is its headline, and then lines 'file: PATH' with pairs of lines 'old: TEXT', 'new: TEXT'"
@@ -46,15 +45,9 @@ def name_of(headline):
 
 def text_of(path):
     try:
-        with open(path, encoding="utf-8") as it:
-            return it.read()
+        return Path(path).read_text("utf-8")
     except (OSError, UnicodeDecodeError) as error:
         sys.exit(f"{path}: it cannot be read: {error}")
-
-
-def write(path, text):
-    with open(path, "w", encoding="utf-8") as it:
-        it.write(text)
 
 
 def lines_of(edit):
@@ -62,41 +55,40 @@ def lines_of(edit):
 
 
 def read(path):
-    """Returns the edits of a list, as headline and lines, or stops and says which is not of the form."""
-    text = text_of(path) + "\n"
-    edits, groups, faults = {}, {}, []
+    """Returns the edits of a list, as group, headline and lines, or stops and says which is not of the form."""
+    text, edits, groups, faults = text_of(path) + "\n", {}, [], []
     for found in re.finditer(r"(?:.+\n)+", text):
         paragraph = found[0].replace("\n" + " " * 8, " ")
         where = f"{path}:{text.count(chr(10), 0, found.start()) + 1}"
         if GROUP.fullmatch(paragraph):
             if paragraph in groups:
                 faults.append(f"{where}: there is another group of this title")
-            groups[paragraph] = len(edits)
+            groups.append(paragraph)
         elif groups or not re.fullmatch("(#.*\n)+", paragraph):
             headline, *lines = paragraph.rstrip("\n").split("\n")
             if not groups or not EDIT.fullmatch(paragraph):
                 faults.append(f"{where}: {FORM}")
             if name_of(headline) in edits:
                 faults.append(f"{where}: another edit has a headline in these words: {headline}")
-            edits[name_of(headline)] = headline, lines
-    if len({*groups.values(), len(edits)}) <= len(groups):
+            edits[name_of(headline)] = groups[-1] if groups else "", headline, lines
+    if not {*groups} <= {group for group, *_ in edits.values()}:
         faults.append(f"{path}: a group has no edit")
     if faults or not edits:
         sys.exit("\n".join(faults) or f"{path}: it has no edit")
-    return list(edits.values())
+    return [*edits.values()]
 
 
 def take_apart(path, folder, words=""):
-    edits = read(path)
-    os.makedirs(folder, exist_ok=True)
-    for headline, lines in edits:
-        file = f"{folder}/{name_of(headline)}.edit"
-        if os.path.exists(file):
+    folder = Path(folder)
+    folder.mkdir(parents=True, exist_ok=True)
+    for _, headline, lines in read(path):
+        file = folder / f"{name_of(headline)}.edit"
+        if file.exists():
             sys.exit(f"{path}: there is a file of this name already, so word the headline anew: {headline}")
-        write(file, "\n".join(lines) + "\n")
-    for file in glob.glob(f"{folder}/*.edit"):
-        if f"_{name_of(words)}" not in f"_{os.path.basename(file)}":
-            os.remove(file)
+        file.write_text("\n".join(lines) + "\n", "utf-8")
+    for file in folder.glob("*.edit"):
+        if f"_{name_of(words)}" not in f"_{file.name}":
+            file.unlink()
 
 
 def edited(lines, crate):
@@ -106,25 +98,25 @@ def edited(lines, crate):
         key, _, text = line.partition(":")
         text = text[1:]
         if key == "file":
-            path = text
-            if not os.path.isfile(f"{crate}/{path}"):
-                return texts, f"there is no file {path}"
-            texts.setdefault(path, text_of(f"{crate}/{path}"))
+            path = crate / text
+            if not path.is_file():
+                return texts, f"there is no file {text}"
+            texts.setdefault(path, text_of(path))
         elif key == "old":
             old, count = text, texts[path].count(text)
             if count != 1:
-                return texts, f"this text is in {path} {count} times, and not once: {text.strip()[:80]}"
+                return texts, f"this text is in {path.relative_to(crate)} {count} times, and not once: " \
+                    f"{text.strip()[:80]}"
         else:
             texts[path] = texts[path].replace(old, text)
     return texts, None
 
 
 def apply(edit, crate):
-    texts, why = edited(lines_of(edit), crate)
-    if why:
-        sys.exit(f"{edit}: {why}")
-    for path, text in texts.items():
-        write(f"{crate}/{path}", text)
+    texts, why = edited(lines_of(edit), Path(crate))
+    for path, text in {} if why else texts.items():
+        path.write_text(text, "utf-8")
+    return why and f"{edit}: {why}"
 
 
 # ** the table of edits/README.md
@@ -132,8 +124,7 @@ def apply(edit, crate):
 def owner(text, at):
     """Returns the function, the named type or the macro of a file in which a place of it stands, as `Type::name` or
     `name`."""
-    end = text.find("\n", at)
-    head = text[: end if end >= 0 else len(text)]
+    head = text[:at] + text[at:].partition("\n")[0]
     items = re.findall(r"^( *)(?:pub(?:\(crate\))? )?(?:const )?(?:final )?(?:fn|type) (\w+)|^()macro_rules! (\w+)",
                        head, re.M)
     if not items:
@@ -145,30 +136,34 @@ def owner(text, at):
 
 def places(lines, crate):
     """Returns the functions in which the old texts of an edit stand."""
-    found, path = set(), ""
+    found, path = set(), crate
     for line in lines:
         key, _, text = line.partition(": ")
         if key == "file":
-            path = text
-        elif key == "old" and os.path.isfile(f"{crate}/{path}"):
-            source = text_of(f"{crate}/{path}")
+            path = crate / text
+        elif key == "old" and path.is_file():
+            source = text_of(path)
             found.add(owner(source, source.find(text)))
     return ", ".join(f"`{it}`" for it in sorted(found) if it)
+
+
+def gates():
+    """Yields the folder of each crate's edits of the gate."""
+    return sorted(TOP.glob("crates/*/must-fail"))
 
 
 def edits_to_list():
     """Yields the edits that the gate and `make check` try, and those that lists have to be tried first: where, name,
     and the functions that hold their texts."""
-    for path in sorted(glob.glob(f"{TOP}/crates/*/must-fail/*.edit")):
-        crate = os.path.dirname(os.path.dirname(path))
-        yield os.path.basename(crate), f"`{os.path.basename(path)[: -len('.edit')]}`", places(lines_of(path), crate)
-    for path in sorted(glob.glob(f"{TOP}/edits/*.txt")):
-        for paragraph in "".join(FIRST.findall(text_of(path))).split("\n\n"):
-            headline, *lines = paragraph.strip("\n").split("\n")
-            if lines:
-                yield f"edits/{crate_name(path)}", headline, places(lines, crate_of(path))
-    for path in sorted(glob.glob(f"{TOP}/tests/edits/*.txt")):
-        for headline, lines in read(path):
+    for folder in gates():
+        for path in sorted(folder.glob("*.edit")):
+            yield folder.parent.name, f"`{path.stem}`", places(lines_of(path), folder.parent)
+    for path in sorted(TOP.glob("edits/*.txt")):
+        for group, headline, lines in read(path):
+            if group == FIRST:
+                yield f"edits/{path.stem}", headline, places(lines, crate_of(path))
+    for path in sorted(TOP.glob("tests/edits/*.txt")):
+        for _, headline, lines in read(path):
             yield "tests/edits", headline, places(lines, crate_of(path))
 
 
@@ -184,49 +179,49 @@ def page_as_made():
 
 # ** what fits
 
-def crate_name(path):
-    return os.path.basename(path).removesuffix(".txt")
-
-
 def crate_of(path):
-    return f"{TOP}/crates/{crate_name(path)}"
+    return TOP / "crates" / Path(path).stem
 
 
-def unfit(title, crate, edits):
+def unfit(path, crate, edits):
     """Prints which edits, pairs of a name and lines, do not fit, and returns how many."""
     bad = [(name, why) for name, lines in edits for why in [edited(lines, crate)[1]] if why]
     for name, why in bad:
-        print(f"{os.path.basename(crate)}: {name}: {why}")
-    print(f"{title}: {len(edits)} edits, {len(bad)} do not fit")
+        print(f"{crate.name}: {name}: {why}")
+    print(f"{os.path.relpath(path, TOP)}: {len(edits)} edits, {len(bad)} do not fit")
     return len(bad)
 
 
-def fit(paths):
+def unfit_page():
+    """Prints in what the page of edits is not as it is made, and returns how many rows."""
+    page, made = page_as_made()
+    wrong = [f"no goal: {row}" for row in made.split("\n") if f" | {NO_GOAL} | " in row]
+    wrong += ["it is not as 'python3 scripts/test/edits.py --table' makes it"] * (page != made)
+    for line in wrong:
+        print(f"{PAGE.relative_to(TOP)}: {line}")
+    return len(wrong)
+
+
+def fit(*paths):
     failed = 0
     if not paths:
-        page, made = page_as_made()
-        missing = [f"no goal: {row}" for row in made.split("\n") if f" | {NO_GOAL} | " in row]
-        missing += ["it is not as 'python3 scripts/test/edits.py --table' makes it"] if page != made else []
-        failed = len(missing)
-        for line in missing:
-            print(f"{os.path.relpath(PAGE, TOP)}: {line}")
-        for folder in sorted(glob.glob(f"{TOP}/crates/*/must-fail")):
-            failed += unfit(os.path.relpath(folder, TOP), os.path.dirname(folder),
-                            [(os.path.basename(it), lines_of(it)) for it in sorted(glob.glob(f"{folder}/*.edit"))])
-    for path in paths or sorted(glob.glob(f"{TOP}/edits/*.txt") + glob.glob(f"{TOP}/tests/edits/*.txt")):
-        failed += unfit(os.path.relpath(path, TOP), crate_of(path), read(path))
-    return 1 if failed else 0
+        failed = unfit_page()
+        failed += sum(unfit(it, it.parent, [(edit.name, lines_of(edit)) for edit in sorted(it.glob("*.edit"))])
+                      for it in gates())
+    for path in paths or sorted(TOP.glob("edits/*.txt")) + sorted(TOP.glob("tests/edits/*.txt")):
+        failed += unfit(path, crate_of(path), [edit[1:] for edit in read(path)])
+    return int(failed > 0)
 
 
 def main(words):
     if words[:1] == ["--fit"]:
-        return fit(words[1:])
+        return fit(*words[1:])
     if words == ["--table"]:
-        return write(PAGE, page_as_made()[1])
+        return PAGE.write_text(page_as_made()[1], "utf-8") and None
     if words[:1] == ["--apply"] and len(words) == 3:
-        return apply(words[1], words[2])
+        return apply(*words[1:])
     if len(words) not in (2, 3) or words[0].startswith("-"):
-        sys.exit(__doc__)
+        return __doc__
     return take_apart(*words)
 
 

@@ -1,7 +1,7 @@
 #!/usr/bin/env bash
-# Fuzzes by AFL++, where it is installed, the library's text with the laws of tests/fuzz/library.c, and linkdump's
-# reader of captures with sanitizers, each for so many seconds: fuzz.sh SECONDS. The seeds are the messages of
-# tests/kernels and what tests/fuzz/corpus.txt has. What fails is left in out/fuzz, and its bytes are told.
+# Fuzzes by AFL++ the library's text with the laws of tests/fuzz/library.c, and linkdump's reader of captures with
+# sanitizers, each for so many seconds: fuzz.sh SECONDS. The seeds are the messages of tests/kernels and what
+# tests/fuzz/corpus.txt has. What fails is left in out/fuzz, and its bytes are told.
 . "$(dirname "$0")/../common.sh"
 cd "$top"
 seconds=$1
@@ -37,8 +37,8 @@ runs "${compiler[@]}" -o "$folder/library.out" tests/fuzz/library.c "$folder/lin
 fuzzes library "$folder/library.out"
 
 read -ra pcap <<<"-DLINKDUMP_PCAP $(pkg-config --cflags --libs libpcap 2>/dev/null || echo -lpcap)"
-if ! "${compiler[@]}" -fsanitize=address,undefined -fno-sanitize-recover=all -o "$folder/linkdump.out" \
-    programs/linkdump*.c "${pcap[@]}" >"$log" 2>&1; then
+if ! "${compiler[@]}" "${sanitizers[@]}" -o "$folder/linkdump.out" programs/linkdump*.c "${pcap[@]}" >"$log" 2>&1
+then
     skips "captures: no libpcap, or no sanitizers: $(tail -n 1 "$log")"
 fi
 export ASAN_OPTIONS=abort_on_error=1:symbolize=0:detect_leaks=0 UBSAN_OPTIONS=abort_on_error=1:symbolize=0

@@ -1,8 +1,6 @@
 #!/usr/bin/env bash
 # Looks whether what is built is hardened: hardened.sh FOLDER [LIBRARY]. The programs lie in FOLDER, and so does the
-# shared library unless it is named. They are bound at their start and read-only after it; a program is loaded at any
-# place; no stack can be executed, and no code is written to. linkdump, which no proof covers, has a stack protector and
-# the C library's checked calls. The last line is 'hardened passed'.
+# shared library unless it is named. linkdump, which no proof covers, also has a stack protector and checked calls.
 . "$(dirname "$0")/../common.sh"
 read -ra programs <<<"$(sed -n 's/^PROGRAMS = //p' "$top/dist/Makefile")"
 
@@ -17,9 +15,8 @@ for it in "${programs[@]/#/$1/}" "$1/linkdump" "${2:-$1/liblinkwire.so.0}"; do
     wants "$it" '^ *GNU_RELRO ' 'its tables are not read-only'
     wants "$it" '\(FLAGS_1\) .*\bNOW\b' 'its tables are not bound at its start'
     wants "$it" '^ *GNU_STACK .* RW +0x' 'its stack can be executed'
-    if grep -E '^ *LOAD .* RWE |\((TEXTREL|RPATH|RUNPATH)\)' "$folder/said" >&2; then
+    ! grep -E '^ *LOAD .* RWE |\((TEXTREL|RPATH|RUNPATH)\)' "$folder/said" >&2 ||
         fails "$it: code can be written to, or comes from a folder of its own"
-    fi
     case ${it##*/} in
     linkdump)
         wants "$it" ' UND __stack_chk_fail' 'no stack protector'

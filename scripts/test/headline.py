@@ -98,7 +98,7 @@ def walk(starts, is_left_out):
 
 
 def of_headline():
-    return walk([START], lambda module, _: module.split(".")[0] in ("std", "bitflags") or module == PINNED)
+    return walk([START], lambda module, _: module.startswith(("std.", "bitflags.")) or module == PINNED)
 
 
 def size(found):
@@ -106,16 +106,23 @@ def size(found):
     return f"{len(found)} definitions of {sum(found.values())} lines"
 
 
+def hold_words(fails, page, sentences):
+    """Looks whether the page says these."""
+    plain = " ".join(page.split())
+    for it in sentences:
+        if it not in plain:
+            fails(f"it does not say '{it}'")
+
+
 def counts():
     """The sentences of the page that count something."""
     found = of_headline()
     listed = {it: lines for it, lines in found.items() if it[0].split(".")[0] in LISTS}
     rest = {it: lines for it, lines in found.items() if it not in listed}
-    files = {module for module, _ in rest}
-    numbers = [len(re.findall(r"^pub const \w+: u16 = ", read(f"crates/{it}/src/numbers.rt"), re.M)) for it in NUMBERS]
-    yield f"{size(rest)} in {len(files)} files"
-    yield size(listed)
-    yield f"{sum(numbers)} constants ({', '.join(f'{n} of `{it}`' for n, it in zip(numbers, NUMBERS))})"
+    numbers = {it: len(re.findall(r"^pub const \w+: u16 = ", read(f"crates/{it}/src/numbers.rt"), re.M))
+               for it in NUMBERS}
+    return [f"{size(rest)} in {len({module for module, _ in rest})} files", size(listed),
+            f"{sum(numbers.values())} constants ({', '.join(f'{n} of `{it}`' for it, n in numbers.items())})"]
 
 
 def spelled(text):
@@ -144,25 +151,19 @@ def hold(line, linkwire, linkshow):
 
 def show(found):
     """Prints the definitions, a file a line."""
-    files = {}
-    for (module, name), lines in found.items():
-        files.setdefault(module, []).append(f"{name} {lines}")
-    for module, names in files.items():
+    for module in dict.fromkeys(module for module, _ in found):
+        names = [f"{name} {lines}" for (there, name), lines in found.items() if there == module]
         print(f"crates/{module.replace('.', '/')}.antt: {', '.join(names)}")
 
 
 def main(linkwire="out/linkwire", linkshow="out/linkshow"):
-    page = read(PAGE)
-    plain = " ".join(page.split())
-    for it in counts():
-        if it not in plain:
-            fails(f"it does not say '{it}'")
+    page, counted = read(PAGE), counts()
+    hold_words(fails, page, counted)
     lines = [it for block in BLOCK.findall(page) for it in block.replace("->\n", "->").splitlines()
              if it and it[0] != "#"]
     for it in lines:
         hold(it, linkwire, linkshow)
-    print(f"headline: {len(lines)} examples, {'; '.join(counts())}")
-    print("headline: ok")
+    print(f"headline: {len(lines)} examples, {'; '.join(counted)}\nheadline: ok")
 
 
 if __name__ == "__main__":

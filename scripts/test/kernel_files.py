@@ -7,6 +7,7 @@ import re
 import subprocess
 import sys
 import tempfile
+from pathlib import Path
 
 try:
     import yaml
@@ -31,11 +32,6 @@ TYPES = {"char": "u8", "__u8": "u8", "__u16": "u16", "__u32": "u32", "__u64": "u
          "__s8": "s8", "__s16": "s16", "__s32": "s32", "__s64": "s64", "__be16": "be16", "__be32": "be32",
          "unsigned char": "u8", "unsigned short": "u16",
          "unsigned": "u32", "unsigned int": "u32", "int": "s32"}
-
-
-def read(path):
-    with open(path, encoding="utf-8") as file:
-        return file.read()
 
 
 class Headers:
@@ -133,10 +129,10 @@ class Kernel:
             self.yaml = next(filter(os.path.isfile, files), None)
             if self.yaml and not yaml:
                 sys.exit("kernel_tables: the kernel's files are there, and no python3-yaml to read rt_link.yaml")
-            spec = yaml.safe_load(read(self.yaml)) if self.yaml else {}
+            spec = yaml.safe_load(Path(self.yaml).read_text("utf-8")) if self.yaml else {}
             self.headers = Headers(self.header_texts(path))
-            self.code = {name: read(os.path.join(path, name)) for name in sorted(CODE)
-                         if os.path.isfile(os.path.join(path, name))}
+            self.code = {name: Path(path, name).read_text("utf-8") for name in sorted(CODE)
+                         if Path(path, name).is_file()}
         self.lists, self.structs, self.sets = {}, {}, {}
         for it in spec.get("definitions", []):
             self.define(it)
@@ -156,7 +152,8 @@ class Kernel:
         if not any(map(os.path.isfile, files)):
             files = [name.replace("include/uapi", INCLUDE) for name in HEADERS]
             files += glob.glob(INCLUDE + "/bits/socket.h") + glob.glob(INCLUDE + "/*/bits/socket.h")
-        return {re.sub(r".*/(linux|net|bits)/", "", name): read(name) for name in files if os.path.isfile(name)}
+        return {re.sub(r".*/(linux|net|bits)/", "", name): Path(name).read_text("utf-8")
+                for name in files if os.path.isfile(name)}
 
     @functools.cache
     def of_code(self, names):

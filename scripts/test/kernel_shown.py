@@ -74,24 +74,21 @@ def compare_parts(kind, rows, ours, report):
     """Fields of a record as name, place and what stands there."""
     fields = ours.records[kind][0]
     for (name, place, field), there in zip(rows, fields):
-        report.compare("names shown", "%s.%s" % (kind, name),
-                       ("name", name, kernel_name("%s.%s" % (kind, there.name))),
+        report.compare("names shown", f"{kind}.{name}", ("name", name, kernel_name(f"{kind}.{there.name}")),
                        ("place", int(place), there.offset), ("form", FIELDS[field], there.type))
     report.compare("names shown", kind, ("fields", len(rows), len(fields)))
 
 
 def compare_names(kind, rows, ours, report):
     """Names by their numbers or bits, or those of fields, in their order."""
-    if kind in ours.records:
-        fields = ["%s.%s" % (kind, it.name) for it in ours.records[kind][0]]
-        theirs = dict(enumerate(kernel_name(it) for it in fields if it not in OWN_FIELDS))
-    else:
-        theirs = {n: kernel_name("%s.%s" % (kind, it)) for it, n in ours.values[kind].items()}
+    named = enumerate(it.name for it in ours.records[kind][0]) if kind in ours.records else \
+        ((n, it) for it, n in ours.values[kind].items())
+    theirs = {n: kernel_name(f"{kind}.{it}") for n, it in named if f"{kind}.{it}" not in OWN_FIELDS}
     here = {int(row[0], 0): row[1] for row in rows} if len(rows[0]) == 2 else \
         {n: name for n, (name, *_) in enumerate(rows) if name}
     for n in here.keys() | {n for n in theirs if len(rows[0]) == 2 or n < len(rows)}:
         name = here.get(n, "none")
-        report.compare("names shown", "%s.%s" % (kind, name), ("name", name, theirs.get(n, "none")))
+        report.compare("names shown", f"{kind}.{name}", ("name", name, theirs.get(n, "none")))
 
 
 def compare_shown(ours, headers, report):
@@ -100,8 +97,8 @@ def compare_shown(ours, headers, report):
     found = dict(tables(ours.code(NAMES)))
     del found["KERNEL_NAMES"]   # those of MESSAGE in another spelling, as the proof says
     report.same_names("table of tables.rt", found, known)
-    for table, kind in ((it, known[it]) for it in found if it in known):
-        rows = found[table]
+    for table in filter(known.get, found):
+        kind, rows = known[table], found[table]
         if kind in ours.places:
             compare_places(kind, rows, ours, headers, report)
         elif rows[0][-1] in FIELDS:

@@ -17,8 +17,8 @@ import subprocess
 import sys
 import tempfile
 
-from headline import Module, show, size, walk
-from shared import attribute, read
+from headline import Module, hold_words, show, size, walk
+from shared import attribute, read, said
 
 PAGE = "docs/LINKDIFF.md"
 LINES, FRAMES = "message_diff.specs.", "frame_diff.specs."
@@ -59,12 +59,9 @@ def of_linkdiff():
 def count(found, page):
     """Holds the sentences of the page that count something to what is found, and returns them."""
     files = {module for module, _ in found}
-    said = f"{size(found)} in {len(files)} files", f"quotes {quotes(page, found)} of them as they stand"
-    plain = " ".join(page.split())
-    for it in [*said, *(f"`{file.split('.')[-1]}.antt`" for file in sorted(files))]:
-        if it not in plain:
-            fails(f"it does not say '{it}'")
-    return "; ".join(said)
+    counted = f"{size(found)} in {len(files)} files", f"quotes {quotes(page, found)} of them as they stand"
+    hold_words(fails, page, [*counted, *(f"`{file.split('.')[-1]}.antt`" for file in sorted(files))])
+    return "; ".join(counted)
 
 
 def quotes(page, found):
@@ -93,14 +90,9 @@ def spelled(line):
     return LINK.sub(digits, line)
 
 
-def text_of(value):
-    return json.dumps(value, separators=(",", ":"))
-
-
 def change(row):
-    if row["path"] == "state":
-        return "state"
-    return " ".join([row["path"], *[text_of(row[it]) if it in row else "-" for it in ("old", "new")]])
+    texts = [json.dumps(row[it], separators=(",", ":")) if it in row else "-" for it in ("old", "new")]
+    return " ".join([row["path"], *texts] if row["path"] != "state" else ["state"])
 
 
 def told(line):
@@ -118,9 +110,7 @@ def told(line):
 def runs(linkdiff, words, lines):
     """What is told of lines, by the number of the line that brings it."""
     out = [[] for _ in lines]
-    text = "".join(f"time={at} {spelled(it)}\n" for at, it in enumerate(lines))
-    ran = subprocess.run([linkdiff, *words], input=text, capture_output=True, text=True, check=True)
-    for it in ran.stdout.splitlines():
+    for it in said(linkdiff, [f"time={at} {spelled(it)}" for at, it in enumerate(lines)], *words):
         out[int(json.loads(it)["time"])].append(told(it))
     return out
 
@@ -143,9 +133,8 @@ def hold(linkdiff, words, lines):
         lines, wanted = ["two files"], [wanted.removeprefix("-> ")]
     else:
         parts = [it.partition("->") for it in lines]
-        for line, arrow, _ in parts:
-            if not arrow:
-                fails(f"'{line}' has no arrow")
+        if no_arrow := [line for line, arrow, _ in parts if not arrow]:
+            fails(f"'{no_arrow[0]}' has no arrow")
         lines, wanted = [it[0].strip() for it in parts], [it[2].strip() for it in parts]
         found = runs(linkdiff, words, lines)
     for line, one, other in zip(lines, found, wanted):
@@ -172,8 +161,7 @@ def main(linkdiff="out/linkdiff"):
     page = read(PAGE)
     print(f"linkdiff page: {count(of_linkdiff(), page)}")
     held = streams(os.path.abspath(linkdiff), page)
-    print(f"linkdiff page: {held} lines of {len(STREAM.findall(page))} streams")
-    print("linkdiff page: ok")
+    print(f"linkdiff page: {held} lines of {len(STREAM.findall(page))} streams\nlinkdiff page: ok")
 
 
 if __name__ == "__main__":

@@ -1,9 +1,6 @@
 #!/usr/bin/env bash
-# Compiles linkdump by each compiler that is there, with every warning an error, with libpcap and without; runs it on
-# the running kernel and on captures, as it is built and with sanitizers; and holds its lines to what is there while
-# links come and go: linkdump_tests.sh [RUNS], of which 15 take some 20 seconds. What cannot be had is 'skipped'. The
-# last line is 'linkdump passed'.
-self=linkdump
+# Tests linkdump by each compiler that is there, with libpcap and without, on the running kernel and on captures, with
+# sanitizers too, and while links come and go: linkdump_tests.sh [RUNS], of which 15 take some 20 seconds.
 . "$(dirname "$0")/../common.sh"
 flags=(-std=gnu11 -D_GNU_SOURCE -Wall -Wextra -Wpedantic -Wconversion -Wshadow -Werror -I"$top/include")
 read -ra pcap <<< "-DLINKDUMP_PCAP $(pkg-config --cflags --libs libpcap 2>/dev/null || echo -lpcap)"
@@ -20,8 +17,8 @@ fi
 
 for compiler in gcc clang; do
     has 'a compiler' "$compiler" || continue
-    CC=$compiler builds "$compiler" -O2 "${pcap[@]}"
-    CC=$compiler builds "$compiler-without" -O0
+    CC=$compiler builds by -O2 "${pcap[@]}"
+    CC=$compiler builds by -O0
 done
 
 # without libpcap it says so, asks the kernel all the same, and needs the C library alone
@@ -35,7 +32,7 @@ tries "$folder/without" --read x
 
 builds linkdump -O2 "${pcap[@]}"
 sanitized=''
-if builds sanitized -O1 -g -fsanitize=address,undefined -fno-sanitize-recover=all "${pcap[@]}" 2>"$folder/err"; then
+if builds sanitized -O1 "${sanitizers[@]}" "${pcap[@]}" 2>"$folder/err"; then
     sanitized=$folder/sanitized
 else
     lacks "sanitizers: $(tail -n 3 "$folder/err")"
@@ -43,7 +40,6 @@ fi
 for program in "$folder/linkdump" ${sanitized:+"$sanitized"}; do
     "$top/tests/linkdump/live.sh" "$program"
 done
-has 'links that come and go, captures' python3 || { echo 'linkdump passed' && exit; }
 python3 "$top/tests/linkdump/hosts.py"
 linkdiff=$(program linkdiff)
 [ -n "$linkdiff" ] || lacks 'what linkdiff tells of links that come and go: it is not built'
@@ -53,10 +49,9 @@ elif has 'links that come and go' ip; then
     python3 "$top/tests/linkdump/churn.py" ${linkdiff:+--linkdiff "$linkdiff"} "$folder/linkdump" "${1:-15}"
 fi
 if [ "${#pcap[@]}" != 0 ]; then
-    python3 "$top/tests/linkdump/captures.py" "$folder/linkdump"
-    if [ -n "$sanitized" ]; then
-        python3 "$top/tests/linkdump/captures.py" "$sanitized"
-        python3 "$top/tests/linkdump/damaged.py" "$sanitized"
-    fi
+    for program in "$folder/linkdump" ${sanitized:+"$sanitized"}; do
+        python3 "$top/tests/linkdump/captures.py" "$program"
+    done
+    [ -z "$sanitized" ] || python3 "$top/tests/linkdump/damaged.py" "$sanitized"
 fi
 echo 'linkdump passed'

@@ -1,20 +1,33 @@
 #!/usr/bin/env bash
-# What can be said of the sources without a proof: the length of lines, versions, edits that no longer fit, shellcheck,
-# pyflakes, groff and mandoc over the manual pages, and of rust/ rustfmt, clippy and rustdoc, each where it is
-# installed. All are run, and any that finds something makes the status 1.
+# What can be said of the sources without a proof. All is run, and whatever finds something makes the status 1.
 . "$(dirname "$0")/../common.sh"
 cd "$top"
 mapfile -t shell < <(git ls-files '*.sh' .ci/run)
 mapfile -t python < <(git ls-files '*.py')
-says lines python3 scripts/test/lines.py
-says version python3 scripts/release/version.py
-says 'edits that fit' python3 scripts/test/edits.py --fit
-says 'rows beside' python3 scripts/test/rows.py
-where shellcheck 'shellcheck --version' shellcheck "${shell[@]}"
+status=0
+
+# looks NAME HAS COMMAND..: what the command says where it fails; NAME is skipped where the command HAS fails
+looks() {
+    if ! $2 >"$log" 2>&1; then
+        lacks "$1: not installed"
+    elif "${@:3}" >"$log" 2>&1; then
+        echo "$self: $1: ok"
+    else
+        cat "$log" >&2
+        echo "$self: $1: failed" >&2
+        status=1
+    fi
+}
+
+looks lines true python3 scripts/test/lines.py
+looks version true python3 scripts/release/version.py
+looks 'edits that fit' true python3 scripts/test/edits.py --fit
+looks 'rows beside' true python3 scripts/test/rows.py
+looks shellcheck 'shellcheck --version' shellcheck "${shell[@]}"
 pyflakes=$(command -v pyflakes3 || command -v pyflakes || true)
-where pyflakes "test -n $pyflakes" "$pyflakes" "${python[@]}"
-where groff 'groff --version' bash -c '! groff -man -ww -Tutf8 -z man/* 2>&1 | grep .'
-where mandoc 'command -v mandoc' mandoc -T lint man/*
+looks pyflakes "test -n $pyflakes" "$pyflakes" "${python[@]}"
+looks groff 'groff --version' bash -c '! groff -man -ww -Tutf8 -z man/* 2>&1 | grep .'
+looks mandoc 'command -v mandoc' mandoc -T lint man/*
 
 # the crate in rust/, where any warning is an error and no registry is needed
 self='lint: rust'
@@ -26,17 +39,17 @@ rustc=${RUSTC_OLDEST:-/usr/bin/rustc}
 is_oldest() {
     [[ $("$rustc" --version) = "rustc $oldest."* ]]
 }
-says 'scripts/erase' python3 scripts/erase/test_erase.py
-where 'as it is made' 'rustfmt --version' python3 scripts/erase/erase.py check rust
+looks 'scripts/erase' true python3 scripts/erase/test_erase.py
+looks 'as it is made' 'rustfmt --version' python3 scripts/erase/erase.py check rust
 cd rust
-where 'no feature' 'cargo --version' cargo check --no-default-features
-where "rustc $oldest" is_oldest "$rustc" --edition 2021 --crate-type lib --cfg 'feature="std"' --emit metadata \
+looks 'no feature' 'cargo --version' cargo check --no-default-features
+looks "rustc $oldest" is_oldest "$rustc" --edition 2021 --crate-type lib --cfg 'feature="std"' --emit metadata \
     --out-dir "$folder" -D warnings src/lib.rs
-where rustfmt 'cargo fmt --version' cargo fmt --check
-where clippy 'cargo clippy --version' cargo clippy --all-targets -- -D clippy::incompatible_msrv \
+looks rustfmt 'cargo fmt --version' cargo fmt --check
+looks clippy 'cargo clippy --version' cargo clippy --all-targets -- -D clippy::incompatible_msrv \
     -D clippy::must_use_candidate -D clippy::return_self_not_must_use -D clippy::double_must_use
-where rustdoc 'rustdoc --version' cargo doc --no-deps
-where 'public items' 'rustdoc --version' \
+looks rustdoc 'rustdoc --version' cargo doc --no-deps
+looks 'public items' 'rustdoc --version' \
     python3 ../scripts/test/rust_items.py "$CARGO_TARGET_DIR/doc/linkwire" items.txt
-where package 'cargo --version' cargo package --offline --allow-dirty --no-verify
+looks package 'cargo --version' cargo package --offline --allow-dirty --no-verify
 exit "$status"

@@ -1,15 +1,12 @@
 #!/usr/bin/env bash
-# Runs examples/c/manager.c against the running kernel, in a network namespace, where it lists, makes and changes links,
-# and meets a kernel that does what it seldom does: live_tests.sh LIBRARY. What needs netlink, libmnl, a command or a
-# right that is not there is 'skipped'.
-self=live
+# Runs examples/c/manager.c in a network namespace, where it lists, makes and changes links, and meets a kernel that
+# does what it seldom does: live_tests.sh LIBRARY
 . "$(dirname "$0")/../common.sh"
 
-# tells FAULT MESSAGE EXAMPLE ..: it prints nothing else, and fails
+# tells FAULT MESSAGE: the example prints nothing else, and fails
 tells() {
-    if with "$1" "$folder/$3" "${@:4}" >"$folder/out" || [ -s "$folder/out" ] || ! grep -qx "$3: $2" "$folder/err"; then
-        fails "$3 does not tell: $1"
-    fi
+    { ! with "$1" "$folder/manager" >"$folder/out" && [ ! -s "$folder/out" ] &&
+        grep -qx "manager: $2" "$folder/err"; } || fails "manager does not tell: $1"
 }
 
 # meets the faults of tests/live/kernel_faults.c, in a namespace, where nothing changes meanwhile
@@ -18,27 +15,24 @@ meets_faults() {
     local fault
     "$folder/manager" >"$folder/links"
     for fault in 'ran over' interrupted; do
-        if ! with "$fault" "$folder/manager" >"$folder/out" || ! cmp -s "$folder/out" "$folder/links" || ! asked 2; then
+        { with "$fault" "$folder/manager" >"$folder/out" && cmp -s "$folder/out" "$folder/links" && asked 2; } ||
             fails "manager does not ask again: $fault"
-        fi
     done
-    tells error 'Operation not permitted' manager
-    tells 'short error' 'Bad message' manager
-    if ! with refused "$folder/manager" >"$folder/out" ||
-        [ "$(wc -l <"$folder/out")" != $(($(wc -l <"$folder/links") - 1)) ] ||
-        ! grep -qx 'manager: a message is refused: an attribute shorter than its header' "$folder/err"; then
+    tells error 'Operation not permitted'
+    tells 'short error' 'Bad message'
+    { with refused "$folder/manager" >"$folder/out" &&
+        [ "$(wc -l <"$folder/out")" = $(($(wc -l <"$folder/links") - 1)) ] &&
+        grep -qx 'manager: a message is refused: an attribute shorter than its header' "$folder/err"; } ||
         fails 'manager does not tell that a message is refused'
-    fi
     echo 'live: manager: a queue that ran over, a dump that was interrupted, errors, a message that is refused'
 }
 
 # refused WORDS ERROR WORD..: the example fails, and tells what the kernel says of it, if it does, and the error
 refused() {
-    if "$manager" "${@:3}" >"$folder/out" 2>"$folder/err" || [ -s "$folder/out" ] ||
-        ! grep -qx "manager: $2" "$folder/err" ||
-        { [ -n "$1" ] && ! grep -qx "manager: the kernel says: $1" "$folder/err"; }; then
+    tries "$manager" "${@:3}"
+    { [ "$status" != 0 ] && [ ! -s "$folder/out" ] && grep -qx "manager: $2" "$folder/err" &&
+        { [ -z "$1" ] || grep -qx "manager: the kernel says: $1" "$folder/err"; }; } ||
         fails "manager ${*:3} does not tell: $1: $2"
-    fi
 }
 
 # shown LINE: whether the example prints this line
@@ -53,10 +47,9 @@ keeps() {
         lacks 'manager: an alias in Latin-1' && return
     fi
     line="manager: IFLA_IFALIAS of link $(cat "/sys/class/net/$1/ifindex") is refused: a text that is not UTF-8"
-    if ! "$manager" >"$folder/out" 2>"$folder/err" || ! grep -q "^$1 " "$folder/out" ||
-        [ "$(cat "$folder/err")" != "$line" ]; then
+    tries "$manager"
+    { [ "$status $(cat "$folder/err")" = "0 $line" ] && grep -q "^$1 " "$folder/out"; } ||
         fails 'manager does not keep a link of which the alias is refused'
-    fi
     ip link set "$1" alias ''
     echo 'live: manager: keeps a link with an alias in Latin-1, and tells it'
 }
@@ -103,8 +96,8 @@ manager=$folder/manager
 echo '#include <libmnl/libmnl.h>' | ${CC:-cc} -E - >/dev/null 2>&1 || skips 'manager: no libmnl'
 flags=(-std=c11 -D_GNU_SOURCE -O1 -Wall -Wextra -Wpedantic -Wconversion -Wshadow -Werror -I"$top/include")
 ${CC:-cc} "${flags[@]}" -o "$folder/manager" "$top/examples/c/manager.c" "$library" -lmnl
-if ${CC:-cc} "${flags[@]}" -fsanitize=address,undefined -fno-sanitize-recover=all -o "$folder/sanitized" \
-    "$top/examples/c/manager.c" "$library" -lmnl 2>"$folder/err"; then
+if ${CC:-cc} "${flags[@]}" "${sanitizers[@]}" -o "$folder/sanitized" "$top/examples/c/manager.c" "$library" -lmnl \
+    2>"$folder/err"; then
     manager=$folder/sanitized
 else
     lacks 'manager with sanitizers'

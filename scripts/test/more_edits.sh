@@ -1,19 +1,16 @@
 #!/usr/bin/env bash
 # Tries the edits of the lists edits/CRATE.txt as well as those of the gate, in a copy of the crates: each has to be
-# refused. Names of crates limit it to those, and words to the edits whose headlines (of the gate's edits: whose names)
-# have them:
+# refused. WORDS limit it to the edits whose headlines (of the gate's edits: whose names) have them:
 #     scripts/test/more_edits.sh [CRATE ..] [--headline WORDS]
 # Libraries that stand in the out/ of the crates are not proved again.
 . "$(dirname "$0")/../common.sh"
 cd "$top"
 crates=() words=''
 while [ $# != 0 ]; do
-    if [ "$1" = --headline ]; then
-        words=${2:?--headline wants words}
-        shift
-    else
-        crates+=("$1")
-    fi
+    case $1 in
+    --headline) words=${2:?--headline wants words} && shift ;;
+    *) crates+=("$1") ;;
+    esac
     shift
 done
 [ ${#crates[@]} != 0 ] || mapfile -t crates < <(basename -s .txt edits/*.txt)
@@ -26,16 +23,11 @@ for crate in "${crates[@]}"; do
     edits="$folder/crates/$crate/must-fail"
     python3 scripts/test/edits.py "edits/$crate.txt" "$edits" "$words"
     count=$(find "$edits" -name '*.edit' | wc -l)
-    if [ "$count" != 0 ]; then
-        echo "$crate: $count edits"
-        tried+=("$crate")
-    fi
+    [ "$count" = 0 ] || { echo "$crate: $count edits" && tried+=("$crate"); }
 done
 [ ${#tried[@]} != 0 ] || fails "no headline has these words: $words"
 for crate in $(for name in "${tried[@]}"; do crates_below "$name" | sed '$d'; done | sort -u); do
-    if [ -d "crates/$crate/out" ]; then
-        cp -r "crates/$crate/out" "$folder/crates/$crate/"
-    fi
+    [ ! -d "crates/$crate/out" ] || cp -r "crates/$crate/out" "$folder/crates/$crate/"
 done
 cd "$folder"
 rt must-fail "${tried[@]}"

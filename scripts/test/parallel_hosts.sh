@@ -1,8 +1,9 @@
 #!/usr/bin/env bash
-# Spreads 80 MB of lines by `parallel --sshloginfile` over three hosts, each a network namespace with an sshd of its
-# own, kills all that runs on one of them while a job there is in the middle of its answers, and compares what comes,
-# byte for byte, with what one process answers: parallel_hosts.sh [FOLDER], where the programs are. It fails where the
-# bytes differ or parallel fails; what cannot be had here, or not in time, is 'skipped'.
+# Spreads lines by GNU parallel over all cores; and 80 MB of lines, by its `--sshloginfile`, over three hosts, each a
+# network namespace with an sshd of its own, and kills all that runs on one of them while a job there is in the middle
+# of its answers. What comes is compared, byte for byte, with what one process answers: parallel_hosts.sh [FOLDER],
+# where the programs are. It fails where the bytes differ or parallel fails; what cannot be had here, or not in time, is
+# 'skipped'.
 self='parallel hosts'
 . "$(dirname "$0")/../common.sh"
 shopt -s inherit_errexit
@@ -11,6 +12,16 @@ fails() {
     echo "parallel hosts: $*" >&2
     tail -n 5 "$folder"/sshd.* "$folder/err" >&2 2>/dev/null || true
     exit 1
+}
+
+# spreads_here PROGRAM: over all cores, a block for each and more
+spreads_here() {
+    "$1" <"$folder/lines" >"$folder/one"
+    [ "$(wc -l <"$folder/one")" = "$(wc -l <"$folder/lines")" ]
+    parallel --pipe --keep-order --block 8M --joblog "$folder/jobs" "$1" <"$folder/lines" 2>"$folder/err" |
+        cmp "$folder/one" -
+    parallel --pipepart -a "$folder/lines" --keep-order --block 8M "$1" 2>"$folder/err" | cmp "$folder/one" -
+    echo "parallel hosts: ${1##*/}: the same bytes from $(nproc) cores in $(sed 1d "$folder/jobs" | wc -l) blocks"
 }
 
 # host NUMBER: a namespace at the end of a cable, and what its sshd goes by. A shell there reads no file of the user's:
@@ -118,14 +129,18 @@ if [ -n "$inside" ]; then
     done
     exit 0
 fi
-needs parallel ip unshare ssh ssh-keygen timeout
-parallel --version 2>/dev/null | grep -q '^GNU parallel' || skips 'parallel is not GNU parallel'
-sshd=$(PATH=$PATH:/usr/sbin:/usr/local/sbin command -v sshd) || skips 'no sshd'
+parallel --version 2>/dev/null | grep -q '^GNU parallel' || skips 'no GNU parallel'
 programs=()
 for name in linkwire linkshow linkstate; do
     it=$(program "$name" "$@")
     [ -z "$it" ] || programs+=("$it")
 done
 [ "${#programs[@]}" != 0 ] || skips 'no program is built'
+python3 "$top/bench/make_lines.py" "$folder/lines" $((9 * $(nproc)))
+for it in "${programs[@]}"; do
+    spreads_here "$it"
+done
+needs ip unshare ssh ssh-keygen timeout
+sshd=$(PATH=$PATH:/usr/sbin:/usr/local/sbin command -v sshd) || skips 'no sshd'
 unshare -mn true 2>/dev/null || skips 'no right to make a namespace'
 goes_inside "$sshd" "${programs[@]}"

@@ -8,7 +8,6 @@
 # is there. A processor that lacks one is skipped, and a line names the packages. What this machine runs itself, as i386
 # on x86-64, is run without qemu. SYSROOTS is the folder that has the folders of the triplets, by default /usr. The last
 # line says how many processors were tested. LINES is 20000 by default.
-self=processors
 . "$(dirname "$0")/../common.sh"
 count=${1:-20000}
 wanted=("${@:2}")
@@ -44,65 +43,38 @@ rust_of() {
     done
 }
 
-# makes_lines: once, $folder/lines, and what the proved programs answer; nothing where these are not built
-makes_lines() {
+# asks: once, lines, and what the proved programs answer to them, by each encoding; nothing where these are not built
+asks() {
     local linkwire linkstate
-    [ ! -e "$folder/asked" ] || return 0
-    touch "$folder/asked"
+    [ ! -e "$folder/lines" ] || return 0
+    makes_lines -DLINES_ALONE
     linkwire=$(program linkwire) linkstate=$(program linkstate)
     if [ -z "$linkwire" ] || [ -z "$linkstate" ]; then
         lacks 'lines: the programs linkwire and linkstate are not built'
         return
     fi
-    runs "${CC:-cc}" -std=gnu11 -O2 -DLINES_ALONE -I"$top/include" -o "$folder/second" "$top/tests/second/lines.c"
     python3 "$top/scripts/test/damaged.py" --write "$folder/made" $((count / 2))
-    PLACES=$top/tests/second/places.txt "$folder/second" all >"$folder/all"
+    PLACES=$top/tests/second/places.txt "$folder/lines" all >"$folder/all"
     {
         grep -v '^#' "$top/tests/kernels/messages.txt"
         cat "$folder/made"
         awk -v each=$(($(wc -l <"$folder/all") / (count - count / 2) + 1)) 'NR % each == 0' "$folder/all"
-    } | awk -v count="$count" 'NR <= count' >"$folder/lines"
-    "$linkwire" <"$folder/lines" >"$folder/canonical"
-    "$linkstate" <"$folder/lines" >"$folder/state"
-}
-
-# turns_lines: once, the lines and the answers as machines of the other byte order have them
-turns_lines() {
-    local it
-    [ ! -e "$folder/turned.state" ] || return 0
-    for it in canonical state; do
-        python3 "$top/scripts/test/turned.py" "$folder/lines" "$folder/$it" "$folder/turned.$it" "$folder/answers.$it" \
-            >"$folder/log"
-    done
+    } | awk -v count="$count" 'NR <= count' | tee "$folder/state.asked" >"$folder/canonical.asked"
+    "$linkwire" <"$folder/canonical.asked" >"$folder/canonical.answers"
+    "$linkstate" <"$folder/state.asked" >"$folder/state.answers"
 }
 
 # answers COMMAND..: whether the example answers the lines as the programs do, in its byte order
 answers() {
-    local it
-    makes_lines
-    [ -s "$folder/canonical" ] || return 0
-    [ -z "$is_turned" ] || turns_lines
+    local it order=${is_turned:+turned.}
+    asks
+    [ -e "$folder/state.answers" ] || return 0
     for it in canonical state; do
-        if [ "$is_turned" ]; then
-            "$@" "${it/canonical/}" <"$folder/turned.$it" | cmp - "$folder/answers.$it"
-        else
-            "$@" "${it/canonical/}" <"$folder/lines" | cmp - "$folder/$it"
-        fi
+        [ -z "$order" ] || [ -e "$folder/turned.$it.answers" ] || runs python3 "$top/scripts/test/turned.py" \
+            "$folder/$it".{asked,answers} "$folder/turned.$it".{asked,answers}
+        "$@" "${it/canonical/}" <"$folder/$order$it.asked" | cmp - "$folder/$order$it.answers"
     done
-    echo "$self: $name: $(wc -l <"$folder/${is_turned:-lines}") lines: the same answers"
-}
-
-# tests_c TARGET TRIPLET COMMAND..: the tests of tests/c on the library of rust/capi
-tests_c() {
-    local test words laws=$((count / 10)) library=$CARGO_TARGET_DIR/$1/debug/liblinkwire.a
-    (cd "$top/rust/capi" && runs cargo build --locked --target "$1" </dev/null)
-    for test in "$top"/tests/c/*.c; do
-        words=()
-        [ "${test##*/}" != laws.c ] || words=("$laws")
-        runs "$2-gcc" -std=gnu11 -O1 -Wall -Wextra -I"$top/include" -o "$folder/c" "$test" "$library" -lpthread -ldl -lm
-        runs "${@:3}" "$folder/c" "${words[@]}" </dev/null
-    done
-    echo "$self: $name: tests/c on the library of rust/capi, its laws on $laws messages: ok"
+    echo "$self: $name: $(wc -l <"$folder/${order}canonical.asked") lines: the same answers"
 }
 
 # tests NAME TARGET TRIPLET QEMU: one processor
@@ -124,12 +96,16 @@ tests() {
     export "${variable}_LINKER=$triplet-gcc" "${variable}_RUNNER=${runner[*]}"
     PATH=$(dirname "$rustc"):$PATH
     export PATH RUSTC=$rustc
-    "$rustc" --print cfg --target "$target" | grep -q '^target_endian="big"$' && is_turned=turned.canonical
+    "$rustc" --print cfg --target "$target" | grep -q '^target_endian="big"$' && is_turned=1
     cd "$top/rust"
     runs cargo test --locked --target "$target" </dev/null
     echo "$self: $name: $(passed)"
     answers "${runner[@]}" "$CARGO_TARGET_DIR/$target/debug/examples/lines"
-    [ "$is_turned" ] || tests_c "$target" "$triplet" "${runner[@]}"
+    if [ -z "$is_turned" ]; then
+        (cd capi && runs cargo build --locked --target "$target" </dev/null)
+        tests_c "$CARGO_TARGET_DIR/$target/debug/liblinkwire.a" $((count / 10)) "$triplet-gcc" "${runner[@]}"
+        echo "$self: $name: tests/c on the library of rust/capi, its laws on $((count / 10)) messages: ok"
+    fi
     tested=$((tested + 1))
 }
 

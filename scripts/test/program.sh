@@ -16,9 +16,8 @@ esac
 
 # wants NAME STATUS OUTPUT ERRORS: what the last run has to have left
 wants() {
-    if [ "$status" != "$2" ] || [ "$(cat "$folder/out")" != "$3" ] || [ "$(cat "$folder/err")" != "$4" ]; then
+    { [ "$status" = "$2" ] && [ "$(cat "$folder/out")" = "$3" ] && [ "$(cat "$folder/err")" = "$4" ]; } ||
         fails "$1: status $status"
-    fi
     echo "$name: $1: ok"
 }
 
@@ -66,28 +65,26 @@ mtus() {
 # holds WHAT ANSWERS: the lines of $folder/lines have so many answers, and want no more memory than a few of them
 holds() {
     status=0; (ulimit -v 16000; exec "$program" <"$folder/lines" >"$folder/out" 2>"$folder/err") || status=$?
-    if [ "$status$(cat "$folder/err")" != 0 ] || [ "$(wc -l <"$folder/out")" != "$2" ]; then
-        fails "$1: status $status, $(wc -l <"$folder/out") answers: $(cat "$folder/err")"
-    fi
+    [ "$status $(wc -l <"$folder/out") $(cat "$folder/err")" = "0 $2 " ] ||
+        fails "$1: status $status, $(wc -l <"$folder/out") answers"
     echo "$name: $1, in 16 MB: ok"
 }
 yes "$(mtus 00 02; mtus 07 02; mtus 00 03)" | head -n 100000 >"$folder/lines" || true # yes ends by SIGPIPE
 holds '100,000 lines of three interfaces' 100000
 
-# lenient STEP: the answers of tests/program/lenient.txt, which stand in threes with the lines
-lenient() {
-    grep -v '^#' "$top/tests/program/lenient.txt" >"$folder/lenient"
-    gives --lenient 0 "$(sed -n "$1" "$folder/lenient")" '' --lenient < <(sed -n '1~3p' "$folder/lenient")
+# stored WHAT FILE STEP PLACE WORD..: the first of each STEP lines of a file of tests/ is answered by the one at PLACE
+stored() {
+    grep -v '^#' "$top/tests/$2" >"$folder/lines"
+    gives "$1" 0 "$(sed -n "$4~$3p" "$folder/lines")" '' "${@:5}" < <(sed -n "1~$3p" "$folder/lines")
 }
 case $name in
 linkwire)
     gives 'arguments, which are ignored' 0 "$nothex" '' '' --help - '' <<<0
-    grep -v '^#' "$top/tests/captures.txt" >"$folder/captures"
-    gives 'captures of kernels' 0 "$(sed -n '2~2p' "$folder/captures")" '' < <(sed -n '1~2p' "$folder/captures")
+    stored 'captures of kernels' captures.txt 2 2
     ;;
-linkstate) lenient '3~3p' ;;
+linkstate) stored --lenient program/lenient.txt 3 3 --lenient ;;
 linkshow)
-    lenient '2~3p'
+    stored --lenient program/lenient.txt 3 2 --lenient
     for release in '' $'6\n' $'\xff'; do
         refuses "the release ${release@Q}" --kernel "$release"
     done

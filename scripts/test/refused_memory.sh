@@ -6,10 +6,7 @@ command -v rt >/dev/null || skips 'no rt, which alone runs these tests so'
 cd "$top/crates/linkwire"
 test=tests::faults::refused_memory_changes_no_answer
 for count in ${REFUSED:-1 4 11}; do
-    log=$(rt try --test --fail-alloc "$count" 2>&1 || true)
-    if ! grep -q "^test $test \.\.\. ok" <<<"$log"; then
-        tail -n 40 <<<"$log" | cut -c 1-200 >&2
-        fails "allocation $count changed an answer"
-    fi
+    rt try --test --fail-alloc "$count" >"$log" 2>&1 || true
+    grep -q "^test $test \.\.\. ok" "$log" || fails "allocation $count changed an answer"
     echo "refused_memory: allocation $count refused: ok"
 done

@@ -9,10 +9,10 @@ have no example, and no link to one, are printed too.
 """
 import difflib
 import html
-import os
 import re
 import sys
 import textwrap
+from pathlib import Path
 
 IDS = re.compile(r'id="((?:variant|structfield|method|tymethod|associatedconstant|associatedtype|impl)[.-][^"]+)"')
 CALL = re.compile(r'<section id="(?:ty)?method\.(\w+)"(.*?)(?=<section |$)', re.S)
@@ -25,10 +25,8 @@ def parts(text):
     """The ids of an item's page: its own, and the traits that are implemented for it."""
     text = text.split('id="synthetic-implementations"')[0].split('id="implementors"')[0]
     own, _, traits = text.partition('id="trait-implementations"')
-    ids = [one for one in IDS.findall(own) if one.startswith(OWN) and ".field." not in one]
-    names = [one.split(".", 1)[1] for one in ids]
-    fields = re.findall(r'id="variant\.(\w+)\.field\.(\w+)"', own)
-    names += [f"{variant}.{field}" for variant, field in fields]
+    names = [one.split(".", 1)[1] for one in IDS.findall(own) if one.startswith(OWN) and ".field." not in one]
+    names += map(".".join, re.findall(r'id="variant\.(\w+)\.field\.(\w+)"', own))
     found = [html.unescape(one)[5:] for one in IDS.findall(traits) if one.startswith("impl-")]
     found = {re.sub(r"(-for-|%3C).*", "", one) for one in found} - {"StructuralPartialEq"}
     return list(dict.fromkeys(names)), sorted(found)
@@ -36,16 +34,12 @@ def parts(text):
 
 def pages(folder):
     """The pages of items, in the order of their paths: the kind, the path and the text of each."""
-    for root, _, files in sorted(os.walk(folder)):
-        module = os.path.relpath(root, folder).replace(os.sep, "::").replace(".", "")
-        for name in sorted(files):
-            match = re.fullmatch(r"(struct|enum|fn|constant|trait|type|macro)\.(\w+)\.html", name)
-            if not match:
-                continue
-            with open(os.path.join(root, name), encoding="utf-8") as file:
-                text = file.read()
-            if 'http-equiv="refresh"' not in text[:2000]:           # a page that only leads to another
-                yield match[1], (module + "::" if module else "") + match[2], text
+    folder = Path(folder)
+    for path in sorted(folder.rglob("*.html"), key=lambda it: (str(it.parent), it.name)):
+        match = re.fullmatch(r"(struct|enum|fn|constant|trait|type|macro)\.(\w+)\.html", path.name)
+        text = path.read_text("utf-8") if match else ""
+        if match and 'http-equiv="refresh"' not in text[:2000]:     # a page that only leads to another
+            yield match[1], "::".join([*path.relative_to(folder).parent.parts, match[2]]), text
 
 
 def items(folder):
@@ -62,11 +56,9 @@ def items(folder):
 def without_example(folder):
     """The calls whose docs have no example, and no link to one."""
     for kind, path, text in pages(folder):
-        if kind in ("fn", "macro"):
-            calls = [(path, text)]
-        else:
-            own = OTHERS.split(text)[0]
-            calls = [(f"{path}::{name}", docs) for name, docs in CALL.findall(own)]
+        calls = [(path, text)]
+        if kind not in ("fn", "macro"):
+            calls = [(f"{path}::{name}", docs) for name, docs in CALL.findall(OTHERS.split(text)[0])]
         yield from (name for name, docs in calls if not EXAMPLE.search(docs))
 
 
@@ -74,8 +66,7 @@ def main(doc, kept=None):
     found = items(doc)
     if kept is None:
         return print(*found, sep="\n")
-    with open(kept, encoding="utf-8") as file:
-        lines = file.read().splitlines()
+    lines = Path(kept).read_text("utf-8").splitlines()
     told = [*difflib.unified_diff(lines, found, kept, "what is public", lineterm="", n=1)]
     told += [f"{call}: no example, and no link to one" for call in without_example(doc)]
     return "\n".join(told) or None

@@ -1,7 +1,6 @@
 #!/usr/bin/env bash
-# What stands beside the crate in rust/, over the crates that Debian packs: the examples of rust/netlink are built and,
-# where a network namespace may be made, run on the kernel at hand; the tests of rust/serde bring messages to JSON and
-# back. What is not installed is said to be skipped.
+# Builds and tests rust/netlink and rust/serde over the crates that Debian packs; where a network namespace may be made,
+# the examples of rust/netlink run on the kernel at hand, and the tests of rust/serde bring messages to JSON and back.
 self=rust
 . "$(dirname "$0")/../common.sh"
 registry=/usr/share/cargo/registry

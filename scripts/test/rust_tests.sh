@@ -1,11 +1,9 @@
 #!/usr/bin/env bash
 # Tests the crate in rust/: its tests and those in its docs, with overflow checks, and the program in docs/USING.md,
-# taken out of it, whose output is compared. The example 'lines' has to answer the stored input of the program linkwire
-# as that does, and, where that is built, so many lines that are made and damaged, byte for byte, and these as linkstate
-# does by the state encoding; what the crate's calls say of each of these lines has to agree. The library of rust/capi
-# has to have the names of the library for C, and to pass tests/c: rust_tests.sh [LINES]. Where cargo is not there it
-# says 'skipped'. It needs no registry.
-self=rust
+# whose output is compared. The example 'lines' has to answer the stored input of the program linkwire as that does,
+# and, where that is built, so many lines that are made and damaged, and these as linkstate does by the state encoding;
+# what the crate's calls say of each of these lines has to agree. The library of rust/capi has to have the names of the
+# library for C, and to pass tests/c: rust_tests.sh [LINES]. It needs no registry.
 . "$(dirname "$0")/../common.sh"
 count=${1:-100000}
 linkwire=$top/crates/linkwire
@@ -19,13 +17,9 @@ echo "rust: $(passed)"
 # by the oldest rustc that the crate is said to need: a toolchain of rustup, or the distribution's
 oldest=$(sed -n 's/^rust-version = "\(.*\)"/\1/p' Cargo.toml)
 toolchain=$(rustup toolchain list 2>/dev/null | grep -oE "^${oldest//./\\.}(\.[0-9]+)?-[^ ]+" | head -n 1 || true)
-old=()
-if [ -n "$toolchain" ]; then
-    old=(rustup run "$toolchain" cargo)
-elif [[ $(/usr/bin/rustc --version 2>/dev/null) = "rustc $oldest."* ]] && [ -x /usr/bin/cargo ]; then
-    old=(env RUSTC=/usr/bin/rustc RUSTDOC=/usr/bin/rustdoc /usr/bin/cargo)
-fi
-if [ "${#old[@]}" != 0 ]; then
+old=(rustup run "$toolchain" cargo)
+[ -n "$toolchain" ] || old=(env RUSTC=/usr/bin/rustc RUSTDOC=/usr/bin/rustdoc /usr/bin/cargo)
+if [ -n "$toolchain" ] || [[ $(/usr/bin/rustc --version 2>/dev/null) = "rustc $oldest."* && -x /usr/bin/cargo ]]; then
     CARGO_TARGET_DIR=$folder/oldest runs "${old[@]}" test --locked
     echo "rust: by rustc $oldest: $(passed)"
     rm -rf "$folder/oldest"
@@ -41,22 +35,12 @@ capi=$CARGO_TARGET_DIR/debug/liblinkwire
 [ "$(nm -D --defined-only --format=posix "$capi.so" | sed -n 's/^\(linkwire_[a-z_]*\) .*/\1/p' | sort)" = \
     "$(sed -n 's/^ \(linkwire_.*\)@Base .*/\1/p' "$top/debian/liblinkwire0.symbols" | sort)" ] ||
     fails 'the library of rust/capi has other names than debian/liblinkwire0.symbols'
-for test in "$top"/tests/c/*.c; do
-    words=()
-    [ "${test##*/}" != laws.c ] || words=(2000)
-    runs "${CC:-cc}" -std=gnu11 -O1 -I"$top/include" -o "$folder/c" "$test" "$capi.a" -lpthread -ldl -lm
-    runs "$folder/c" "${words[@]}" </dev/null
-done
+tests_c "$capi.a" 2000 "${CC:-cc}"
 echo 'rust: tests/c on the library of rust/capi, and 2000 messages of its laws: ok'
 
-# block LANGUAGE: the first of that language after the page's line '<!-- runs: rust -->'
-block() {
-    awk -v fence="\`\`\`$1" '$0 == "<!-- runs: rust -->" { is_part = 1 } is_part && $0 == "```" { if (in_block) exit }
-        in_block { print } is_part && $0 == fence { in_block = 1 }' "$top/docs/USING.md"
-}
 mkdir -p "$folder/sample/src"
-block rust >"$folder/sample/src/main.rs"
-block console | sed 1d >"$folder/wanted"
+block USING.md rust '<!-- runs: rust -->' >"$folder/sample/src/main.rs"
+block USING.md console '<!-- runs: rust -->' | sed 1d >"$folder/wanted"
 [ -s "$folder/sample/src/main.rs" ] && [ -s "$folder/wanted" ]
 cat >"$folder/sample/Cargo.toml" <<END
 [package]
@@ -112,29 +96,29 @@ example=$CARGO_TARGET_DIR/release/examples/lines
 echo "rust: the program's stored input: the same bytes"
 program=$(program linkwire)
 [ -n "$program" ] || skips 'lines: the program linkwire is not built'
-runs "${CC:-cc}" -std=gnu11 -O2 -DLINES_ALONE -I"$top/include" -o "$folder/second" "$top/tests/second/lines.c"
+makes_lines -DLINES_ALONE
 export PLACES=$top/tests/second/places.txt
 for set in all digits; do
-    "$folder/second" "$set" >"$folder/lines"
+    "$folder/lines" "$set" >"$folder/set"
     for it in linkwire: linkstate:state; do
         # shellcheck disable=SC2086
-        "$example" ${it#*:} <"$folder/lines" |
-            runs "$folder/second" "$set" compare "${it%:*}" "$top/tests/second/stored.txt"
+        "$example" ${it#*:} <"$folder/set" |
+            runs "$folder/lines" "$set" compare "${it%:*}" "$top/tests/second/stored.txt"
         echo "rust: $(cat "$log")"
     done
 done
-python3 "$top/scripts/test/damaged.py" --write "$folder/lines" "$count"
-"$program" <"$folder/lines" >"$folder/wanted"
-"$example" <"$folder/lines" | cmp - "$folder/wanted"
+python3 "$top/scripts/test/damaged.py" --write "$folder/set" "$count"
+"$program" <"$folder/set" >"$folder/wanted"
+"$example" <"$folder/set" | cmp - "$folder/wanted"
 answers=$(cut -c 1-7 "$folder/wanted" | cut -d ' ' -f 1 | sort | uniq -c | awk '{ printf ", %s %s", $1, $2 }')
-echo "rust: $(wc -l <"$folder/lines") lines: the same bytes$answers"
+echo "rust: $(wc -l <"$folder/set") lines: the same bytes$answers"
 linkstate=$(program linkstate)
 if [ -n "$linkstate" ]; then
-    "$linkstate" <"$folder/lines" >"$folder/wanted"
-    "$example" state <"$folder/lines" | cmp - "$folder/wanted"
+    "$linkstate" <"$folder/set" >"$folder/wanted"
+    "$example" state <"$folder/set" | cmp - "$folder/wanted"
     echo "rust: by the state encoding: the same bytes, $(grep -c '^ok ' "$folder/wanted") states"
 else
-    echo 'rust: by the state encoding: skipped: the program linkstate is not built'
+    lacks 'by the state encoding: the program linkstate is not built'
 fi
-LINKWIRE_LINES=$folder/lines runs cargo test --locked --release --test stored lines -- --nocapture
+LINKWIRE_LINES=$folder/set runs cargo test --locked --release --test stored lines -- --nocapture
 echo "rust: the calls agree on $(sed -nE 's/^(test .* [.]{3} )?([0-9]+ messages).*/\2/p' "$folder/log")"

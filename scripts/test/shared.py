@@ -3,6 +3,7 @@
 import glob
 import os
 import re
+import shutil
 import struct
 import subprocess
 import sys
@@ -28,13 +29,17 @@ def table(name):
             yield section, re.split(r" {2,}", line)
 
 
+def ran(program, given, *options):
+    """Returns the lines that a program writes when it reads these bytes."""
+    it = subprocess.run([program, *options], input=given, capture_output=True, check=False)
+    if it.returncode or it.stderr:
+        sys.exit(f"{program} {' '.join(options)} ends with status {it.returncode}: {it.stderr.decode()}")
+    return it.stdout.split(b"\n")[:-1]
+
+
 def said(program, lines, *options):
     """Returns the lines that a program writes when it reads these, which are texts or bytes."""
-    text = b"".join((it if isinstance(it, bytes) else it.encode()) + b"\n" for it in lines)
-    ran = subprocess.run([program, *options], input=text, capture_output=True, check=False)
-    if ran.returncode or ran.stderr:
-        sys.exit(f"{program} {' '.join(options)} ends with status {ran.returncode}: {ran.stderr.decode()}")
-    return ran.stdout.split(b"\n")[:-1]
+    return ran(program, b"".join((it if isinstance(it, bytes) else it.encode()) + b"\n" for it in lines), *options)
 
 
 def answers(program, lines, *options):
@@ -91,9 +96,7 @@ def kernels(folder):
     """Yields the release of each kernel of a folder and its folder out/, the oldest first; archives are unpacked."""
     with tempfile.TemporaryDirectory() as unpacked:
         for archive in glob.glob(f"{folder}/*.tar.xz"):
-            into = f"{unpacked}/{os.path.basename(archive).removesuffix('.tar.xz')}"
-            os.mkdir(into)
-            subprocess.run(["tar", "-xJf", archive, "-C", into], check=True)
+            shutil.unpack_archive(archive, f"{unpacked}/{os.path.basename(archive).removesuffix('.tar.xz')}")
         found = {out.split(os.sep)[-2]: out for it in (folder, unpacked) for out in glob.glob(f"{it}/*/out")}
         if not found:
             sys.exit(f"no kernel in {folder}")

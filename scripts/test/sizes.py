@@ -12,13 +12,13 @@ long line comes a short one.
 import json
 import os
 import random
+import shutil
 import struct
-import subprocess
 import sys
 import time
 from collections import Counter
 
-from shared import TOP, answers, attribute, compare, said
+from shared import TOP, answers, attribute, compare, ran, said
 
 sys.path += [f"{TOP}/tests/second", f"{TOP}/tests/linkdump"]
 import captures
@@ -27,7 +27,7 @@ import told
 from check import Said
 
 SIZES = {"5 kB": 5_000, "70 kB": 70_000, "1.2 MB": 1_200_000, "20 MB": 20_000_000}
-PACKETS = {"5 kB": 5_000, "70 kB": 70_000, "250 kB": 250_000}  # libpcap reads no packet above 262,144 bytes
+PACKETS = 5_000, 70_000, 250_000  # libpcap reads no packet above 262,144 bytes
 PAYLOADS = [0, 1, 2, 3, 5, 8, 100, 1000, 4096, 65531]
 # numbers of linux/if_link.h, and the first of those that no kernel has
 IFNAME, MTU, IFALIAS, CARRIER_CHANGES, UNKNOWN = 3, 4, 20, 35, 300
@@ -126,18 +126,16 @@ def look_at_linkdiff(programs, made, size):
 
 
 def look_at_linkdump(program, size):
-    if b"built without libpcap" in subprocess.run([program, "--help"], capture_output=True, check=True).stdout:
+    """Whether it reads captures."""
+    if any(b"built without libpcap" in it for it in said(program, [], "--help")):
         return False
     texts = [Made(size).message, header(0), Made(size // 3).message, header(1)]
     packets = [captures.cooked([captures.message(16, it)]) for it in texts[:2]]
     packets.append(captures.cooked([captures.message(16, it) for it in texts[2:]]))
     for name, form in captures.FORMS.items():
-        capture = form([(10**9, it) for it in packets])
-        ran = subprocess.run([program, "--read", "-", "--plain"], input=capture, capture_output=True)
-        if ran.returncode or ran.stderr:
-            fails(f"linkdump of a {name} ends with status", ran.returncode, ran.stderr)
+        found = ran(program, form([(10**9, it) for it in packets]), "--read", "-", "--plain")
         wanted = [it.hex().encode() for it in texts]
-        compare(f"sizes: linkdump of a {name}", wanted, ran.stdout.split(b"\n")[:-1], wanted)
+        compare(f"sizes: linkdump of a {name}", wanted, found, wanted)
     return True
 
 
@@ -145,18 +143,11 @@ LOOKS = {"linkwire": look_at_linkwire, "linkstate": look_at_linkstate, "linkshow
          "linkdiff": look_at_linkdiff}
 
 
-def program_of(folders, name):
-    found = next((path for path in (os.path.abspath(f"{it}/{name}") for it in folders) if os.path.exists(path)), None)
-    return found or fails(f"no {name} in {' '.join(folders)}")
-
-
 def main():
-    folders = sys.argv[1:]
-    programs = {name: program_of(folders, name) for name in [*LOOKS, "linkdump"]}
-    for name, size in PACKETS.items():
-        if not look_at_linkdump(programs["linkdump"], size):
-            print("sizes: linkdump: skipped: it is built without libpcap")
-            break
+    path = os.pathsep.join(map(os.path.abspath, sys.argv[1:]))
+    programs = {it: shutil.which(it, path=path) or fails(f"no {it} in {path}") for it in [*LOOKS, "linkdump"]}
+    if not all(look_at_linkdump(programs["linkdump"], size) for size in PACKETS):
+        print("sizes: linkdump: skipped: it is built without libpcap")
     seconds = dict.fromkeys(LOOKS, 0.0)
     for size in SIZES.values():
         made = Made(size)

@@ -1,11 +1,9 @@
 #!/usr/bin/env bash
-# Holds linkwire_state, and linkdump --monitor | linkdiff, to the running kernel: state_live.sh LIBRARY [FOLDER..]. In a
-# network namespace, with a link of each kind that the kernel knows, IPv6 on and router solicitation over, each link has
-# one state encoding over ten seconds of polls with traffic, or a minute with LONG=1 in the environment; and a new one
-# after each change. Of each change linkdiff has a line, and none while nobody changes a link. The kinds and the changes
-# are those of state_kinds.txt and state_changes.txt in tests/live. The folders have the programs; without them it is
-# that of the library. Kinds and changes that cannot be had are named, and what needs a right, a command or a program
-# that is not there is 'skipped'.
+# Holds linkwire_state, and linkdump --monitor | linkdiff, to the running kernel: state_live.sh LIBRARY [FOLDER..],
+# where the folders, else that of the library, have the programs. In a network namespace, with a link of each kind that
+# the kernel knows (state_kinds.txt of tests/live), each link has one state encoding over ten seconds of polls with
+# traffic, or a minute with LONG=1 in the environment, and a new one after each change (state_changes.txt). Of each
+# change linkdiff has a line, and none while nobody changes a link.
 self=state
 . "$(dirname "$0")/../common.sh"
 
@@ -130,29 +128,22 @@ stays() {
     traffic &
     sender=$!
     running+=("$sender")
-    if ! "$folder/states" "$seconds" >"$folder/out" 2>"$folder/err"; then
-        cat "$folder/err" "$folder/out" >&2
-        fails 'a state moved, though nobody changed its link'
-    fi
+    tries "$folder/states" "$seconds"
+    [ "$status" = 0 ] || fails 'a state moved, though nobody changed its link'
     kill "$sender"
     unset 'running[-1]'
-    if grep -q ' moved of 0$' "$folder/out"; then
-        fails "no counter moved in $seconds seconds"
-    fi
+    ! grep -q ' moved of 0$' "$folder/out" || fails "no counter moved in $seconds seconds"
     echo "state: in $seconds seconds one state a link: $(cat "$folder/out")"
     if [ -n "$linkdiff" ]; then
-        if ! cat "$folder/news" "$folder/polled" | diff "$folder/before" - >&2; then
+        cat "$folder/news" "$folder/polled" | diff "$folder/before" - >&2 ||
             fails 'linkdiff tells of a change, though nobody changed a link'
-        fi
         echo "state: in these linkdump --monitor | linkdiff has no line, with --every 0.5 and without"
     fi
 }
 
 # moved INDEX STATE: whether it has another
 # shellcheck disable=SC2317 # waits calls it
-moved() {
-    [ "$(state "$1")" != "$2" ]
-}
+moved() { [ "$(state "$1")" != "$2" ]; }
 
 # a new state after each change, and a line of linkdiff
 changes() {
@@ -175,9 +166,8 @@ changes() {
         done=$((done + 1))
     done
     echo "state: a new state after each of $done changes; skipped:${skipped#,}"
-    if [ -e /sys/class/net/bridge0 ] && [ -e /sys/class/net/veth0 ] && [ "$done" -lt 50 ]; then
+    [ ! -e /sys/class/net/bridge0 ] || [ ! -e /sys/class/net/veth0 ] || [ "$done" -ge 50 ] ||
         fails 'fewer than fifty changes'
-    fi
     [ -z "$linkdiff" ] || heard "$done"
 }
 
@@ -187,9 +177,7 @@ heard() {
     names=$(printf ', %s' "${dumped[@]}")
     echo "state: linkdump --monitor | linkdiff tells each of $1 changes: $announced as the kernel announces them," \
         "and by the next dump alone:${names#,}"
-    if [ "$1" -ge 50 ] && [ "$announced" -lt 40 ]; then
-        fails 'fewer than forty changes that the kernel announces'
-    fi
+    [ "$1" -lt 50 ] || [ "$announced" -ge 40 ] || fails 'fewer than forty changes that the kernel announces'
 }
 
 if [ -n "$inside" ]; then
@@ -209,7 +197,7 @@ library=$1
 [ $# -gt 1 ] || set -- "$1" "$(dirname "$1")"
 linkdump=$(program linkdump "${@:2}") linkdiff=$(program linkdiff "${@:2}")
 if [ -z "$linkdump" ] || [ -z "$linkdiff" ]; then
-    echo 'state: skipped: linkdump --monitor | linkdiff: one of them is not built'
+    lacks 'linkdump --monitor | linkdiff: one of them is not built'
     linkdiff=''
 fi
 ${CC:-cc} -std=c11 -D_GNU_SOURCE -O1 -Wall -Wextra -Wpedantic -Werror -I"$top/include" -o "$folder/states" \

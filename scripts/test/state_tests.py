@@ -10,11 +10,11 @@ NAME.hex2 those of a dump that came after. Each pair of messages of an interface
 but for those that are named in ASKED. Without FOLDER that is 'skipped'.
 """
 
-import glob
 import os
 import random
 import re
 import sys
+from pathlib import Path
 
 from damaged import sources
 from shared import TOP, answers, compare, kernels, pairs
@@ -34,9 +34,8 @@ BLANKS = [b" ", b" ", b" ", b"\t", b"  ", b" \t ", b""]
 
 def worded(chance, digits):
     """Returns a line with some words in front, now and then with what is no word among them."""
-    words = PARTS[:5] if chance.randrange(2) else PARTS
-    found = [chance.choice(words) + chance.choice(BLANKS if words is PARTS else BLANKS[:-1])
-             for _ in range(chance.randrange(5))]
+    words, blanks = (PARTS[:5], BLANKS[:-1]) if chance.randrange(2) else (PARTS, BLANKS)
+    found = [chance.choice(words) + chance.choice(blanks) for _ in range(chance.randrange(5))]
     return b"".join(found) + digits.encode()
 
 
@@ -63,19 +62,15 @@ def states(linkstate, found):
 
 def dump(path):
     """Returns the messages of a dump by their indices."""
-    with open(path, encoding="utf-8") as it:
-        messages = [bytes.fromhex(line) for line in it.read().splitlines() if line[:1] not in ("", "#")]
+    messages = [bytes.fromhex(line) for line in Path(path).read_text("utf-8").splitlines() if line[:1] not in ("", "#")]
     return {int.from_bytes(message[4:8], "little"): message for message in messages}
 
 
 def pairs_of(release, out):
     """Returns the pairs of the links that are in both dumps, as (name, first, second)."""
-    found = []
-    for path in sorted(glob.glob(out + "/*.hex")):
-        first, second = dump(path), dump(path + "2")
-        name = f"{release} {os.path.basename(path).removesuffix('.hex')}"
-        found += [(f"{name} {index}", first[index], second[index]) for index in first.keys() & second.keys()]
-    return found
+    dumps = [(path.stem, dump(path), dump(f"{path}2")) for path in sorted(Path(out).glob("*.hex"))]
+    return [(f"{release} {name} {index}", first[index], second[index])
+            for name, first, second in dumps for index in first.keys() & second.keys()]
 
 
 def has_asked(name, first, second):

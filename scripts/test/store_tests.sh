@@ -1,15 +1,8 @@
 #!/usr/bin/env bash
-# Runs what docs/STORE.md has, in a network namespace: store_tests.sh LIBRARY [LINKSTATE]. A hundred polls of idle links
-# are one row an interface, and a change, a deleted interface and an index that is used again are one more each; in the
-# folder a refused message and a linkdump that fails are none. LIBRARY is the shared one; where the program LINKSTATE is
-# not built the store in a folder is 'skipped', as is all that cannot be had.
-self=store
+# Runs what docs/STORE.md has, in a network namespace: store_tests.sh LIBRARY [LINKSTATE], where LIBRARY is the shared
+# one. A hundred polls of idle links are one row an interface; a change, a deleted interface and an index that is used
+# again are one more each; in the folder a refused message and a linkdump that fails are none.
 . "$(dirname "$0")/../common.sh"
-
-# block WORD: the block of that language in the page
-block() {
-    sed -n "/^\`\`\`$1\$/,/^\`\`\`\$/p" "$top/docs/STORE.md" | sed '1d;$d'
-}
 
 sqlite() {
     LINKWIRE=$library PYTHONPATH=$top/python python3 -B "$top/examples/store.py" "$folder/links.db" "$@" \
@@ -99,7 +92,7 @@ folder_lines() {
 
 polls_folder() {
     local count links line index
-    block bash >"$folder/store.sh"
+    block STORE.md bash >"$folder/store.sh"
     for ((count = 0; count < 100; count++)); do
         polls
     done
@@ -115,9 +108,7 @@ polls_folder() {
     done
     wants 'lines after a link was refused, and was not, twice' "$(folder_lines)" "$links"
     stub "'$folder/linkdump' \"\$@\" | head -n 1" 'exit 1'
-    if in_folder "$folder/stub"; then
-        fails 'the store in a folder does not tell that linkdump failed'
-    fi
+    ! in_folder "$folder/stub" || fails 'the store in a folder does not tell that linkdump failed'
     polls
     wants 'lines after a linkdump that failed' "$(folder_lines)" "$links"
     ip link set veth0 mtu 1400
@@ -145,7 +136,7 @@ last_has() {
 
 keeps_news() {
     local news
-    block sh >"$folder/news.sh"
+    block STORE.md sh >"$folder/news.sh"
     PATH=$folder:$(dirname "$linkstate"):$PATH setsid bash -uo pipefail "$folder/news.sh" "$folder/news" &
     news=$!
     trap 'kill -- "-$news" 2>/dev/null || true' EXIT

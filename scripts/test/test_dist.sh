@@ -1,8 +1,7 @@
 #!/usr/bin/env bash
-# Looks that what does not fit is told, and not built: a text with one instruction changed, with its sum and without, a
-# sum that is wrong, a source or a line of crates.txt that changed without `make dist`, a file written by hand that
-# changed without `make sums`, and a file, a compiler, a text or a command that is missing. A stand-in takes the place
-# of rt. The texts in out/texts, of `dist.sh --compare`, are compared where there are any.
+# Looks that what does not fit is told, and not built: a text, a sum, a source, a line of crates.txt or a file written
+# by hand that changed, and a file, a compiler, a text or a command that is missing. A stand-in takes the place of rt.
+# The texts in out/texts, of `dist.sh --compare`, are compared where there are any.
 # shellcheck disable=SC2016
 . "$(dirname "$0")/../common.sh"
 mkdir "$folder/bin" "$folder/rt"
@@ -42,9 +41,10 @@ changes() {
 instruction='0,/^\taddq\t/s//\tsubq\t/'
 [ "$arch" = x86_64 ] || instruction='0,/^\tadd\t/s//\tsub\t/'
 scripts/make/sums.sh check | grep -qx 'dist: the sums fit'
+# told TEXT [GOAL]: by the sums, and where something is built
 told() {
     tells "$1" scripts/make/sums.sh check
-    tells "$1" make -s run
+    tells "$1" make -s "${2:-run}"
 }
 changes "$text" "$instruction" told "$text is not the text of dist/SUMS"
 changes dist/SUMS "s/^....\(.*  dist\/$arch\/linkwire\.s\)/0000\1/" told "$text is not the text of dist/SUMS"
@@ -56,20 +56,16 @@ told 'crates/link_msg/src/another.rt changed since dist/ was made'
 rm crates/link_msg/src/another.rt
 without crates/link_msg/src/lib.rt told 'crates/link_msg/src/lib.rt changed since dist/ was made'
 without crates.txt told 'crates.txt is missing'
-by_hand() {
-    tells "$1 is not the file of dist/SUMS: make sums writes its sum anew" scripts/make/sums.sh check
-    tells "$1 is not the file of dist/SUMS: make sums writes its sum anew" make -s all
-}
 for it in dist/{heap.c,errno.c,liblinkwire.map,Makefile} Makefile include/linkwire.h programs/linkdump.c; do
-    changes "$it" '1s/$/ /' by_hand "$it"
+    changes "$it" '1s/$/ /' told "$it is not the file of dist/SUMS: make sums writes its sum anew" all
 done
 without dist/heap.c tells 'dist/heap.c is missing' scripts/make/sums.sh check
 # its sum is made anew, and no other
 summed() {
     cp dist/SUMS "$folder/sums"
     make -s sums
-    [ "$(diff "$folder/sums" dist/SUMS | grep -c '^[<>] [0-9a-f]*  dist/heap.c$')" = 2 ] || fails 'make sums: no sum'
-    [ "$(diff "$folder/sums" dist/SUMS | grep -c '^[<>]')" = 2 ] || fails 'make sums: other sums'
+    [ "$(diff "$folder/sums" dist/SUMS | sed -n 's/^[<>] [0-9a-f]*//p' | xargs)" = 'dist/heap.c dist/heap.c' ] ||
+        fails 'make sums: no sum, or other sums'
     scripts/make/sums.sh check >/dev/null
     [ "$(echo 0 | make -s run)" = nothex ]
     cp "$folder/sums" dist/SUMS
@@ -115,9 +111,7 @@ forged() {
     sum=$(sha256sum "$text")
     sed -i "s/.*  dist\/$arch\/linkwire\.s$/${sum%% *}  dist\/$arch\/linkwire.s/" dist/SUMS
     scripts/make/sums.sh check >/dev/null
-    tries scripts/make/dist.sh --against "$top/out/texts" linkwire
-    { [ "$status" != 0 ] && grep -q "$text is not what is made of the crates" "$folder/err"; } ||
-        fails 'a text with its sum is not refused'
+    fails_with "$text is not what is made of the crates" scripts/make/dist.sh --against "$top/out/texts" linkwire
     echo 'test_dist: an instruction changed, and its sum: ok'
 }
 if [ -e "$top/out/texts/$arch/linkwire.s" ]; then
@@ -183,9 +177,8 @@ chmod +x "$folder/bin/logs-cc"
 make -s all CC=logs-cc CPPFLAGS=-DPASSED CFLAGS='-O1 -g' LDFLAGS=-Wl,-O1 >/dev/null
 passes() {
     grep -E -- "$1" "$folder/calls" >"$folder/out"
-    if [ "$(wc -l <"$folder/out")" != "$2" ] || grep -vE -- "$3" "$folder/out" >&2; then
+    { [ "$(wc -l <"$folder/out")" = "$2" ] && ! grep -vE -- "$3" "$folder/out" >&2; } ||
         fails "calls of the compiler without $3"
-    fi
 }
 passes ' (dist/heap|dist/errno|programs/linkdump)[.]c ?' 3 '-fstack-protector-strong .*-DPASSED .*-O1 -g '
 passes ' -o out/link[a-z]* ' 5 '-Wl,-z,now .*-O1 -g -Wl,-O1 '
@@ -201,8 +194,9 @@ compiles_for() {
 }
 compiles_for other-cc riscv64-linux-gnu
 compiles_for mac-cc arm64-apple-darwin23.1.0
-tells 'there is no nocc: install a C compiler and binutils, or set CC' "${installs[@]}" CC=nocc
-tells 'there is no nold: install a C compiler and binutils, or set LD' "${installs[@]}" LD=nold
+for it in CC LD; do
+    tells "there is no no$it: install a C compiler and binutils, or set $it" "${installs[@]}" "$it=no$it"
+done
 tells 'dist/ has no text for riscv64, only for' "${installs[@]}" CC=other-cc
 tells 'the texts in dist/ are for Linux, and mac-cc compiles for arm64-apple-darwin23.1.0: set CC to a compiler' \
     "${installs[@]}" CC=mac-cc

@@ -1,6 +1,5 @@
 #!/usr/bin/env bash
-# Installs into an empty folder, compiles tests/install.c there by pkg-config alone, runs it with each
-# library, looks at the manual pages, and takes all away again. The last line is 'install passed'.
+# Installs into an empty folder, looks at all that lies there and runs it, and takes all away again.
 self=install
 . "$(dirname "$0")/../common.sh"
 prefix=$folder/usr
@@ -13,8 +12,7 @@ read -ra flags <<< "$(pkg-config --cflags --libs linkwire)"
 version=$(pkg-config --modversion linkwire)
 # expect WANTED COMMAND..: runs a program, and compares what it prints
 expect() {
-    found=$("${@:2}")
-    [ "$found" = "$1" ] || fails "a program prints $found and not $1"
+    "${@:2}" | diff - <(echo "$1") >&2 || fails "${*:2} prints something else"
 }
 ${CC:-cc} -o shared install.c "${flags[@]}"
 readelf -d shared | grep -q 'NEEDED.*\[liblinkwire\.so\.0\]'

@@ -12,10 +12,7 @@ case $PWD/$STAND_IN in
 */mid/waits) echo "$$" >pid && exec sleep 60 ;;
 */top/fails) exit 1 ;;
 esac
-if [ "$1" = lib ]; then
-    mkdir -p out/rlib
-    touch out/rlib/stamp
-fi
+[ "$1" != lib ] || { mkdir -p out/rlib && touch out/rlib/stamp; }
 END
 chmod +x "$folder/bin/rt"
 

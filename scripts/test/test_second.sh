@@ -1,18 +1,12 @@
 #!/usr/bin/env bash
-# Looks that what holds the programs without `rt` tells of slips: of a row that is changed in a copy of the tables that
-# the second reader has, of answers and stored sums that are changed, and of wrong programs in the place of linkdiff:
-# test_second.sh FOLDER, where the programs are.
+# Looks that what holds the programs without `rt` tells of slips: of a row that is changed in the second reader's
+# tables, of answers and stored sums that are changed, and of wrong programs: test_second.sh FOLDER, where the programs
+# are.
 . "$(dirname "$0")/../common.sh"
 cd "$top"
 programs=$(realpath "$1")
-"${CC:-cc}" -std=gnu11 -O2 -DLINES_ALONE -Iinclude -o "$folder/lines" tests/second/lines.c
+makes_lines -DLINES_ALONE
 "$folder/lines" all >"$folder/all"
-
-# told WHAT TEXT COMMAND..: it fails, and says that
-told() {
-    tries "${@:3}"
-    { [ "$status" != 0 ] && grep -qF -- "$2" "$folder/out" "$folder/err"; } || fails "$1 is not told"
-}
 
 # slip FILE OLD NEW: a copy of the tables in which a row is changed, by which the reader has to differ from linkwire
 slip() {
@@ -20,8 +14,9 @@ slip() {
     cp -r --parents crates/*/specs "$folder"
     printf 'file: %s\nold: %s\nnew: %s\n' "${1#*/}" "$2" "$3" >"$folder/it.edit"
     python3 scripts/test/edits.py --apply "$folder/it.edit" "$folder/crates/${1%%/*}"
-    CRATES=$folder/crates told "$1: '$2' as '$3'" 'answers differ' python3 tests/second/check.py \
-        --only linkwire,linkstate --lines "$folder/few" "$programs" "$folder/lines"
+    CRATES=$folder/crates fails_with 'answers differ' python3 tests/second/check.py --only linkwire,linkstate \
+        --lines "$folder/few" "$programs" "$folder/lines"
+    echo "second: $1: '$3' in the place of '$2': told"
 }
 # every fortieth line, and all of the types of link layers
 awk 'NR % 40 == 0 || length($0) == 32' "$folder/all" >"$folder/few"
@@ -30,25 +25,24 @@ slip link_headline/specs/Kernel.antt '(sized 12 vf_info_vlan_of)' '(filled vf_in
 slip link_headline/specs/StateRows.antt '(35, Clear)' '(36, Clear)'
 slip link_headline/specs/StateRows.antt 'ClearPart 4 12' 'ClearPart 4 8'
 slip link_vals/specs/LinkLayerTypeTable.antt 'layer_type_number Can = 280' 'layer_type_number Can = 279'
-echo 'second: rows that are changed on one side: each is told'
 
-# differs NAME WHAT: the answers in $folder/answers are told to be others than the stored ones, in a line with that
+# differs TEXT: the answers in $folder/answers are told to be others than the stored ones, in a line with that
 differs() {
-    told "$1" "$2" "$folder/lines" all compare linkwire "$folder/stored" <"$folder/answers"
+    fails_with "$1" "$folder/lines" all compare linkwire "$folder/stored" <"$folder/answers"
 }
 cp tests/second/stored.txt "$folder/stored"
 "$programs/linkwire" <"$folder/all" >"$folder/right"
 awk 'NR < 5000 || is_done { print; next }
     held ~ /^ok/ && /^ok/ && $0 != held { print; print held; is_done = 1; next }
     { if (held != "") print held; held = $0 }' "$folder/right" >"$folder/answers"
-differs 'an answer in the place of another' 'linkwire: place 0 '
+differs 'linkwire: place 0 ' # an answer in the place of another
 awk 'NR >= 200000 && /^ok/ && !count++ { print "refused"; next } { print }' "$folder/right" >"$folder/answers"
-differs 'an answer that is refused' "'refused': stored are"
+differs "'refused': stored are"
 sed '$d' "$folder/right" >"$folder/answers"
-differs 'a last answer that is missing' 'fewer answers than lines'
+differs 'fewer answers than lines'
 cp "$folder/right" "$folder/answers"
 sed -i 's/^linkwire 40 ok .*$/linkwire 40 ok 1 00000000/' "$folder/stored"
-differs 'a stored sum that is changed' 'linkwire: place 40 '
+differs 'linkwire: place 40 '
 echo 'second: answers that are changed: each is told'
 
 python3 tests/second/laws.py --slips "$programs"
@@ -61,6 +55,6 @@ sed -i 's/\(IFLA_GSO_MAX_SEGS: u16 =\) 40;/\1 90;/' "$folder/rust/src/generated/
     fails 'rust/: the number that is to be changed is not there'
 export CARGO_NET_OFFLINE=true CARGO_TARGET_DIR=$folder/target
 runs cargo build --quiet --locked --example lines --manifest-path "$folder/rust/Cargo.toml"
-told 'a slip in rust/' "answers differ: {'rust'" python3 tests/second/check.py --only linkwire --lines "$folder/few" \
+fails_with "answers differ: {'rust'" python3 tests/second/check.py --only linkwire --lines "$folder/few" \
     --rust "$CARGO_TARGET_DIR/debug/examples/lines" "$programs" "$folder/lines"
 echo 'second: a number that is changed in rust/: it is told'

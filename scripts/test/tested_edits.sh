@@ -1,8 +1,6 @@
 #!/usr/bin/env bash
 # Tries the edits of the lists tests/edits/CRATE.txt, which the contracts let through, in a copy of the crates with the
-# contracts erased: a test has to refuse each, by cargo, in some seconds. Words limit it to the edits whose headlines
-# have them:
-#     scripts/test/tested_edits.sh [WORDS]
+# contracts erased: a test has to refuse each. With WORDS those whose headlines have them: tested_edits.sh [WORDS]
 . "$(dirname "$0")/../common.sh"
 cd "$top"
 needs cargo
@@ -17,23 +15,20 @@ tests() {
     cargo test --quiet --tests --no-fail-fast --manifest-path "$folder/erased/Cargo.toml" 2>&1
 }
 
-if ! log=$(tests); then
-    tail -n 20 <<<"$log" | cut -c 1-200 >&2
-    fails 'the tests fail without an edit'
-fi
+tests >"$log" || fails 'the tests fail without an edit'
 failed=0
 for list in tests/edits/*.txt; do
     name=$(basename "$list" .txt)
     python3 scripts/test/edits.py "$list" "$folder/edits/$name" "${1:-}"
     for edit in "$folder/edits/$name"/*.edit; do
         python3 scripts/test/edits.py --apply "$edit" "$folder/crates/$name"
-        log=$(tests || true)
-        count=$(awk '/^test result: FAILED/ { sum += $6 } END { print sum + 0 }' <<<"$log")
+        tests >"$log" || true
+        count=$(awk '/^test result: FAILED/ { sum += $6 } END { print sum + 0 }' "$log")
         if [ "$count" != 0 ]; then
             echo "$name/$(basename "$edit"): refused by the tests: $count fail"
         else
             echo "$name/$(basename "$edit"): NOT REFUSED" >&2
-            tail -n 20 <<<"$log" | cut -c 1-200 >&2
+            tail -n 20 "$log" | cut -c 1-200 >&2
             failed=1
         fi
         rm -rf "$folder/crates/$name/src"
