@@ -196,22 +196,24 @@ enum linkwire_counter_order {
 uint32_t linkwire_order(const char *release, size_t len);
 
 /* What the message says, as linkshow(1) answers it: one JSON object, in UTF-8, without an end of line and without a
- * NUL; its members, or, where the bytes are no message, why and where: {"fault":..}. With LINKWIRE_LENIENT it is what
- * linkshow --lenient answers: attributes that are refused hide none of the others, and stand last, under "refused". It
- * stands at the front of `out`, and the rest is kept. Returns its length, also where that is above `cap`: then `out` is
+ * NUL; its members, or, where the bytes are no message, why and where: {"fault":..}. An attribute that may come many
+ * times, as "vlan-info", is always an array: linkshow(1) has a table of all. With LINKWIRE_LENIENT it is what linkshow
+ * --lenient answers: attributes that are refused hide none of the others, and stand last, under "refused". It stands at
+ * the front of `out`, and the rest is kept. Returns its length, also where that is above `cap`: then `out` is
  * unchanged, and a second call with so much room writes it. Or -18 or -20, and `out` is unchanged. It refuses no bytes.
  * Takes memory. */
 ptrdiff_t linkwire_show(const uint8_t *message, size_t len, uint32_t order, uint32_t flags, char *out, size_t cap);
 
 /* What changed from one message to another, as linkdiff(1) tells it under "changes": a list in JSON, in UTF-8, without
  * an end of line and without a NUL, of an object for each path whose value differs, with "path", "old" and "new", of
- * which one is left out where the path came or went. Where no path differs, though the messages do, the one path
- * "state" has both encodings, in hexadecimal. Attributes IFLA_EVENT of four bytes, which announcements alone have, are
- * left out of both messages first, as linkdiff(1) does. The list is written, and its length returned, as
- * `linkwire_show` does; 0, and `out` is unchanged, exactly where the state encodings of what is left are equal. With
- * LINKWIRE_COUNTERS the canonical encodings are compared, so that what moves by itself is told too; with
- * LINKWIRE_LENIENT the lenient ones of either. Both messages are shown in one order. Or -20; or the refusal, -1 to -7,
- * -16, -17 or -18, of the first that is refused, and `out` is unchanged. Takes memory. */
+ * which one is left out where the path came or went. An element of an array has its place there, from 0, as
+ * "af-spec.vlan-info.0.vid". Where no path differs, though the messages do, the one path "state" has both encodings, in
+ * hexadecimal. Attributes IFLA_EVENT of four bytes, which announcements alone have, are left out of both messages
+ * first, as linkdiff(1) does. The list is written, and its length returned, as `linkwire_show` does; 0, and `out` is
+ * unchanged, exactly where the state encodings of what is left are equal. With LINKWIRE_COUNTERS the canonical
+ * encodings are compared, so that what moves by itself is told too; with LINKWIRE_LENIENT the lenient ones of either.
+ * Both messages are shown in one order. Or -20; or the refusal, -1 to -7, -16, -17 or -18, of the first that is
+ * refused, and `out` is unchanged. Takes memory. */
 ptrdiff_t linkwire_diff(const uint8_t *old_message, size_t old_len, const uint8_t *new_message, size_t new_len,
                         uint32_t order, uint32_t flags, char *out, size_t cap);
 

@@ -262,7 +262,8 @@ def show_json(message: Bytes, kernel: Optional[str] = None, lenient: bool = Fals
 
 
 def show(message: Bytes, kernel: Optional[str] = None, lenient: bool = False) -> Dict[str, Any]:
-    """What linkshow(1) answers: members by the names of the kernel's `rt_link.yaml`.
+    """What linkshow(1) answers: members by the names of the kernel's `rt_link.yaml`. An attribute that may come many
+    times, as `vlan-info` of `af-spec`, is a list, also if it comes once; linkshow(1) has a table of all.
 
     kernel: the release that the message is of, as `6.12.0-47`, or `running`. It decides the order of the counters of
         IPv6; without it they are a list of numbers.
@@ -326,7 +327,8 @@ def _fill(found: Dict[str, Any], settings: List[bytes]) -> bool:
 def diff(old: Bytes, new: Bytes, kernel: Optional[str] = None, counters: bool = False,
          lenient: bool = False) -> List[Change]:
     """What changed from one message to another, as linkdiff(1) tells it; an empty list where the states are equal.
-    IFLA_EVENT, which announcements alone have, is left out of both first.
+    IFLA_EVENT, which announcements alone have, is left out of both first. Of a list of objects a path has the place of
+    an element, from 0: `af-spec.vlan-info.0.vid`.
 
     kernel, lenient: as for `show`, of both messages.
     counters: compares the canonical encodings, so that what moves by itself is there too.

@@ -39,24 +39,25 @@ class Told(NamedTuple):
 
 def vlans(message: Bytes) -> FrozenSet[Tuple[int, str]]:
     """The VLANs that a message of AF_BRIDGE lists, also those inside ranges: the number, and `pvid`, `untagged`, both
-    with a comma between, or nothing."""
-    spec = show(message, lenient=True).get("af-spec", {})
+    with a comma between, or nothing. An element that is damaged is passed over. The end of a range that does not stand
+    right behind its beginning is one VLAN."""
     found, first = set(), 0
-    for it in (one.get("vlan-info") for one in (*spec.get("repeated", ()), spec)):
-        if not isinstance(it, dict):  # it is another setting, or damaged
+    for it in show(message, lenient=True).get("af-spec", {}).get("vlan-info", ()):
+        begin, first = first, 0
+        if not isinstance(it, dict):  # it is damaged
             continue
         flags, vid = it["flags"], it["vid"]
         told = ",".join(one for one in flags if one in ("pvid", "untagged"))
         if "range-begin" in flags:
             first = vid
         else:
-            start = first if "range-end" in flags and 0 < first <= vid else vid
+            start = begin if "range-end" in flags and 0 < begin <= vid else vid
             found |= {(at, told) for at in range(start, vid + 1)}
     return frozenset(found)
 
 
 def flat(value: Any, path: str = "") -> Dict[str, Any]:
-    """The values of what `show` returns by their paths, as `diff` has them; a list is one value."""
+    """The values of what `show` returns by their paths, as `diff` has them, but that a list of objects is one value."""
     if not isinstance(value, dict):
         return {path[:-1]: value}
     return {name: it for key, one in value.items() for name, it in flat(one, f"{path}{key}.").items()}
