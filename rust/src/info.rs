@@ -4,7 +4,8 @@
 //! kernel's `rt_link.yaml`, or of `linux/if_link.h` in its style. Each kind of [`KINDS`] has a [`Place`], whose rows
 //! say of each attribute its number, its name, and how its payload is spelled; another kind has no rows, and its data
 //! are kept. [`Fields`] goes over any list of attributes by the rows of a place, those of ports and of address families
-//! too. [`typed`](crate::typed) has the same data as enums.
+//! too. A row with [`Style::Each`] has an attribute for each value of a list, as the VLANs of a port of a bridge.
+//! [`typed`](crate::typed) has the same data as enums.
 //!
 //! If a list repeats its kind or its data, [`Info::of`] takes the first of each. The kernel,
 //! [`LinkInfos`](crate::typed::LinkInfos) and [`view`](crate::view) take the last.
@@ -334,10 +335,7 @@ impl Info {
     #[must_use]
     pub fn named(&self, name: &str) -> Option<&'static str> {
         let row = self.place()?.rows().iter().find(|row| row.name() == name)?;
-        match row.style() {
-            Style::Plain(plain) => plain.name_of(self.u64(name)?),
-            _ => None,
-        }
+        row.style().plain().name_of(self.u64(name)?)
     }
 
     /// The text that this attribute was set to, without the NUL at its end.

@@ -16,6 +16,6 @@ pub(crate) mod written;
 pub use field::{Field, Fields};
 pub use info::{Info, InfoError};
 pub use place::{KINDS, KindRow, PLACES, Place, SLAVE_KINDS, Tables, all_rows};
-pub use style::{Member, Names, Plain, Row, Size, Style};
+pub use style::{Element, Member, Names, Plain, Row, Size, Style};
 pub use value::Value;
 pub use written::{push_field, rewrite};

@@ -229,12 +229,15 @@ impl Place {
     /// Its rows.
     ///
     /// ```
-    /// use linkwire::info::{Plain, Place, Size, Style, all_rows};
+    /// use linkwire::info::{Element, Plain, Place, Size, Style, all_rows};
     /// let place = Place::of_kind("vlan").unwrap();
     /// assert_eq!((place, Place::of_slave_kind("bond")), (Place::Vlan, Some(Place::BondSlave)));
     /// assert_eq!((place.rows()[0].name(), place.rows()[0].style()), ("id", Style::Plain(Plain::Unsigned(Size::Two))));
     /// assert_eq!((Size::Two.bytes(), Plain::Mac.size()), (2, 6));
     /// assert_eq!(place.rows_in(&all_rows()), all_rows()[place.number()]);
+    /// // a list, which has an attribute for each address
+    /// let addresses = Place::MacvlanAddresses.rows()[0].style();
+    /// assert_eq!((addresses, addresses.plain()), (Style::Each(Element::Plain(Plain::Mac)), Plain::Mac));
     /// ```
     #[must_use]
     pub fn rows(self) -> &'static [Row] {

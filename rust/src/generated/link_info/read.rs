@@ -2,7 +2,7 @@
 //! Payloads read by their style.
 
 use crate::link_info::number::{host_number, network_number, signed_number};
-use crate::link_info::style::{Member, Plain, Style};
+use crate::link_info::style::{Element, Member, Plain, Style};
 use crate::link_info::value::Value;
 use crate::nla_wire::{NlasIterator, borrow_string};
 use crate::rattle::net::{Ipv4Addr, Ipv6Addr};
@@ -95,11 +95,15 @@ pub fn read<'a>(style: Style, payload: &'a [u8]) -> Value<'a> {
     match style {
         Style::Flag if payload.is_empty() => Value::Flag,
         Style::Text => read_text(payload),
-        Style::Plain(plain) if payload.len() == plain.size() => read_plain(plain, payload),
-        Style::Record(members) if has_size(members, payload.len()) => Value::Record(members, payload),
+        Style::Plain(plain) | Style::Each(Element::Plain(plain)) if payload.len() == plain.size() => {
+            read_plain(plain, payload)
+        }
+        Style::Record(members) | Style::Each(Element::Record(members)) if has_size(members, payload.len()) => {
+            Value::Record(members, payload)
+        }
         Style::Array(plain) if is_whole_number(plain.size(), payload.len()) => Value::Array(plain, payload),
         Style::List(plain) if are_elements(payload, plain.size()) => Value::List(plain, payload),
-        Style::Nest(place) if are_whole(payload) => Value::Nest(place, payload),
+        Style::Nest(place) | Style::Each(Element::Nest(place)) if are_whole(payload) => Value::Nest(place, payload),
         _ => Value::Bytes(payload),
     }
 }

@@ -28,26 +28,26 @@ fn push_network(out: &mut Vec<u8>, size: Size, n: u64) {
     }
 }
 
-/// Adds a number in the order that the style says.
-fn push_unsigned(out: &mut Vec<u8>, style: Style, n: u64) {
-    match style {
-        Style::Plain(Plain::Unsigned(size)) => push_host(out, size, n),
-        Style::Plain(Plain::Named(size, _)) => push_host(out, size, n),
-        Style::Plain(Plain::Flags(size, _)) => push_host(out, size, n),
-        Style::Plain(Plain::BigEndian(size)) => push_network(out, size, n),
-        Style::Plain(Plain::BigEndianNamed(size, _)) => push_network(out, size, n),
-        Style::Plain(Plain::BigEndianFlags(size, _)) => push_network(out, size, n),
+/// Adds a number in the order that it is spelled in.
+fn push_unsigned(out: &mut Vec<u8>, plain: Plain, n: u64) {
+    match plain {
+        Plain::Unsigned(size) => push_host(out, size, n),
+        Plain::Named(size, _) => push_host(out, size, n),
+        Plain::Flags(size, _) => push_host(out, size, n),
+        Plain::BigEndian(size) => push_network(out, size, n),
+        Plain::BigEndianNamed(size, _) => push_network(out, size, n),
+        Plain::BigEndianFlags(size, _) => push_network(out, size, n),
         _ => (),
     }
 }
 
-/// Adds a signed number of four bytes or fewer as its style says, in two's complement.
-fn push_signed(out: &mut Vec<u8>, style: Style, z: i64) {
-    match style {
-        Style::Plain(Plain::Signed(Size::One)) => out.extend_from_slice(&narrow_signed::<i8>(z).to_ne_bytes()),
-        Style::Plain(Plain::Signed(Size::Two)) => out.extend_from_slice(&narrow_signed::<i16>(z).to_ne_bytes()),
-        Style::Plain(Plain::Signed(Size::Four)) => out.extend_from_slice(&narrow_signed::<i32>(z).to_ne_bytes()),
-        Style::Plain(Plain::Signed(Size::Eight)) => out.extend_from_slice(&z.to_ne_bytes()),
+/// Adds a signed number of four bytes or fewer as it is spelled, in two's complement.
+fn push_signed(out: &mut Vec<u8>, plain: Plain, z: i64) {
+    match plain {
+        Plain::Signed(Size::One) => out.extend_from_slice(&narrow_signed::<i8>(z).to_ne_bytes()),
+        Plain::Signed(Size::Two) => out.extend_from_slice(&narrow_signed::<i16>(z).to_ne_bytes()),
+        Plain::Signed(Size::Four) => out.extend_from_slice(&narrow_signed::<i32>(z).to_ne_bytes()),
+        Plain::Signed(Size::Eight) => out.extend_from_slice(&z.to_ne_bytes()),
         _ => (),
     }
 }
@@ -65,8 +65,8 @@ pub fn push_payload(out: &mut Vec<u8>, style: Style, value: Value<'_>) {
         Value::Array(_, bytes) | Value::List(_, bytes) => out.extend_from_slice(bytes),
         Value::Nest(_, bytes) => out.extend_from_slice(bytes),
         Value::Flag => out.extend_from_slice(&[]),
-        Value::Unsigned(n) => push_unsigned(out, style, n),
-        Value::Signed(z) => push_signed(out, style, z),
+        Value::Unsigned(n) => push_unsigned(out, style.plain(), n),
+        Value::Signed(z) => push_signed(out, style.plain(), z),
         Value::Text(text) => push_text(out, text),
         Value::Mac(octets) => out.extend_from_slice(&octets),
         Value::Ipv4(address) => out.extend_from_slice(&address.octets()),

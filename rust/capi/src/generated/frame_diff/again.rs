@@ -3,10 +3,11 @@
 
 use crate::frame_diff::leaf::{Texts, is_same};
 use crate::frame_diff::list::{behind, comes, is_alike};
+use crate::frame_diff::named::is_unnamed;
 use crate::frame_diff::path::{join, join_place};
 use crate::frame_diff::value::tell_value;
 use crate::frame_diff::walk::{Attribute, Attributes, Pass, Walk};
-use crate::frame_shown::form::{is_kept, row_in};
+use crate::frame_shown::form::row_in;
 use crate::nla_wire::{NlaBuffer, NlasIterator};
 use crate::shown::Page;
 use crate::rattle::alloc::AllocError;
@@ -24,7 +25,7 @@ pub struct Named<'a> {
 fn again<'a>(behind: Attributes<'a>, frame: &NlaBuffer<'a>) -> Option<Named<'a>> {
     let number = frame.kind();
     let (name, way) = row_in(behind.around, behind.list, number);
-    if is_kept(way, frame.value()) {
+    if is_unnamed(way, frame.value()) {
         return None;
     }
     if !comes(behind, name) {

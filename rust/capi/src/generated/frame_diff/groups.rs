@@ -4,13 +4,14 @@
 use crate::frame_diff::leaf::{Texts, Value, is_same, tell_leaf};
 use crate::frame_diff::list::behind;
 use crate::frame_diff::lists::{is_without, none_of, tell_object};
+use crate::frame_diff::named::{is_each, is_unnamed};
 use crate::frame_diff::nests::is_nest;
 use crate::frame_diff::path::{join, join_place};
 use crate::frame_diff::same::is_same_list;
 use crate::frame_diff::value::tell_value;
 use crate::frame_diff::walk::{Attribute, Attributes, Pass, Walk};
 use crate::frame_shown::depth::Above;
-use crate::frame_shown::form::{Form, List, Table, Way, is_kept, row_in};
+use crate::frame_shown::form::{Form, List, Table, Way, row_in};
 use crate::nla_wire::{NlaBuffer, NlasIterator};
 use crate::shown::Page;
 use crate::rattle::alloc::AllocError;
@@ -19,7 +20,7 @@ use crate::rattle::alloc::AllocError;
 fn named<'a>(is_state: bool, list: Attributes<'a>, frame: &NlaBuffer<'a>) -> Option<Attribute<'a>> {
     let number = frame.kind();
     let (_, way) = row_in(list.around, list.list, number);
-    if is_kept(way, frame.value()) {
+    if is_unnamed(way, frame.value()) {
         return None;
     }
     Some(Attribute {
@@ -45,6 +46,29 @@ fn entry<'a>(is_state: bool, list: Attributes<'a>, frame: &NlaBuffer<'a>) -> Opt
     })
 }
 
+/// An attribute of a list, if it is a value of the list of this number.
+fn value_of<'a>(
+    is_state: bool,
+    list: Attributes<'a>,
+    number: u16,
+    frame: &NlaBuffer<'a>,
+) -> Option<Attribute<'a>> {
+    if frame.kind() != number {
+        return None;
+    }
+    let (_, way) = row_in(list.around, list.list, number);
+    if !is_each(way) {
+        return None;
+    }
+    Some(Attribute {
+        around: list.around,
+        list: list.list,
+        number,
+        way,
+        payload: frame.value(),
+    })
+}
+
 /// Whether the values of a list are those of its entries.
 fn is_entries(list: List) -> bool {
     match list {
@@ -53,12 +77,24 @@ fn is_entries(list: List) -> bool {
     }
 }
 
-/// An attribute of a list, if it is one of its values.
-fn pick<'a>(is_state: bool, list: Attributes<'a>, frame: &NlaBuffer<'a>) -> Option<Attribute<'a>> {
+/// An attribute of a list, if it is one of its entries, or of those that have a name.
+fn pick_any<'a>(
+    is_state: bool,
+    list: Attributes<'a>,
+    frame: &NlaBuffer<'a>,
+) -> Option<Attribute<'a>> {
     if is_entries(list.list) {
         entry(is_state, list, frame)
     } else {
         named(is_state, list, frame)
+    }
+}
+
+/// An attribute of a list, if it is one of its values.
+fn pick<'a>(is_state: bool, list: Attributes<'a>, frame: &NlaBuffer<'a>) -> Option<Attribute<'a>> {
+    match list.number {
+        Some(number) => value_of(is_state, list, number, frame),
+        None => pick_any(is_state, list, frame),
     }
 }
 
@@ -115,6 +151,7 @@ fn entry_list<'a>(own: Attribute<'a>) -> Attributes<'a> {
     Attributes {
         around: own.around,
         list,
+        number: None,
         bytes: own.payload,
     }
 }
@@ -189,6 +226,22 @@ fn tell_entry<W: Walk>(
     tell_object::<W>(texts, pass, page, path, own, beside)
 }
 
+/// Tells of a value that is no entry beside another one.
+fn tell_alone<W: Walk>(
+    texts: &mut Texts,
+    pass: Pass,
+    page: &mut Page,
+    path: &str,
+    own: Attribute<'_>,
+    beside: Option<Attribute<'_>>,
+) -> Result<(), AllocError> {
+    let pass = Pass {
+        is_alike: false,
+        ..pass
+    };
+    tell_value::<W>(texts, pass, page, path, own, beside)
+}
+
 /// Tells of a value beside another one.
 fn tell_picked<W: Walk>(
     texts: &mut Texts,
@@ -203,47 +256,56 @@ fn tell_picked<W: Walk>(
         let there = entry_beside(beside);
         return tell_entry::<W>(texts, pass, page, path, own, there);
     }
-    let pass = Pass {
-        is_alike: false,
-        ..pass
-    };
-    tell_value::<W>(texts, pass, page, path, own, beside)
+    tell_alone::<W>(texts, pass, page, path, own, beside)
 }
 
-/// Another value, where it is an object or a list.
-fn nest_beside<'a, W: Walk>(beside: Option<Attribute<'a>>) -> Option<Attribute<'a>> {
-    match beside {
-        Some(other) => {
-            if is_nest::<W>(other) {
-                Some(other)
-            } else {
-                None
-            }
-        }
-        None => None,
+/// What the values of a list are.
+pub(crate) trait Values {
+    /// Tells of one of them beside another one, if there is one.
+    fn tell_one<W: Walk>(
+        texts: &mut Texts,
+        pass: Pass,
+        page: &mut Page,
+        path: &str,
+        own: Attribute<'_>,
+        beside: Option<Attribute<'_>>,
+    ) -> Result<(), AllocError>;
+}
+
+/// Entries, or attributes that have a name.
+pub(crate) struct Group {}
+
+impl Values for Group {
+    fn tell_one<W: Walk>(
+        texts: &mut Texts,
+        pass: Pass,
+        page: &mut Page,
+        path: &str,
+        own: Attribute<'_>,
+        beside: Option<Attribute<'_>>,
+    ) -> Result<(), AllocError> {
+        tell_picked::<W>(texts, pass, page, path, own, beside)
     }
 }
 
-/// Tells of a value at its place, if it is an object or a list.
-fn tell_nest<W: Walk>(
-    texts: &mut Texts,
-    pass: Pass,
-    page: &mut Page,
-    path: &str,
-    place: usize,
-    own: Attribute<'_>,
-    beside: Option<Attribute<'_>>,
-) -> Result<(), AllocError> {
-    if !is_nest::<W>(own) {
-        return Ok(());
+/// Attributes that are the values of a list.
+pub(crate) struct Array {}
+
+impl Values for Array {
+    fn tell_one<W: Walk>(
+        texts: &mut Texts,
+        pass: Pass,
+        page: &mut Page,
+        path: &str,
+        own: Attribute<'_>,
+        beside: Option<Attribute<'_>>,
+    ) -> Result<(), AllocError> {
+        tell_alone::<W>(texts, pass, page, path, own, beside)
     }
-    let text = join_place(texts.alloc, path, place)?;
-    let there = nest_beside::<W>(beside);
-    tell_picked::<W>(texts, pass, page, text.as_str(), own, there)
 }
 
 /// Tells of a value at its place, if there is one.
-fn tell_place<W: Walk>(
+fn tell_place<W: Walk, V: Values>(
     texts: &mut Texts,
     pass: Pass,
     page: &mut Page,
@@ -252,10 +314,12 @@ fn tell_place<W: Walk>(
     own: Option<Attribute<'_>>,
     beside: Option<Attribute<'_>>,
 ) -> Result<(), AllocError> {
-    match own {
-        Some(own) => tell_nest::<W>(texts, pass, page, path, place, own, beside),
-        None => Ok(()),
-    }
+    let own = match own {
+        Some(own) => own,
+        _ => return Ok(()),
+    };
+    let text = join_place(texts.alloc, path, place)?;
+    V::tell_one::<W>(texts, pass, page, text.as_str(), own, beside)
 }
 
 /// The place of the next one.
@@ -267,7 +331,7 @@ fn next_place(own: Option<Attribute<'_>>, place: usize) -> usize {
 }
 
 /// Tells of the values of a list, each beside the one at its place in another list.
-fn tell_places<W: Walk>(
+fn tell_places<W: Walk, V: Values>(
     texts: &mut Texts,
     pass: Pass,
     page: &mut Page,
@@ -284,7 +348,7 @@ fn tell_places<W: Walk>(
         };
         let value = pick(pass.is_state, own, &frame);
         let taken = take_beside(pass.is_state, value, rest);
-        tell_place::<W>(texts, pass, page, path, place, value, taken.value)?;
+        tell_place::<W, V>(texts, pass, page, path, place, value, taken.value)?;
         rest = taken.rest;
         place = next_place(value, place);
     }
@@ -300,16 +364,16 @@ fn is_deep<W: Walk>(own: Option<Attribute<'_>>) -> bool {
 }
 
 /// Whether all values of a list are known to be texts.
-fn is_flat(list: List) -> bool {
-    match list {
-        List::Listed(_, Table::Props) => true,
+fn is_flat(number: Option<u16>, list: List) -> bool {
+    match (number, list) {
+        (None, List::Listed(_, Table::Props)) => true,
         _ => false,
     }
 }
 
 /// Whether none of the values of a list is an object or a list.
 fn are_plain<W: Walk>(is_state: bool, list: Attributes<'_>) -> bool {
-    if is_flat(list.list) {
+    if is_flat(list.number, list.list) {
         return true;
     }
     are_all_plain::<W>(is_state, list)
@@ -347,6 +411,14 @@ fn plain_beside<'a, W: Walk>(
     }
 }
 
+/// All values of a list as one.
+fn flat_value<'a>(own: Attributes<'a>) -> Value<'a> {
+    match own.number {
+        Some(number) => Value::Array(own.list, number, own.bytes),
+        None => Value::Listed(own.list, own.bytes),
+    }
+}
+
 /// Tells of a list of values as one value beside another list.
 fn tell_flat<W: Walk>(
     texts: &mut Texts,
@@ -356,10 +428,11 @@ fn tell_flat<W: Walk>(
     own: Attributes<'_>,
     beside: Option<Attributes<'_>>,
 ) -> Result<(), AllocError> {
-    let value = Value::Listed(own.list, own.bytes);
+    let value = flat_value(own);
     match plain_beside::<W>(pass.is_state, beside) {
         Some(other) => {
-            let there = Some(Value::Listed(other.list, other.bytes));
+            let flat = flat_value(other);
+            let there = Some(flat);
             let theirs = other.around;
             tell_leaf::<W>(
                 texts, own.around, theirs, page, path, pass.side, value, there,
@@ -371,20 +444,27 @@ fn tell_flat<W: Walk>(
     }
 }
 
-/// Another list of values, and whether it is known to be shown by the same; one without values where there is none.
-fn values_beside<'a>(
-    is_alike: bool,
+/// Another list of values that have places, and whether it is known to be shown by the same; one without values where
+/// there is none.
+fn values_beside<'a, W: Walk>(
+    pass: Pass,
     own: Attributes<'a>,
     beside: Option<Attributes<'a>>,
 ) -> (Attributes<'a>, bool) {
     match beside {
-        Some(other) => (other, is_alike),
+        Some(other) => {
+            if are_plain::<W>(pass.is_state, other) {
+                (none_of(own), true)
+            } else {
+                (other, pass.is_alike)
+            }
+        }
         None => (none_of(own), true),
     }
 }
 
 /// Tells of a list of values beside another one, if there is one.
-fn tell_values<W: Walk>(
+pub(crate) fn tell_values<W: Walk, V: Values>(
     texts: &mut Texts,
     pass: Pass,
     page: &mut Page,
@@ -395,8 +475,8 @@ fn tell_values<W: Walk>(
     if are_plain::<W>(pass.is_state, own) {
         return tell_flat::<W>(texts, pass, page, path, own, beside);
     }
-    let (others, is_alike) = values_beside(pass.is_alike, own, beside);
-    tell_places::<W>(texts, Pass { is_alike, ..pass }, page, path, own, others)
+    let (others, is_alike) = values_beside::<W>(pass, own, beside);
+    tell_places::<W, V>(texts, Pass { is_alike, ..pass }, page, path, own, others)
 }
 
 /// Whether two lists are lists of values under one name.
@@ -408,12 +488,20 @@ fn is_same_group(own: List, other: List) -> bool {
     }
 }
 
+/// A list of which all attributes are looked at.
+fn all_of<'a>(list: Attributes<'a>) -> Attributes<'a> {
+    Attributes {
+        number: None,
+        ..list
+    }
+}
+
 /// Another list of values under the same name.
 fn group_beside<'a>(own: List, beside: Option<Attributes<'a>>) -> Option<Attributes<'a>> {
     match beside {
         Some(other) => {
             if is_same_group(own, other.list) {
-                Some(other)
+                Some(all_of(other))
             } else {
                 None
             }
@@ -434,5 +522,5 @@ pub(crate) fn tell_group<W: Walk>(
 ) -> Result<(), AllocError> {
     let text = join(texts.alloc, path, name)?;
     let there = group_beside(own.list, beside);
-    tell_values::<W>(texts, pass, page, text.as_str(), own, there)
+    tell_values::<W, Group>(texts, pass, page, text.as_str(), all_of(own), there)
 }

@@ -6,7 +6,7 @@ use crate::frame_diff::path::join;
 use crate::frame_diff::side::Side;
 use crate::frame_shown::depth::Depth;
 use crate::frame_shown::form::{Around, Field, List, Way};
-use crate::frame_shown::list::{show_one_list, show_way};
+use crate::frame_shown::list::{show_one_array, show_one_list, show_way};
 use crate::frame_shown::tables::LINK_FLAGS;
 use crate::frame_shown::value::{show_field, show_spelled};
 use crate::link_info::Plain;
@@ -40,6 +40,8 @@ pub enum Value<'a> {
     LinkFlags(u64),
     /// The attributes of a list that have a name, as a list of values.
     Listed(List, &'a [u8]),
+    /// The attributes of a list that are the values of the list of a number.
+    Array(List, u16, &'a [u8]),
 }
 
 /// Room for the texts that are compared.
@@ -112,6 +114,18 @@ fn show_listed<D: Depth>(
     Ok(())
 }
 
+/// Adds the attributes that are the values of the list of a number.
+fn show_array<D: Depth>(
+    cx: &Around<'_>,
+    page: &mut Page,
+    name: &str,
+    list: List,
+    number: u16,
+    bytes: &[u8],
+) -> Result<(), AllocError> {
+    show_one_array::<D>(cx, page, name, &list, number, bytes)
+}
+
 /// Adds a value.
 fn show_value<D: Depth>(
     cx: &Around<'_>,
@@ -131,6 +145,9 @@ fn show_value<D: Depth>(
         Value::Octets(bytes) => page.hex(name, bytes),
         Value::LinkFlags(bits) => show_link_flags(page, name, bits),
         Value::Listed(list, bytes) => show_listed::<D>(cx, page, name, list, bytes),
+        Value::Array(list, number, bytes) => {
+            show_array::<D>(cx, page, name, list, number, bytes)
+        }
     }
 }
 

@@ -2,11 +2,11 @@
 //! What differs between the attributes of two lists.
 
 use crate::frame_diff::leaf::{Texts, is_same};
-use crate::frame_diff::named::{find_named, is_named};
+use crate::frame_diff::named::{find_named, is_named, is_unnamed, name_of};
 use crate::frame_diff::path::join;
 use crate::frame_diff::value::tell_value;
 use crate::frame_diff::walk::{Attribute, Attributes, Pass, Walk};
-use crate::frame_shown::form::{Around, List, is_kept, name_in, row_in};
+use crate::frame_shown::form::{Around, List, row_in};
 use crate::frame_shown::list::has_twice;
 use crate::nla_wire::{NlaBuffer, NlasIterator, padded_len};
 use crate::shown::Page;
@@ -142,7 +142,7 @@ fn tell_row<W: Walk>(
     tell_last::<W>(texts, pass, page, path, behind, others, name, own)
 }
 
-/// Tells of an attribute by its row, unless it is kept as it is.
+/// Tells of an attribute by its row, unless it has no name of its own.
 fn tell_frame<W: Walk>(
     texts: &mut Texts,
     pass: Pass,
@@ -153,7 +153,7 @@ fn tell_frame<W: Walk>(
     is_single: bool,
     frame: &NlaBuffer<'_>,
 ) -> Result<(), AllocError> {
-    match name_in(behind.around, behind.list, frame.kind(), frame.value()) {
+    match name_of(behind.around, behind.list, frame.kind(), frame.value()) {
         Some(name) => tell_row::<W>(
             texts, pass, page, path, behind, others, is_single, name, frame,
         ),
@@ -218,10 +218,10 @@ fn attribute_there<'a>(
     }
 }
 
-/// Whether an attribute is kept as it is, if there is one.
-fn is_kept_there(there: Option<Attribute<'_>>) -> bool {
+/// Whether an attribute has no name of its own, if there is one.
+fn is_unnamed_there(there: Option<Attribute<'_>>) -> bool {
     match there {
-        Some(other) => is_kept(other.way, other.payload),
+        Some(other) => is_unnamed(other.way, other.payload),
         None => false,
     }
 }
@@ -239,10 +239,10 @@ fn tell_single<W: Walk>(
 ) -> Result<(), AllocError> {
     let own = attribute(behind, frame);
     let there = attribute_there(others, beside);
-    if is_kept(own.way, own.payload) {
+    if is_unnamed(own.way, own.payload) {
         return tell_frame::<W>(texts, pass, page, path, behind, others, true, frame);
     }
-    if is_kept_there(there) {
+    if is_unnamed_there(there) {
         return tell_frame::<W>(texts, pass, page, path, behind, others, true, frame);
     }
     let (name, _) = row_in(behind.around, behind.list, own.number);

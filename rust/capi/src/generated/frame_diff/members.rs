@@ -2,6 +2,7 @@
 //! What differs between two lists of attributes.
 
 use crate::frame_diff::again::tell_repeated;
+use crate::frame_diff::arrays::tell_arrays;
 use crate::frame_diff::kept::tell_others;
 use crate::frame_diff::leaf::Texts;
 use crate::frame_diff::list::{is_single, tell_named};
@@ -28,7 +29,8 @@ fn tell_again<W: Walk>(
 }
 
 /// Tells of the attributes of a list that is shown as an object, beside those of another one: of each name the last
-/// one, then those behind which another one of their name stands, and those that are kept as they are, by their places.
+/// one, then the lists that attributes are the values of, then by their places those behind which another one of their
+/// name stands, and those that are kept as they are.
 pub(crate) fn tell_members<W: Walk>(
     texts: &mut Texts,
     pass: Pass,
@@ -39,6 +41,7 @@ pub(crate) fn tell_members<W: Walk>(
 ) -> Result<(), AllocError> {
     let is_single = is_single(own);
     tell_named::<W>(texts, pass, page, path, own, others, is_single)?;
+    tell_arrays::<W>(texts, pass, page, path, own, others)?;
     tell_again::<W>(texts, pass, page, path, own, others, is_single)?;
     tell_others(texts, pass, page, path, own, others)
 }

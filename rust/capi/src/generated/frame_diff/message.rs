@@ -126,11 +126,13 @@ fn tell_attributes(
     let list = Attributes {
         around: &here,
         list: List::Message(family),
+        number: None,
         bytes: own.attributes,
     };
     let beside = Attributes {
         around: &there,
         list: List::Message(their_family),
+        number: None,
         bytes: others.attributes,
     };
     let pass = Pass { is_alike, ..pass };
@@ -153,11 +155,13 @@ fn tell_refused(
     let list = Attributes {
         around: cx,
         list: List::Refused,
+        number: None,
         bytes: own,
     };
     let beside = Attributes {
         around: theirs,
         list: List::Refused,
+        number: None,
         bytes: others,
     };
     Flat::tell_list(texts, pass, page, "refused", list, Some(beside))

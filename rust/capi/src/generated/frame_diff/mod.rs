@@ -2,6 +2,7 @@
 //! What differs between two link messages, attribute by attribute: their frames, by the rows of `frame_shown`.
 
 pub mod again;
+pub mod arrays;
 pub mod counters;
 pub mod depth;
 pub mod fields;

@@ -6,10 +6,10 @@ use crate::frame_shown::form::{Form, List, Way};
 use crate::link_info::read::read;
 use crate::link_info::{Plain, Style, Value};
 
-/// Whether numbers of a style are flags.
-fn are_flags(style: Style) -> bool {
-    match style {
-        Style::Plain(Plain::Flags(_, _)) | Style::Plain(Plain::BigEndianFlags(_, _)) => true,
+/// Whether numbers that are spelled so are flags.
+fn are_flags(plain: Plain) -> bool {
+    match plain {
+        Plain::Flags(_, _) | Plain::BigEndianFlags(_, _) => true,
         _ => false,
     }
 }
@@ -19,7 +19,7 @@ fn nest_value(is_deep: bool, style: Style, value: Value<'_>) -> bool {
     match value {
         Value::Record(_, _) | Value::Array(_, _) | Value::List(_, _) => true,
         Value::Nest(_, _) => is_deep,
-        Value::Unsigned(_) => are_flags(style),
+        Value::Unsigned(_) => are_flags(style.plain()),
         _ => false,
     }
 }

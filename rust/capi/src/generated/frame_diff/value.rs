@@ -23,6 +23,7 @@ fn holds_none<W: Walk>(own: Attribute<'_>, held: &Holds<'_>) -> bool {
         Holds::List(list, bytes) => W::is_bare(Attributes {
             around: own.around,
             list: *list,
+            number: None,
             bytes,
         }),
     }
@@ -126,6 +127,7 @@ fn list_of<'a>(around: &'a Around<'a>, held: Holds<'a>) -> Option<Attributes<'a>
         Holds::List(list, bytes) => Some(Attributes {
             around,
             list,
+            number: None,
             bytes,
         }),
         Holds::Nothing | Holds::Passed | Holds::Fields(_, _) => None,
@@ -185,6 +187,7 @@ fn tell_held<W: Walk>(
             let own = Attributes {
                 around: own.around,
                 list: *list,
+                number: None,
                 bytes,
             };
             tell_inside::<W>(texts, pass, page, path, own, beside)

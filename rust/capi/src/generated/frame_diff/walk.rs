@@ -26,6 +26,8 @@ pub struct Attributes<'a> {
     pub around: &'a Around<'a>,
     /// Which rows it has.
     pub list: List,
+    /// The number of those that are looked at as the values of one list; none where all are looked at.
+    pub number: Option<u16>,
     /// Its bytes.
     pub bytes: &'a [u8],
 }

@@ -101,7 +101,7 @@ fn show_front(
     bytes: &[u8],
 ) -> Result<(), AllocError> {
     let list = accepted(alloc, bytes, family, false)?;
-    page.begin("before", Nest::Object)?;
+    page.keyed_begin("before", Nest::Object)?;
     show_attributes(cx, page, family, list.as_slice())?;
     page.end()
 }
@@ -115,7 +115,7 @@ pub fn show_before(
     bytes: &[u8],
 ) -> Result<(), AllocError> {
     let family = u8_at(bytes, 0);
-    page.number("ifi-family", family.into())?;
+    page.keyed_number("ifi-family", family.into())?;
     show_index(page, bytes)?;
     show_front(cx, page, alloc, family, rest_of(bytes))
 }

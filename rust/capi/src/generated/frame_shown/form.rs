@@ -525,6 +525,33 @@ pub(crate) fn is_kept_by(manner: Manner, payload: &[u8]) -> bool {
     }
 }
 
+/// Whether an attribute of this style is a value of a list.
+#[inline(always)]
+pub fn is_listed(style: &Style) -> bool {
+    match *style {
+        Style::Each(_) => true,
+        _ => false,
+    }
+}
+
+/// Whether an attribute is a value of a list, by the row where it stands.
+#[inline(always)]
+pub(crate) fn is_each_by(manner: Manner) -> bool {
+    match manner {
+        Manner::By(style) => is_listed(style),
+        _ => false,
+    }
+}
+
+/// The rows of link data among those of a list.
+pub fn data_rows(cx: &Around<'_>, list: &List) -> &'static [PlaceRow] {
+    match *list {
+        List::Of(place) => place.rows_in(cx.tables),
+        List::ProtoInet6 => Place::Inet6.rows_in(cx.tables),
+        _ => &[],
+    }
+}
+
 /// The kind that is shown of one that is kept.
 #[inline(always)]
 pub(crate) fn kind_shown(manner: Manner, kind: u16) -> u16 {

@@ -15,7 +15,7 @@ fn show_text(page: &mut Page, name: &str, text: &str) -> Result<(), AllocError> 
     if text.is_empty() {
         return Ok(());
     }
-    page.string(name, text)
+    page.keyed_string(name, text)
 }
 
 /// Adds an attribute as it is, to a list: its number, the name that the number has, if any, its flags and its payload.
@@ -23,7 +23,7 @@ fn show_text(page: &mut Page, name: &str, text: &str) -> Result<(), AllocError> 
 #[inline(never)]
 pub fn show_kept(page: &mut Page, name: &str, kind: u16, payload: &[u8]) -> Result<(), AllocError> {
     page.begin("", Nest::Object)?;
-    page.number("number", (kind & NLA_TYPE_MASK).into())?;
+    page.keyed_number("number", (kind & NLA_TYPE_MASK).into())?;
     show_text(page, "name", name)?;
     page.flags(
         "flags",

@@ -13,6 +13,9 @@ pub fn law_functions() {}
 /// No two attributes of a list, and no two fields of a record, have one name.
 pub fn law_names() {}
 
+/// Each attribute that is a value of a list is shown in an array: those of these numbers are, and no other.
+pub fn law_lists() {}
+
 /// The tables of names, places and forms that the code goes by are those of the annex.
 pub fn law_tables() {}
 

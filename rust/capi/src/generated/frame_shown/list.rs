@@ -3,12 +3,12 @@
 
 use crate::frame_shown::depth::Depth;
 use crate::frame_shown::form::{
-    Around, Form, Group, List, Manner, NUMBERS, Rows, Way, found_by, found_in, is_kept_by,
-    kind_shown, own_rows,
+    Around, Form, Group, List, Manner, NUMBERS, Rows, Way, data_rows, found_by, found_in,
+    is_each_by, is_kept_by, is_listed, kind_shown, own_rows,
 };
 use crate::frame_shown::kept::show_kept;
 use crate::frame_shown::value::{number_at, show_form, show_style, show_text};
-use crate::link_info::{Member, Place, Style};
+use crate::link_info::{Member, Place, Row as PlaceRow, Style};
 use crate::nla_wire::{NlaBuffer, NlasIterator};
 use crate::shown::{Nest, Page};
 use crate::rattle::alloc::AllocError;
@@ -86,7 +86,26 @@ fn show_manner<D: Depth>(
     }
 }
 
-/// Adds what an attribute says under its name, and returns whether it is kept as it is: then it says nothing here. The
+/// Which attributes of a list say nothing under a name of their own.
+struct Left {
+    /// Whether there is one that is kept as it is.
+    is_any_kept: bool,
+    /// Whether there is one that is a value of a list.
+    is_any_value: bool,
+}
+
+/// What an attribute says.
+#[derive(Clone, Copy)]
+enum Said {
+    /// Something under its name.
+    Named,
+    /// It is kept as it is.
+    Kept,
+    /// It is a value of a list.
+    Value,
+}
+
+/// Adds what an attribute says under its name. One that is kept as it is, and a value of a list, says nothing here. The
 /// rows are those of the list, if it goes by a table of this crate.
 #[inline(always)]
 fn show_frame<D: Depth>(
@@ -95,13 +114,16 @@ fn show_frame<D: Depth>(
     list: &List,
     rows: Option<Rows>,
     frame: &NlaBuffer<'_>,
-) -> Result<bool, AllocError> {
+) -> Result<Said, AllocError> {
     let (name, manner) = found_by(cx, list, rows, frame.kind());
     if is_kept_by(manner, frame.value()) {
-        return Ok(true);
+        return Ok(Said::Kept);
+    }
+    if is_each_by(manner) {
+        return Ok(Said::Value);
     }
     show_manner::<D>(cx, page, name, manner, frame.value())?;
-    Ok(false)
+    Ok(Said::Named)
 }
 
 /// The number of an attribute that is shown under a name.
@@ -110,6 +132,9 @@ fn number_in<D: Depth>(cx: &Around<'_>, list: &List, frame: &NlaBuffer<'_>) -> O
     let number = frame.kind();
     let (_, manner) = found_in(cx, list, number);
     if is_kept_by(manner, frame.value()) {
+        return None;
+    }
+    if is_each_by(manner) {
         return None;
     }
     Some(number as usize)
@@ -140,12 +165,23 @@ pub fn has_twice(bytes: &[u8]) -> bool {
     false
 }
 
+/// What an attribute leaves over: it is kept as it is, or a value of a list, or neither.
+fn left_by<D: Depth>(cx: &Around<'_>, list: &List, frame: &NlaBuffer<'_>) -> Left {
+    let (_, manner) = found_in(cx, list, frame.kind());
+    Left {
+        is_any_kept: is_kept_by(manner, frame.value()),
+        is_any_value: is_each_by(manner),
+    }
+}
+
 /// What the attributes of a list are together.
 struct Survey {
     /// Whether another attribute of its name stands after one of them.
     is_any_repeated: bool,
     /// Whether one of them is kept as it is.
     is_any_kept: bool,
+    /// Whether one of them is a value of a list.
+    is_any_value: bool,
 }
 
 /// Goes over the attributes of a list once.
@@ -153,6 +189,7 @@ fn look_over<D: Depth>(cx: &Around<'_>, list: &List, bytes: &[u8]) -> Survey {
     let mut seen = [0u8; NUMBERS];
     let mut is_any_repeated = false;
     let mut is_any_kept = false;
+    let mut is_any_value = false;
     for item in NlasIterator::new(bytes) {
         let frame = match item {
             Ok(frame) => frame,
@@ -162,33 +199,43 @@ fn look_over<D: Depth>(cx: &Around<'_>, list: &List, bytes: &[u8]) -> Survey {
             is_any_repeated |= seen[number] != 0;
             seen[number] = 1;
         } else {
-            is_any_kept = true;
+            let left = left_by::<D>(cx, list, &frame);
+            is_any_kept |= left.is_any_kept;
+            is_any_value |= left.is_any_value;
         }
     }
     Survey {
         is_any_repeated,
         is_any_kept,
+        is_any_value,
     }
 }
 
-/// Adds the attributes that have a name, and returns whether one of the others is kept as it is.
+/// Adds the attributes that have a name, and returns which of the others there are.
 fn show_named<D: Depth>(
     cx: &Around<'_>,
     page: &mut Page,
     list: &List,
     bytes: &[u8],
-) -> Result<bool, AllocError> {
+) -> Result<Left, AllocError> {
     let rows = own_rows(list);
     let mut is_any_kept = false;
+    let mut is_any_value = false;
     for item in NlasIterator::new(bytes) {
         let frame = match item {
             Ok(frame) => frame,
             _ => break,
         };
-        let is_kept = show_frame::<D>(cx, page, list, rows, &frame)?;
-        is_any_kept |= is_kept;
+        match show_frame::<D>(cx, page, list, rows, &frame)? {
+            Said::Named => {}
+            Said::Kept => is_any_kept = true,
+            Said::Value => is_any_value = true,
+        }
     }
-    Ok(is_any_kept)
+    Ok(Left {
+        is_any_kept,
+        is_any_value,
+    })
 }
 
 /// Adds an attribute that is kept.
@@ -253,6 +300,130 @@ fn show_others<D: Depth>(
         return Ok(());
     }
     show_some::<D>(cx, page, list, bytes)
+}
+
+/// How the values of the list of a number are shown, if its attributes are such.
+fn list_style(cx: &Around<'_>, list: &List, number: u16) -> Option<&'static Style> {
+    let (_, manner) = found_in(cx, list, number);
+    match manner {
+        Manner::By(style) if is_listed(style) => Some(style),
+        _ => None,
+    }
+}
+
+/// Whether there is an attribute of this number.
+fn comes(number: u16, bytes: &[u8]) -> bool {
+    for item in NlasIterator::new(bytes) {
+        let frame = match item {
+            Ok(frame) => frame,
+            _ => break,
+        };
+        if frame.kind() == number {
+            return true;
+        }
+    }
+    false
+}
+
+/// Adds what the attributes of this number hold, by a style.
+fn show_values<D: Depth>(
+    cx: &Around<'_>,
+    page: &mut Page,
+    style: &Style,
+    number: u16,
+    bytes: &[u8],
+) -> Result<(), AllocError> {
+    for item in NlasIterator::new(bytes) {
+        let frame = match item {
+            Ok(frame) => frame,
+            _ => break,
+        };
+        if frame.kind() == number {
+            show_style::<D>(cx, page, "", style, frame.value())?;
+        }
+    }
+    Ok(())
+}
+
+/// Adds the values of the list of a number.
+fn show_each<D: Depth>(
+    cx: &Around<'_>,
+    page: &mut Page,
+    list: &List,
+    number: u16,
+    bytes: &[u8],
+) -> Result<(), AllocError> {
+    match list_style(cx, list, number) {
+        Some(style) => show_values::<D>(cx, page, style, number, bytes),
+        None => Ok(()),
+    }
+}
+
+/// Adds the list of a number under a name, of whatever values there are.
+pub fn show_one_array<D: Depth>(
+    cx: &Around<'_>,
+    page: &mut Page,
+    name: &str,
+    list: &List,
+    number: u16,
+    bytes: &[u8],
+) -> Result<(), AllocError> {
+    page.begin(name, Nest::List)?;
+    show_each::<D>(cx, page, list, number, bytes)?;
+    page.end()
+}
+
+/// Adds the list that a row is of, if it is of one and that has a value.
+fn show_array<D: Depth>(
+    cx: &Around<'_>,
+    page: &mut Page,
+    list: &List,
+    row: &PlaceRow,
+    bytes: &[u8],
+) -> Result<(), AllocError> {
+    if !is_listed(&row.2) {
+        return Ok(());
+    }
+    let style = match list_style(cx, list, row.0) {
+        Some(style) => style,
+        _ => return Ok(()),
+    };
+    if !comes(row.0, bytes) {
+        return Ok(());
+    }
+    page.begin(row.1, Nest::List)?;
+    show_values::<D>(cx, page, style, row.0, bytes)?;
+    page.end()
+}
+
+/// Adds the lists that have a value, each under its name.
+#[inline(never)]
+fn show_arrays<D: Depth>(
+    cx: &Around<'_>,
+    page: &mut Page,
+    list: &List,
+    bytes: &[u8],
+) -> Result<(), AllocError> {
+    let rows = data_rows(cx, list);
+    for row in rows {
+        show_array::<D>(cx, page, list, row, bytes)?;
+    }
+    Ok(())
+}
+
+/// Adds the lists that have a value, if there are any.
+#[inline(always)]
+fn show_lists<D: Depth>(
+    cx: &Around<'_>,
+    page: &mut Page,
+    list: &List,
+    bytes: &[u8],
+    is_any_value: bool,
+) -> Result<(), AllocError> {
+    if !is_any_value {
+        return Ok(());
+    }
+    show_arrays::<D>(cx, page, list, bytes)
 }
 
 /// How many attributes there are of each number that has a name.
@@ -328,8 +499,8 @@ fn show_earlier<D: Depth>(
     Ok(())
 }
 
-/// Adds the attributes that have a name where some come again: the last one of each name, and after them a list of
-/// those that came before it.
+/// Adds the attributes that have a name where some come again: the last one of each name, the lists, and after them a
+/// list of those that came before the last one of their name.
 #[cold]
 #[inline(never)]
 fn show_repeated<D: Depth>(
@@ -337,27 +508,31 @@ fn show_repeated<D: Depth>(
     page: &mut Page,
     list: &List,
     bytes: &[u8],
+    is_any_value: bool,
 ) -> Result<(), AllocError> {
     let counts = count::<D>(cx, list, bytes);
     show_last::<D>(cx, page, list, bytes, &counts)?;
+    show_lists::<D>(cx, page, list, bytes, is_any_value)?;
     page.begin("repeated", Nest::List)?;
     show_earlier::<D>(cx, page, list, bytes, &counts)?;
     page.end()
 }
 
-/// Adds the attributes that have a name: the last one of each name, and after them those that came before it.
+/// Adds the attributes that have a name: the last one of each name, the lists, and after them those that came before
+/// the last one of their name.
 fn show_all<D: Depth>(
     cx: &Around<'_>,
     page: &mut Page,
     list: &List,
     bytes: &[u8],
     is_any_repeated: bool,
+    is_any_value: bool,
 ) -> Result<(), AllocError> {
     if is_any_repeated {
-        return show_repeated::<D>(cx, page, list, bytes);
+        return show_repeated::<D>(cx, page, list, bytes, is_any_value);
     }
     show_named::<D>(cx, page, list, bytes)?;
-    Ok(())
+    show_lists::<D>(cx, page, list, bytes, is_any_value)
 }
 
 /// Adds the attributes of a list as members, where some may come again.
@@ -369,7 +544,14 @@ fn show_surveyed<D: Depth>(
     bytes: &[u8],
 ) -> Result<(), AllocError> {
     let survey = look_over::<D>(cx, list, bytes);
-    show_all::<D>(cx, page, list, bytes, survey.is_any_repeated)?;
+    show_all::<D>(
+        cx,
+        page,
+        list,
+        bytes,
+        survey.is_any_repeated,
+        survey.is_any_value,
+    )?;
     show_others::<D>(cx, page, list, bytes, survey.is_any_kept)
 }
 
@@ -383,8 +565,9 @@ pub fn show_members<D: Depth>(
     if has_twice(bytes) {
         return show_surveyed::<D>(cx, page, list, bytes);
     }
-    let is_any_kept = show_named::<D>(cx, page, list, bytes)?;
-    show_others::<D>(cx, page, list, bytes, is_any_kept)
+    let left = show_named::<D>(cx, page, list, bytes)?;
+    show_lists::<D>(cx, page, list, bytes, left.is_any_value)?;
+    show_others::<D>(cx, page, list, bytes, left.is_any_kept)
 }
 
 /// Adds the attributes of a list as an object.
@@ -409,9 +592,9 @@ pub fn show_one_list<D: Depth>(
     bytes: &[u8],
 ) -> Result<bool, AllocError> {
     page.begin(name, Nest::List)?;
-    let is_any_kept = show_named::<D>(cx, page, list, bytes)?;
+    let left = show_named::<D>(cx, page, list, bytes)?;
     page.end()?;
-    Ok(is_any_kept)
+    Ok(left.is_any_kept)
 }
 
 /// Adds the attributes of a list as an object in which all that have a name stand in one list.

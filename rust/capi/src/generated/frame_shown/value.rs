@@ -151,15 +151,7 @@ fn show_meaning<D: Depth>(
         Value::Array(plain, bytes) => show_array(page, name, plain, bytes),
         Value::List(plain, bytes) => show_list(page, name, plain, bytes),
         Value::Nest(place, bytes) => D::show_list(cx, page, name, &List::Of(place), bytes),
-        value => show_plain(page, name, plain_in(style), value),
-    }
-}
-
-/// How values of a style are spelled, where they are of a fixed size.
-fn plain_in(style: Style) -> Plain {
-    match style {
-        Style::Plain(plain) => plain,
-        _ => Plain::Octets(0),
+        value => show_plain(page, name, style.plain(), value),
     }
 }
 

@@ -2,7 +2,7 @@
 //! Which values an attribute of a style can have.
 
 use crate::link_info::read::{are_elements, are_whole, has_size, is_whole_number};
-use crate::link_info::style::{Plain, Size, Style};
+use crate::link_info::style::{Element, Plain, Size, Style};
 use crate::link_info::value::Value;
 
 /// Whether a number has no more bytes than this.
@@ -43,6 +43,16 @@ fn plain_holds(plain: Plain, value: Value<'_>) -> bool {
     }
 }
 
+/// Whether a list can have the value.
+fn element_holds(element: Element, value: Value<'_>) -> bool {
+    match (element, value) {
+        (Element::Plain(plain), value) => plain_holds(plain, value),
+        (Element::Record(members), Value::Bytes(bytes)) => has_size(members, bytes.len()),
+        (Element::Nest(_), Value::Bytes(bytes)) => are_whole(bytes),
+        _ => false,
+    }
+}
+
 /// Whether an attribute of this style can have the value. A record, an array and a list are given by their bytes.
 pub fn holds(style: Style, value: Value<'_>) -> bool {
     match (style, value) {
@@ -50,6 +60,7 @@ pub fn holds(style: Style, value: Value<'_>) -> bool {
         (Style::Flag, Value::Flag) => true,
         (Style::Text, Value::Text(_)) => true,
         (Style::Plain(plain), value) => plain_holds(plain, value),
+        (Style::Each(element), value) => element_holds(element, value),
         (Style::Record(members), Value::Bytes(bytes)) => has_size(members, bytes.len()),
         (Style::Array(plain), Value::Bytes(bytes)) => is_whole_number(plain.size(), bytes.len()),
         (Style::List(plain), Value::Bytes(bytes)) => are_elements(bytes, plain.size()),

@@ -107,11 +107,11 @@ fn number_named(names: Names, name: &str) -> Option<u64> {
 
 /// The names of numbers or bits of this style.
 fn names_of(style: Style) -> Names {
-    match style {
-        Style::Plain(Plain::Named(_, names)) => names,
-        Style::Plain(Plain::BigEndianNamed(_, names)) => names,
-        Style::Plain(Plain::Flags(_, names)) => names,
-        Style::Plain(Plain::BigEndianFlags(_, names)) => names,
+    match style.plain() {
+        Plain::Named(_, names) => names,
+        Plain::BigEndianNamed(_, names) => names,
+        Plain::Flags(_, names) => names,
+        Plain::BigEndianFlags(_, names) => names,
         _ => &[],
     }
 }
@@ -139,9 +139,9 @@ fn bits_named(names: Names, flags: &[&str]) -> Option<u64> {
 
 /// The bits of these names, by a style of flags that has each.
 fn bits_of(style: Style, flags: &[&str]) -> Option<u64> {
-    match style {
-        Style::Plain(Plain::Flags(_, names)) => bits_named(names, flags),
-        Style::Plain(Plain::BigEndianFlags(_, names)) => bits_named(names, flags),
+    match style.plain() {
+        Plain::Flags(_, names) => bits_named(names, flags),
+        Plain::BigEndianFlags(_, names) => bits_named(names, flags),
         _ => None,
     }
 }

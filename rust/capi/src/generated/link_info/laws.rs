@@ -7,6 +7,9 @@ pub fn law_written() {}
 /// What was read and is written is read as the same. It holds of each style.
 pub fn law_read_again() {}
 
+/// A value of a list, which has an attribute for each, is read and written as one that stands alone.
+pub fn law_each() {}
+
 /// A list of attributes has one field for each frame, in order, by any table.
 pub fn law_one_field_each() {}
 

@@ -77,6 +77,17 @@ impl Plain {
 #[derive(Clone, Copy, Debug)]
 pub struct Member(pub &'static str, pub Plain);
 
+/// How a value is spelled of which a list has any number, each in an attribute of its own.
+#[derive(Clone, Copy, Debug)]
+pub enum Element {
+    /// One value of a fixed size.
+    Plain(Plain),
+    /// The members of a record, one after the other, with no padding between them.
+    Record(&'static [Member]),
+    /// Attributes that have a table of their own.
+    Nest(Place),
+}
+
 /// How the payload of an attribute is spelled.
 #[derive(Clone, Copy, Debug)]
 pub enum Style {
@@ -96,6 +107,18 @@ pub enum Style {
     List(Plain),
     /// Attributes that have a table of their own.
     Nest(Place),
+    /// One value of a list, which has an attribute of this number for each, in order.
+    Each(Element),
+}
+
+impl Style {
+    /// How its values are spelled, where they are of a fixed size.
+    pub fn plain(self) -> Plain {
+        match self {
+            Style::Plain(plain) | Style::Each(Element::Plain(plain)) => plain,
+            _ => Plain::Octets(0),
+        }
+    }
 }
 
 /// A row of a table: the number of an attribute, its name, and how its payload is spelled.

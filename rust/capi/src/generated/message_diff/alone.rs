@@ -18,10 +18,10 @@ fn show_head(
     family: AddressFamily,
     name: &Option<Text>,
 ) -> Result<(), AllocError> {
-    page.number("ifi-family", u8::from(family).into())?;
-    page.signed("ifi-index", i32_at(bytes, 4).into())?;
+    page.keyed_number("ifi-family", u8::from(family).into())?;
+    page.keyed_signed("ifi-index", i32_at(bytes, 4).into())?;
     match name {
-        Some(name) => page.string("ifname", name.as_str()),
+        Some(name) => page.keyed_string("ifname", name.as_str()),
         None => Ok(()),
     }
 }
@@ -60,7 +60,7 @@ pub fn push_alone(
 ) -> Result<(), AllocError> {
     let mut page = Page::new(alloc)?;
     show_told(&mut page, front)?;
-    page.string("change", change)?;
+    page.keyed_string("change", change)?;
     show_interface(alloc, &mut page, text)?;
     page.finish(out)?;
     out.push(b'\n')?;

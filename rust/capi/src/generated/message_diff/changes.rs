@@ -81,7 +81,7 @@ fn tell_changes(
 /// Adds both encodings in hexadecimal, as a change.
 fn show_texts(page: &mut Page, old: &[u8], new: &[u8]) -> Result<(), AllocError> {
     page.begin("", Nest::Object)?;
-    page.string("path", "state")?;
+    page.keyed_string("path", "state")?;
     page.hex("old", old)?;
     page.hex("new", new)?;
     page.end()

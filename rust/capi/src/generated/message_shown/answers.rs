@@ -131,7 +131,7 @@ pub(crate) fn push_fault(
 ) -> Result<(), AllocError> {
     let mut page = room.begin()?;
     show_words(cx.alloc, &mut page, front)?;
-    page.string("fault", cause_name(&error.cause))?;
+    page.keyed_string("fault", cause_name(&error.cause))?;
     show_fault(cx, &mut page, bytes, error)?;
     room.finish(page, waiting)?;
     waiting.push(b'\n')?;
@@ -168,7 +168,7 @@ fn push_not_hex(
     }
     let mut page = room.begin()?;
     show_words(alloc, &mut page, front)?;
-    page.string("fault", "not-hex")?;
+    page.keyed_string("fault", "not-hex")?;
     room.finish(page, waiting)?;
     waiting.push(b'\n')?;
     Ok(())

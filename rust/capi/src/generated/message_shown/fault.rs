@@ -16,10 +16,10 @@ pub fn show_fault(
     bytes: &[u8],
     error: &DecodeError,
 ) -> Result<(), AllocError> {
-    page.string("at", error.place)?;
+    page.keyed_string("at", error.place)?;
     show_cause(page, &error.cause)?;
     if let Some(at) = LinkMessage::fault_at(bytes) {
-        page.number("offset", at as u64)?;
+        page.keyed_number("offset", at as u64)?;
         show_rest(cx, page, bytes)?;
     }
     Ok(())

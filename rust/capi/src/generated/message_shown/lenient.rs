@@ -40,7 +40,7 @@ fn name_of(kind: u16) -> &'static str {
 /// Adds the name of an attribute of this kind, where these numbers lead to one that is inside of it.
 fn show_holder(page: &mut Page, numbers: &[u16], kind: u16) -> Result<(), AllocError> {
     match numbers {
-        [_, _, ..] => page.string("in", name_of(kind)),
+        [_, _, ..] => page.keyed_string("in", name_of(kind)),
         _ => Ok(()),
     }
 }
@@ -60,10 +60,10 @@ fn show_refusal(page: &mut Page, refusal: &Refusal<'_>) -> Result<(), AllocError
     let error = refusal.error();
     let path = refusal.path();
     page.begin("", Nest::Object)?;
-    page.string("at", error.place)?;
-    page.string("fault", cause_name(&error.cause))?;
+    page.keyed_string("at", error.place)?;
+    page.keyed_string("fault", cause_name(&error.cause))?;
     show_cause(page, &error.cause)?;
-    page.number("offset", path.offset as u64)?;
+    page.keyed_number("offset", path.offset as u64)?;
     show_attribute(page, refusal, path.numbers())?;
     page.end()
 }

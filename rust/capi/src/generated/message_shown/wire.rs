@@ -36,7 +36,7 @@ fn show_two(
 pub fn show_cause(page: &mut Page, cause: &Cause) -> Result<(), AllocError> {
     match cause {
         Cause::TooShort { got, need } => show_two(page, "got", *got, "need", *need),
-        Cause::FrameShort { left } => page.number("left", *left as u64),
+        Cause::FrameShort { left } => page.keyed_number("left", *left as u64),
         Cause::FrameOver { length, left } => show_two(
             page,
             "length",
@@ -44,7 +44,7 @@ pub fn show_cause(page: &mut Page, cause: &Cause) -> Result<(), AllocError> {
             "left",
             *left,
         ),
-        Cause::FrameUnder { length } => page.number("length", (*length).into()),
+        Cause::FrameUnder { length } => page.keyed_number("length", (*length).into()),
         Cause::WrongLength { got, want } => show_two(page, "got", *got, "want", *want),
         _ => Ok(()),
     }

@@ -6,20 +6,41 @@
 
 use crate::shown::block::{put_byte, put_exactly, put_plain};
 
-/// What stands behind the backslash where a byte has an escape of two bytes; else 0.
-#[inline(always)]
-fn letter(byte: u8) -> u8 {
-    match byte {
-        0x08 => b'b',
-        b'\t' => b't',
-        b'\n' => b'n',
-        0x0c => b'f',
-        b'\r' => b'r',
-        b'"' => b'"',
-        b'\\' => b'\\',
-        _ => 0,
-    }
-}
+/// The escape of each byte below a blank, at the front of six bytes, and its length.
+const CONTROLS: [([u8; 6], usize); 32] = [
+    (*b"\\u0000", 6),
+    (*b"\\u0001", 6),
+    (*b"\\u0002", 6),
+    (*b"\\u0003", 6),
+    (*b"\\u0004", 6),
+    (*b"\\u0005", 6),
+    (*b"\\u0006", 6),
+    (*b"\\u0007", 6),
+    (*b"\\b\0\0\0\0", 2),
+    (*b"\\t\0\0\0\0", 2),
+    (*b"\\n\0\0\0\0", 2),
+    (*b"\\u000b", 6),
+    (*b"\\f\0\0\0\0", 2),
+    (*b"\\r\0\0\0\0", 2),
+    (*b"\\u000e", 6),
+    (*b"\\u000f", 6),
+    (*b"\\u0010", 6),
+    (*b"\\u0011", 6),
+    (*b"\\u0012", 6),
+    (*b"\\u0013", 6),
+    (*b"\\u0014", 6),
+    (*b"\\u0015", 6),
+    (*b"\\u0016", 6),
+    (*b"\\u0017", 6),
+    (*b"\\u0018", 6),
+    (*b"\\u0019", 6),
+    (*b"\\u001a", 6),
+    (*b"\\u001b", 6),
+    (*b"\\u001c", 6),
+    (*b"\\u001d", 6),
+    (*b"\\u001e", 6),
+    (*b"\\u001f", 6),
+];
 
 /// The digit of a value below 16.
 #[inline(always)]
@@ -33,13 +54,10 @@ fn digit(value: u16) -> u8 {
 /// The escape of a byte, or the byte where it needs none, at the front of six bytes, and its length.
 #[inline(always)]
 fn escape_of(byte: u8) -> ([u8; 6], usize) {
-    match letter(byte) {
-        0 if byte >= 0x20 => ([byte, 0, 0, 0, 0, 0], 1),
-        0 => {
-            let low = digit(u16::from(byte) % 16);
-            ([b'\\', b'u', b'0', b'0', b'0' + byte / 16, low], 6)
-        }
-        letter => ([b'\\', letter, 0, 0, 0, 0], 2),
+    match CONTROLS.get(usize::from(byte)) {
+        Some(escape) => *escape,
+        None if is_slashed(byte) => ([b'\\', byte, 0, 0, 0, 0], 2),
+        None => ([byte, 0, 0, 0, 0, 0], 1),
     }
 }
 

@@ -2,7 +2,7 @@
 //! Attributes whose members depend on an address family: of `IFLA_AF_SPEC` and `IFLA_PROTINFO`, and of ports.
 
 use crate::link_info::place::Place;
-use crate::link_info::style::{Member, Names, Plain, Row, Size, Style};
+use crate::link_info::style::{Element, Member, Names, Plain, Row, Size, Style};
 use crate::link_info::tables::{IPV6, U16, U32};
 
 /// Whom a request is for (`BRIDGE_FLAGS_*`, linux/if_bridge.h).
@@ -51,8 +51,8 @@ const REQUESTS: Names = &[(0, "preassociate"), (1, "preassociate-rr"), (2, "asso
 pub const BRIDGE_SPEC: &[Row] = &[
     Row(0, "flags", Style::Plain(Plain::Flags(Size::Two, BRIDGE_FLAGS))),
     Row(1, "mode", Style::Plain(Plain::Named(Size::Two, BRIDGE_MODES))),
-    Row(2, "vlan-info", Style::Record(VLAN_INFO)),
-    Row(3, "vlan-tunnel-info", Style::Nest(Place::BridgeVlanTunnel)),
+    Row(2, "vlan-info", Style::Each(Element::Record(VLAN_INFO))),
+    Row(3, "vlan-tunnel-info", Style::Each(Element::Nest(Place::BridgeVlanTunnel))),
     Row(6, "mst", Style::Nest(Place::BridgeMst)),
 ];
 
@@ -61,7 +61,7 @@ pub const BRIDGE_VLAN_TUNNEL: &[Row] =
     &[Row(1, "id", U32), Row(2, "vid", U16), Row(3, "flags", Style::Plain(Plain::Flags(Size::Two, VLAN_FLAGS)))];
 
 /// Spanning trees of a port (`IFLA_BRIDGE_MST_*`, linux/if_bridge.h).
-pub const BRIDGE_MST: &[Row] = &[Row(1, "entry", Style::Nest(Place::BridgeMstEntry))];
+pub const BRIDGE_MST: &[Row] = &[Row(1, "entry", Style::Each(Element::Nest(Place::BridgeMstEntry)))];
 
 /// A spanning tree of a port (`IFLA_BRIDGE_MST_ENTRY_*`, linux/if_bridge.h).
 pub const BRIDGE_MST_ENTRY: &[Row] =

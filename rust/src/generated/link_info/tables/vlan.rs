@@ -2,7 +2,7 @@
 //! The data of a vlan (`IFLA_VLAN_*`, linux/if_link.h).
 
 use crate::link_info::place::Place;
-use crate::link_info::style::{Member, Names, Plain, Row, Size, Style};
+use crate::link_info::style::{Element, Member, Names, Plain, Row, Size, Style};
 use crate::link_info::tables::U16;
 
 /// Protocols of vlans (`ETH_P_8021*`, linux/if_ether.h).
@@ -28,4 +28,4 @@ pub const VLAN: &[Row] = &[
 ];
 
 /// Mappings of priorities.
-pub const VLAN_QOS: &[Row] = &[Row(1, "mapping", Style::Record(MAPPING))];
+pub const VLAN_QOS: &[Row] = &[Row(1, "mapping", Style::Each(Element::Record(MAPPING)))];

@@ -2,7 +2,7 @@
 //! The data of macvlan, macvtap, ipvlan and ipvtap (`IFLA_MACVLAN_*`, `IFLA_IPVLAN_*`, linux/if_link.h).
 
 use crate::link_info::place::Place;
-use crate::link_info::style::{Names, Plain, Row, Size, Style};
+use crate::link_info::style::{Element, Names, Plain, Row, Size, Style};
 use crate::link_info::tables::{I32, MAC, U32};
 
 /// How a macvlan passes packets on (`enum macvlan_mode`).
@@ -44,7 +44,7 @@ pub const MACVLAN: &[Row] = &[
 ];
 
 /// Addresses that packets are taken from.
-pub const MACVLAN_ADDRESSES: &[Row] = &[Row(4, "macaddr", MAC)];
+pub const MACVLAN_ADDRESSES: &[Row] = &[Row(4, "macaddr", Style::Each(Element::Plain(Plain::Mac)))];
 
 /// The data of an ipvlan or ipvtap.
 pub const IPVLAN: &[Row] = &[
