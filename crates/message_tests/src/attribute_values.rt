@@ -1,8 +1,8 @@
 //! Messages of one attribute that is no list: the value that is read, and its text.
 
 use crate::rows::*;
-use crate::testing::read_message;
-use expected::{bytes_from, kept, list, text_from, zeros_after};
+use crate::testing::{holds, kept_of, list_of, read_message, text_of, value_of};
+use expected::zeros_after;
 use link_msg::*;
 use std::alloc::Global;
 use std::process::Abort;
@@ -27,7 +27,7 @@ fn names(rt: HostRuntime) {
         ("no padding", &[0x07, 0x00, 0x03, 0x00, 0x6c, 0x6f, 0x00]),
         ("the text", text),
     ] {
-        let name = LinkAttribute::IfName(text_from(alloc, "lo").expect(&rt, "memory"));
+        let name = LinkAttribute::IfName(text_of(&rt, alloc, "lo"));
         is_attribute_row(&rt, alloc, label, 0, bytes, name, text);
     }
 }
@@ -87,16 +87,14 @@ fn numbers(rt: HostRuntime) {
         alloc,
         "IFLA_EXT_MASK with a flag that is not listed",
         &[0x08, 0x00, 0x1d, 0x00, 0x09, 0x01, 0x00, 0x00],
-        LinkAttribute::ExtMask(list(alloc, [vf, skip, LinkExtentMask::Other(256)]).expect(
-            &rt, "memory",
-        )),
+        LinkAttribute::ExtMask(list_of(&rt, alloc, [vf, skip, LinkExtentMask::Other(256)])),
     );
     is_kept_row(
         &rt,
         alloc,
         "IFLA_EXT_MASK of 0",
         &[0x08, 0x00, 0x1d, 0x00, 0x00, 0x00, 0x00, 0x00],
-        LinkAttribute::ExtMask(list(alloc, []).expect(&rt, "memory")),
+        LinkAttribute::ExtMask(list_of(&rt, alloc, [])),
     );
     is_kept_row(
         &rt,
@@ -115,21 +113,21 @@ fn kept_attributes(rt: HostRuntime) {
         alloc,
         "a number that is not listed",
         &[0x06, 0x00, 0x2a, 0xc0, 0xde, 0xad, 0x00, 0x00],
-        LinkAttribute::Other(kept(alloc, 0xc02a, &[0xde, 0xad]).expect(&rt, "memory")),
+        LinkAttribute::Other(kept_of(&rt, alloc, 0xc02a, &[0xde, 0xad])),
     );
     is_kept_row(
         &rt,
         alloc,
         "IFLA_HEADROOM of 4 bytes",
         &[0x08, 0x00, 0x44, 0x80, 0x20, 0x00, 0x00, 0x00],
-        LinkAttribute::Other(kept(alloc, 0x8044, &[0x20, 0x00, 0x00, 0x00]).expect(&rt, "memory")),
+        LinkAttribute::Other(kept_of(&rt, alloc, 0x8044, &[0x20, 0x00, 0x00, 0x00])),
     );
     is_kept_row(
         &rt,
         alloc,
         "IFLA_HEADROOM of no bytes",
         &[0x04, 0x00, 0x44, 0x00],
-        LinkAttribute::Other(kept(alloc, 68, &[]).expect(&rt, "memory")),
+        LinkAttribute::Other(kept_of(&rt, alloc, 68, &[])),
     );
 }
 
@@ -137,7 +135,7 @@ fn kept_attributes(rt: HostRuntime) {
 #[test]
 fn a_kept_headroom(rt: HostRuntime) {
     let alloc = rt.alloc();
-    let nla = kept(alloc, 68, &[0x20, 0x00]).expect(&rt, "memory");
+    let nla = kept_of(&rt, alloc, 68, &[0x20, 0x00]);
     let made = message_of(&rt, alloc, [LinkAttribute::Other(nla)]);
     let text = with_header(
         &rt,
@@ -153,9 +151,9 @@ fn a_kept_headroom(rt: HostRuntime) {
 #[test]
 fn wireless_events(rt: HostRuntime) {
     let alloc = rt.alloc();
-    let request = WirelessEvent::AssociateRequest(bytes_from(alloc, &[0xaa]).expect(&rt, "memory"));
+    let request = WirelessEvent::AssociateRequest(value_of(&rt, alloc, &[0xaa]));
     let other = [0x08, 0x00, 0x01, 0x8b, 0x00, 0x00, 0x00, 0x00];
-    let other = WirelessEvent::Other(bytes_from(alloc, &other).expect(&rt, "memory"));
+    let other = WirelessEvent::Other(value_of(&rt, alloc, &other));
     is_attribute_row(
         &rt,
         alloc,
@@ -287,13 +285,13 @@ fn what_does_not_fit(rt: HostRuntime) {
         id: [7; 32],
         len: 33,
     };
-    let mask = LinkAttribute::ExtMask(list(alloc, flags).expect(&rt, "memory"));
+    let mask = LinkAttribute::ExtMask(list_of(&rt, alloc, flags));
     for (label, attribute) in [
         ("IFLA_EXT_MASK", mask),
         ("IFLA_PHYS_PORT_ID", LinkAttribute::PhysPortId(id)),
     ] {
-        assert!(rt; !attribute.fits(), "{label}");
-        assert!(rt; !message_of(&rt, alloc, [attribute]).fits(), "{label}");
+        holds(&rt, label, !attribute.fits());
+        holds(&rt, label, !message_of(&rt, alloc, [attribute]).fits());
     }
 }
 

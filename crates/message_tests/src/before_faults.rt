@@ -1,7 +1,8 @@
 //! What is read of a message in front of the first fault of its attributes.
 
 use crate::rows::{message_of, with_header};
-use expected::{cause_of, text_from};
+use crate::testing::{holds, is_same, text_of};
+use expected::cause_of;
 use link_msg::*;
 use std::alloc::Global;
 use std::process::Abort;
@@ -47,13 +48,13 @@ fn is_read_before(
 ) {
     let bytes = with_header(rt, alloc, 0, attributes);
     let (message, found) = read_before_fault(alloc, bytes.as_slice()).expect(rt, "it is read");
-    assert!(rt; message == *wanted, "{label}");
-    assert!(rt; found == fault, "{label}");
+    holds(rt, label, message == *wanted);
+    holds(rt, label, found == fault);
 }
 
 /// The message of `READ`.
 fn two_attributes(rt: &impl Abort, alloc: Global) -> LinkMessage {
-    let name = LinkAttribute::IfName(text_from(alloc, "lo").expect(rt, "memory"));
+    let name = LinkAttribute::IfName(text_of(rt, alloc, "lo"));
     message_of(rt, alloc, [LinkAttribute::Mtu(1500), name])
 }
 
@@ -97,6 +98,6 @@ fn of_short_headers(rt: HostRuntime) {
         let found = cause_of(read_before_fault(rt.alloc(), bytes));
         let got = bytes.len();
         let wanted = Cause::TooShort { got, need: 16 };
-        assert_eq!(rt; found, Some(wanted), "a header of {got} bytes");
+        is_same(&rt, "a short header", &found, &Some(wanted));
     }
 }

@@ -1,7 +1,8 @@
 //! Empty lists of ports, which are read, and have no canonical encoding.
 
 use crate::rows::*;
-use expected::{GROWTH, list, text_from, vec_from};
+use crate::testing::{list_of, text_of, vec_of};
+use expected::GROWTH;
 use link_msg::laws::law_room;
 use link_msg::*;
 use std::alloc::Global;
@@ -21,7 +22,7 @@ fn no_ports(rt: HostRuntime) {
     let made = message_of(
         &rt,
         alloc,
-        [LinkAttribute::VfPorts(list(alloc, []).expect(&rt, "memory"))],
+        [LinkAttribute::VfPorts(list_of(&rt, alloc, []))],
     );
     is_portless_row(
         &rt,
@@ -46,7 +47,7 @@ fn in_a_long_buffer(rt: HostRuntime) {
 
 /// These bytes, and an alias that gets no room for its NUL.
 fn with_alias(rt: &impl Abort, alloc: Global, front: &[u8]) -> Vec<u8> {
-    let mut bytes = vec_from(alloc, front).expect(rt, "memory");
+    let mut bytes = vec_of(rt, alloc, front);
     bytes
         .extend_from_slice(&[0xff, 0xff, 0x14, 0x00])
         .expect(rt, "memory");
@@ -59,12 +60,12 @@ fn with_alias(rt: &impl Abort, alloc: Global, front: &[u8]) -> Vec<u8> {
 fn what_does_not_fit_comes_first(rt: HostRuntime) {
     let alloc = rt.alloc();
     let unfit = with_alias(&rt, alloc, &NO_PORTS);
-    let alias = text_from(
+    let alias = text_of(
+        &rt,
         alloc,
         std::str::from_utf8(&[0x61; 65531]).expect(&rt, "memory"),
-    )
-    .expect(&rt, "memory");
-    let ports = LinkAttribute::VfPorts(list(alloc, []).expect(&rt, "memory"));
+    );
+    let ports = LinkAttribute::VfPorts(list_of(&rt, alloc, []));
     let wanted = message_of(&rt, alloc, [ports, LinkAttribute::IfAlias(alias)]);
     is_unfit_row(
         &rt,
@@ -109,7 +110,7 @@ const SHORT: [u8; 4] = [0x03, 0x00, 0x63, 0x00];
 
 /// These bytes, and a frame that is no frame.
 fn with_fault(rt: &impl Abort, alloc: Global, front: &[u8]) -> Vec<u8> {
-    let mut bytes = vec_from(alloc, front).expect(rt, "memory");
+    let mut bytes = vec_of(rt, alloc, front);
     bytes.extend_from_slice(&SHORT).expect(rt, "memory");
     bytes
 }

@@ -1,7 +1,8 @@
 //! Messages that are read leniently: what is refused is kept whole, told, and written as it was.
 
 use crate::rows::{message_of, with_header};
-use expected::{GROWTH, cause_of, equal, is_stored, kept, text_from};
+use crate::testing::{kept_of, text_of};
+use expected::{GROWTH, cause_of, equal, is_stored};
 use link_msg::laws::law_lenient_room;
 use link_msg::*;
 use std::alloc::Global;
@@ -56,9 +57,9 @@ fn told(rt: &impl Abort, bytes: &[u8], wanted: &[(usize, Cause, usize)]) -> bool
 
 /// The message of `MIXED`.
 fn mixed(rt: &impl Abort, alloc: Global) -> LinkMessage {
-    let alias = kept(alloc, 0xc014, &[0xe9]).expect(rt, "memory");
-    let name = text_from(alloc, "lo").expect(rt, "memory");
-    let ports = kept(alloc, 0x18, &[]).expect(rt, "memory");
+    let alias = kept_of(rt, alloc, 0xc014, &[0xe9]);
+    let name = text_of(rt, alloc, "lo");
+    let ports = kept_of(rt, alloc, 0x18, &[]);
     let wanted = [
         LinkAttribute::Mtu(1500),
         LinkAttribute::Other(alias),

@@ -1,7 +1,8 @@
 //! Messages of one attribute that is a list: the value that is read, and its text.
 
 use crate::rows::*;
-use expected::{bytes_from, equal, kept, list, text_from, zeros_after};
+use crate::testing::{kept_of, list_of, text_of, value_of};
+use expected::{equal, zeros_after};
 use link_msg::*;
 use std::alloc::Global;
 use std::process::Abort;
@@ -15,7 +16,7 @@ fn empty_lists(rt: HostRuntime) {
         "IFLA_VFINFO_LIST of no bytes",
         0,
         &[0x04, 0x00, 0x16, 0x00],
-        LinkAttribute::VfInfoList(list(alloc, []).expect(&rt, "memory")),
+        LinkAttribute::VfInfoList(list_of(&rt, alloc, [])),
         &[0x04, 0x00, 0x16, 0x00],
     );
     is_attribute_row(
@@ -26,7 +27,7 @@ fn empty_lists(rt: HostRuntime) {
         &[
             0x0c, 0x00, 0x16, 0x00, 0x08, 0x00, 0x05, 0x00, 0xff, 0xff, 0xff, 0xff,
         ],
-        LinkAttribute::VfInfoList(list(alloc, []).expect(&rt, "memory")),
+        LinkAttribute::VfInfoList(list_of(&rt, alloc, [])),
         &[0x04, 0x00, 0x16, 0x00],
     );
     is_attribute_row(
@@ -35,7 +36,7 @@ fn empty_lists(rt: HostRuntime) {
         "IFLA_AF_SPEC of no bytes",
         0,
         &[0x04, 0x00, 0x1a, 0x00],
-        LinkAttribute::AfSpecUnspec(list(alloc, []).expect(&rt, "memory")),
+        LinkAttribute::AfSpecUnspec(list_of(&rt, alloc, [])),
         &[0x04, 0x00, 0x1a, 0x00],
     );
     is_attribute_row(
@@ -44,7 +45,7 @@ fn empty_lists(rt: HostRuntime) {
         "IFLA_PROP_LIST of no bytes",
         0,
         &[0x04, 0x00, 0x34, 0x00],
-        LinkAttribute::PropList(list(alloc, []).expect(&rt, "memory")),
+        LinkAttribute::PropList(list_of(&rt, alloc, [])),
         &[0x04, 0x00, 0x34, 0x80],
     );
 }
@@ -52,8 +53,8 @@ fn empty_lists(rt: HostRuntime) {
 #[test]
 fn one_port(rt: HostRuntime) {
     let alloc = rt.alloc();
-    let member = VfPort::Other(kept(alloc, 1, &[0x05, 0x00, 0x00, 0x00]).expect(&rt, "memory"));
-    let port = LinkAttribute::PortSelf(LinkVfPort(list(alloc, [member]).expect(&rt, "memory")));
+    let member = VfPort::Other(kept_of(&rt, alloc, 1, &[0x05, 0x00, 0x00, 0x00]));
+    let port = LinkAttribute::PortSelf(LinkVfPort(list_of(&rt, alloc, [member])));
     let text = [
         0x0c, 0x00, 0x19, 0x00, 0x08, 0x00, 0x01, 0x00, 0x05, 0x00, 0x00, 0x00,
     ];
@@ -64,13 +65,13 @@ fn one_port(rt: HostRuntime) {
 #[test]
 fn two_ports(rt: HostRuntime) {
     let alloc = rt.alloc();
-    let first = VfPort::Other(kept(alloc, 1, &[0x05, 0x00, 0x00, 0x00]).expect(&rt, "memory"));
-    let second = VfPort::Other(kept(alloc, 2 | NLA_F_NESTED, &[0xff]).expect(&rt, "memory"));
+    let first = VfPort::Other(kept_of(&rt, alloc, 1, &[0x05, 0x00, 0x00, 0x00]));
+    let second = VfPort::Other(kept_of(&rt, alloc, 2 | NLA_F_NESTED, &[0xff]));
     let ports = [
-        LinkVfPort(list(alloc, [first]).expect(&rt, "memory")),
-        LinkVfPort(list(alloc, [second]).expect(&rt, "memory")),
+        LinkVfPort(list_of(&rt, alloc, [first])),
+        LinkVfPort(list_of(&rt, alloc, [second])),
     ];
-    let ports = LinkAttribute::VfPorts(list(alloc, ports).expect(&rt, "memory"));
+    let ports = LinkAttribute::VfPorts(list_of(&rt, alloc, ports));
     let bytes = [
         0x21, 0x00, 0x18, 0x00, 0x0c, 0x00, 0x01, 0x00, 0x08, 0x00, 0x01, 0x00, 0x05, 0x00, 0x00,
         0x00, 0x05, 0x00, 0x02, 0x00, 0xff, 0x00, 0x00, 0x00, 0x09, 0x00, 0x01, 0x80, 0x05, 0x00,
@@ -85,8 +86,8 @@ fn two_ports(rt: HostRuntime) {
 
 /// The list of one function with one member.
 fn function(rt: &impl Abort, alloc: Global, member: VfInfo) -> LinkAttribute {
-    let function = LinkVfInfo(list(alloc, [member]).expect(rt, "memory"));
-    LinkAttribute::VfInfoList(list(alloc, [function]).expect(rt, "memory"))
+    let function = LinkVfInfo(list_of(rt, alloc, [member]));
+    LinkAttribute::VfInfoList(list_of(rt, alloc, [function]))
 }
 
 #[test]
@@ -158,10 +159,10 @@ fn functions_with_lists(rt: HostRuntime) {
     let mut tagged_read = tagged;
     tagged_read[30] = 0x12;
     tagged_read[31] = 0x34;
-    let one = VfInfo::Stats(list(alloc, [VfStats::RxPackets(7)]).expect(&rt, "memory"));
-    let none = VfInfo::Stats(list(alloc, []).expect(&rt, "memory"));
+    let one = VfInfo::Stats(list_of(&rt, alloc, [VfStats::RxPackets(7)]));
+    let none = VfInfo::Stats(list_of(&rt, alloc, []));
     let vlan = VfVlan::Info(VfVlanInfo::new(1, 100, 0, VlanProtocol::Ieee8021Ad));
-    let vlans = VfInfo::VlanList(list(alloc, [vlan]).expect(&rt, "memory"));
+    let vlans = VfInfo::VlanList(list_of(&rt, alloc, [vlan]));
     is_attribute_row(
         &rt,
         alloc,
@@ -194,11 +195,11 @@ fn functions_with_lists(rt: HostRuntime) {
 #[test]
 fn flat_lists(rt: HostRuntime) {
     let alloc = rt.alloc();
-    let name = Prop::AltIfName(text_from(alloc, "").expect(&rt, "memory"));
-    let letter = Prop::AltIfName(text_from(alloc, "a").expect(&rt, "memory"));
+    let name = Prop::AltIfName(text_of(&rt, alloc, ""));
+    let letter = Prop::AltIfName(text_of(&rt, alloc, "a"));
     let attached = LinkXdp::Attached(XdpAttached::SocketBuffer);
     let binding = AfSpecMctp::PhysBinding(MctpPhysBinding::Vendor);
-    let mctp = AfSpecUnspec::Mctp(list(alloc, [binding]).expect(&rt, "memory"));
+    let mctp = AfSpecUnspec::Mctp(list_of(&rt, alloc, [binding]));
     let path = [
         0x0c, 0x00, 0x2b, 0x00, 0x05, 0x00, 0x02, 0x00, 0x02, 0x00, 0x00, 0x00,
     ];
@@ -212,7 +213,7 @@ fn flat_lists(rt: HostRuntime) {
         "IFLA_ALT_IFNAME of no letters",
         0,
         &[0x08, 0x00, 0x34, 0x00, 0x04, 0x00, 0x35, 0x00],
-        LinkAttribute::PropList(list(alloc, [name]).expect(&rt, "memory")),
+        LinkAttribute::PropList(list_of(&rt, alloc, [name])),
         &[
             0x0c, 0x00, 0x34, 0x80, 0x05, 0x00, 0x35, 0x00, 0x00, 0x00, 0x00, 0x00,
         ],
@@ -223,7 +224,7 @@ fn flat_lists(rt: HostRuntime) {
         "IFLA_ALT_IFNAME of a letter",
         0,
         &[0x09, 0x00, 0x34, 0x00, 0x05, 0x00, 0x35, 0x00, 0x61],
-        LinkAttribute::PropList(list(alloc, [letter]).expect(&rt, "memory")),
+        LinkAttribute::PropList(list_of(&rt, alloc, [letter])),
         &[
             0x0c, 0x00, 0x34, 0x80, 0x06, 0x00, 0x35, 0x00, 0x61, 0x00, 0x00, 0x00,
         ],
@@ -234,7 +235,7 @@ fn flat_lists(rt: HostRuntime) {
         "IFLA_XDP_ATTACHED",
         0,
         &path,
-        LinkAttribute::Xdp(list(alloc, [attached]).expect(&rt, "memory")),
+        LinkAttribute::Xdp(list_of(&rt, alloc, [attached])),
         &path,
     );
     is_attribute_row(
@@ -243,7 +244,7 @@ fn flat_lists(rt: HostRuntime) {
         "AF_MCTP",
         0,
         &families,
-        LinkAttribute::AfSpecUnspec(list(alloc, [mctp]).expect(&rt, "memory")),
+        LinkAttribute::AfSpecUnspec(list_of(&rt, alloc, [mctp])),
         &families,
     );
 }
@@ -252,16 +253,16 @@ fn flat_lists(rt: HostRuntime) {
 #[test]
 fn lists_by_family(rt: HostRuntime) {
     let alloc = rt.alloc();
-    let inet6 = LinkProtoInfoInet6::Other(kept(alloc, 5, &[]).expect(&rt, "memory"));
-    let bridge = LinkProtoInfoBridge::Other(kept(alloc, 1, &[]).expect(&rt, "memory"));
-    let settings = AfSpecBridge::Other(kept(alloc, 2, &[]).expect(&rt, "memory"));
+    let inet6 = LinkProtoInfoInet6::Other(kept_of(&rt, alloc, 5, &[]));
+    let bridge = LinkProtoInfoBridge::Other(kept_of(&rt, alloc, 1, &[]));
+    let settings = AfSpecBridge::Other(kept_of(&rt, alloc, 2, &[]));
     is_attribute_row(
         &rt,
         alloc,
         "IFLA_PROTINFO of AF_INET6",
         10,
         &[0x08, 0x00, 0x0c, 0x00, 0x04, 0x00, 0x05, 0x00],
-        LinkAttribute::ProtoInfoInet6(list(alloc, [inet6]).expect(&rt, "memory")),
+        LinkAttribute::ProtoInfoInet6(list_of(&rt, alloc, [inet6])),
         &[0x08, 0x00, 0x0c, 0x80, 0x04, 0x00, 0x05, 0x00],
     );
     is_attribute_row(
@@ -270,7 +271,7 @@ fn lists_by_family(rt: HostRuntime) {
         "IFLA_PROTINFO of AF_BRIDGE",
         7,
         &[0x08, 0x00, 0x0c, 0x00, 0x04, 0x00, 0x01, 0x00],
-        LinkAttribute::ProtoInfoBridge(list(alloc, [bridge]).expect(&rt, "memory")),
+        LinkAttribute::ProtoInfoBridge(list_of(&rt, alloc, [bridge])),
         &[0x08, 0x00, 0x0c, 0x80, 0x04, 0x00, 0x01, 0x00],
     );
     is_attribute_row(
@@ -279,7 +280,7 @@ fn lists_by_family(rt: HostRuntime) {
         "IFLA_AF_SPEC of AF_BRIDGE",
         7,
         &[0x08, 0x00, 0x1a, 0x00, 0x04, 0x00, 0x02, 0x00],
-        LinkAttribute::AfSpecBridge(list(alloc, [settings]).expect(&rt, "memory")),
+        LinkAttribute::AfSpecBridge(list_of(&rt, alloc, [settings])),
         &[0x08, 0x00, 0x1a, 0x00, 0x04, 0x00, 0x02, 0x00],
     );
 }
@@ -288,8 +289,8 @@ fn lists_by_family(rt: HostRuntime) {
 #[test]
 fn bytes_by_family(rt: HostRuntime) {
     let alloc = rt.alloc();
-    let info = kept(alloc, 12, &[0x04, 0x00, 0x05, 0x00]).expect(&rt, "memory");
-    let settings = bytes_from(alloc, &[0xff]).expect(&rt, "memory");
+    let info = kept_of(&rt, alloc, 12, &[0x04, 0x00, 0x05, 0x00]);
+    let settings = value_of(&rt, alloc, &[0xff]);
     is_attribute_row(
         &rt,
         alloc,

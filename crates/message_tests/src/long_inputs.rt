@@ -2,7 +2,7 @@
 
 use crate::rows::are_all;
 use crate::testing::{
-    are_same, cause_checked, cause_read, read_message, text_made, written_within,
+    are_same, cause_checked, cause_read, is_same, read_message, text_made, written_within,
 };
 use expected::{GROWTH, equal, filled, is_stored};
 use link_msg::laws::law_room;
@@ -55,11 +55,21 @@ fn is_read(rt: HostRuntime) {
 #[test]
 fn is_checked(rt: HostRuntime) {
     let mut bytes = message(&rt, rt.alloc(), LENGTH);
-    assert_eq!(rt; cause_checked(bytes.as_slice()), None);
+    is_same(&rt, "whole", &cause_checked(bytes.as_slice()), &None);
     bytes.push(0).expect(&rt, "memory");
     let short = Some(Cause::FrameShort { left: 1 });
-    assert_eq!(rt; cause_checked(bytes.as_slice()), short);
-    assert_eq!(rt; cause_read(rt.alloc(), bytes.as_slice()), short);
+    is_same(
+        &rt,
+        "a stray byte",
+        &cause_checked(bytes.as_slice()),
+        &short,
+    );
+    is_same(
+        &rt,
+        "a stray byte",
+        &cause_read(rt.alloc(), bytes.as_slice()),
+        &short,
+    );
 }
 
 #[test]
@@ -127,7 +137,8 @@ fn is_rewritten_within(rt: HostRuntime) {
     let out = out.as_mut_slice();
     assert!(rt; out.len() == LENGTH);
     let short = written_within(bytes.as_slice(), &mut out[1..]);
-    assert_eq!(rt; short, Err(RoomError::NoRoom { wanted: LENGTH }));
+    let wanted = Err(RoomError::NoRoom { wanted: LENGTH });
+    is_same(&rt, "a byte less", &short, &wanted);
     assert!(rt; are_all(out, 255));
     assert!(rt; written_within(bytes.as_slice(), out) == Ok(LENGTH));
     assert!(rt; equal(out, bytes.as_slice()));

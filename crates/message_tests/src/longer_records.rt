@@ -1,7 +1,8 @@
 //! Messages whose records are longer when they are written than when they were read.
 
 use crate::rows::*;
-use expected::{COUNTERS, GROWTH, SETTINGS, is_stored, list, text_from, zeros_after};
+use crate::testing::{holds, list_of, text_of};
+use expected::{COUNTERS, GROWTH, SETTINGS, is_stored, zeros_after};
 use link_msg::laws::law_room;
 use link_msg::*;
 use std::alloc::Global;
@@ -32,12 +33,12 @@ fn message(
 
 /// The settings of this family.
 fn families(rt: &impl Abort, alloc: Global, family: AfSpecUnspec) -> LinkAttribute {
-    LinkAttribute::AfSpecUnspec(list(alloc, [family]).expect(rt, "memory"))
+    LinkAttribute::AfSpecUnspec(list_of(rt, alloc, [family]))
 }
 
 /// A message of these settings of IPv4.
 fn of_settings(rt: &impl Abort, alloc: Global, settings: AfSpecInet) -> LinkMessage {
-    let inet = AfSpecUnspec::Inet(list(alloc, [settings]).expect(rt, "memory"));
+    let inet = AfSpecUnspec::Inet(list_of(rt, alloc, [settings]));
     message_of(rt, alloc, [families(rt, alloc, inet)])
 }
 
@@ -234,7 +235,7 @@ fn counters_and_a_name(rt: HostRuntime) {
         .extend_from_slice(&[0x07, 0x00, 0x03, 0x00, 0x6c, 0x6f, 0x00])
         .expect(&rt, "memory");
     assert!(rt; short.len() == 16 + 839);
-    let name = LinkAttribute::IfName(text_from(alloc, "lo").expect(&rt, "memory"));
+    let name = LinkAttribute::IfName(text_of(&rt, alloc, "lo"));
     let wanted = message_of(&rt, alloc, [counters(&rt, alloc, 206), name]);
     let headers = [0x50, 0xfe, 0x1a, 0x00, 0x4c, 0xfe, 0x0a, 0x00];
     let name = [0x07, 0x00, 0x03, 0x00, 0x6c, 0x6f, 0x00, 0x00];
@@ -260,7 +261,7 @@ fn too_many_counters(rt: HostRuntime) {
         ("213 of them", 213, 860),
     ] {
         let short = short_counters(&rt, alloc, count);
-        assert!(rt; short.len() == 16 + len, "{label}");
+        holds(&rt, label, short.len() == 16 + len);
         let wanted = of_counters(&rt, alloc, count);
         is_unfit_row(&rt, alloc, label, short.as_slice(), &wanted);
     }

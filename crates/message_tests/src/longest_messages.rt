@@ -1,7 +1,7 @@
 //! Messages whose one attribute is as long as fits, or longer by one byte.
 
 use crate::rows::*;
-use expected::{bytes_from, kept, list, text_from};
+use crate::testing::{holds, kept_of, list_of, text_of, value_of};
 use link_msg::*;
 use std::alloc::Global;
 use std::process::Abort;
@@ -30,11 +30,11 @@ fn bytes_of(
 /// A text of so many letters.
 fn letters(rt: &impl Abort, alloc: Global, count: usize) -> Text {
     assert!(rt; count <= 65531);
-    text_from(
+    text_of(
+        rt,
         alloc,
         from_utf8(&LETTERS[..count]).expect(rt, "it is written"),
     )
-    .expect(rt, "memory")
 }
 
 /// The attribute of so many letters, an alias or else a name.
@@ -55,7 +55,7 @@ fn names_and_aliases(rt: HostRuntime) {
         let fit = named(&rt, alloc, is_alias, 65530);
         let bytes = bytes_of(&rt, alloc, &[0xfe, 0xff, kind, 0x00], 65530, &[]);
         let text = bytes_of(&rt, alloc, &[0xff, 0xff, kind, 0x00], 65530, &[0x00, 0x00]);
-        assert!(rt; text.len() == 16 + 65536, "{label}");
+        holds(&rt, label, text.len() == 16 + 65536);
         is_row(&rt, alloc, label, bytes.as_slice(), &fit, text.as_slice());
         let unfit = named(&rt, alloc, is_alias, 65531);
         let bytes = bytes_of(&rt, alloc, &[0xff, 0xff, kind, 0x00], 65531, &[]);
@@ -69,7 +69,7 @@ fn renamed(rt: &impl Abort, alloc: Global, count: usize) -> LinkMessage {
     message_of(
         rt,
         alloc,
-        [LinkAttribute::PropList(list(alloc, [name]).expect(rt, "memory"))],
+        [LinkAttribute::PropList(list_of(rt, alloc, [name]))],
     )
 }
 
@@ -98,7 +98,7 @@ fn names_in_a_list(rt: HostRuntime) {
 #[test]
 fn bytes_that_are_kept(rt: HostRuntime) {
     let alloc = rt.alloc();
-    let nla = LinkAttribute::Other(kept(alloc, 42, &LETTERS).expect(&rt, "memory"));
+    let nla = LinkAttribute::Other(kept_of(&rt, alloc, 42, &LETTERS));
     let bytes = bytes_of(&rt, alloc, &[0xff, 0xff, 0x2a, 0x00], 65531, &[]);
     let text = bytes_of(&rt, alloc, &[0xff, 0xff, 0x2a, 0x00], 65531, &[0]);
     assert!(rt; text.len() == 16 + 65536);
@@ -116,7 +116,7 @@ fn bytes_that_are_kept(rt: HostRuntime) {
 /// A message of a request to associate, with so many letters.
 fn asked(rt: &impl Abort, alloc: Global, count: usize) -> LinkMessage {
     assert!(rt; count <= 65531);
-    let request = bytes_from(alloc, &LETTERS[..count]).expect(rt, "memory");
+    let request = value_of(rt, alloc, &LETTERS[..count]);
     let event = WirelessEvent::AssociateRequest(request);
     message_of(rt, alloc, [LinkAttribute::Wireless(event)])
 }

@@ -3,9 +3,10 @@
 ghost use Rattle.std.specs.Prelude.{◌≡◌, length};
 
 use crate::testing::{
-    are_same, cause_checked, cause_read, read_message, text_made, written_within,
+    are_same, cause_checked, cause_read, holds, is_same, list_of, read_message, text_made, vec_of,
+    written_within,
 };
-use expected::{GROWTH, equal, filled, is_copied, is_stored, list, vec_from};
+use expected::{GROWTH, equal, filled, is_copied, is_stored};
 use link_msg::laws::{law_exact_room, law_room};
 use link_msg::*;
 use std::alloc::Global;
@@ -34,7 +35,7 @@ pub(crate) fn message_of<const N: usize>(
 ) -> LinkMessage {
     LinkMessage {
         header: LinkHeader::default(),
-        attributes: list(alloc, attributes).expect(rt, "memory"),
+        attributes: list_of(rt, alloc, attributes),
     }
 }
 
@@ -49,7 +50,7 @@ pub(crate) fn with_header(
         family, 0x00, 0x00, 0x00, 0x00, 0x00, 0x00, 0x00, 0x00, 0x00, 0x00, 0x00, 0x00, 0x00, 0x00,
         0x00,
     ];
-    let mut bytes = vec_from(alloc, &header).expect(rt, "memory");
+    let mut bytes = vec_of(rt, alloc, &header);
     bytes.extend_from_slice(attributes).expect(rt, "memory");
     bytes
 }
@@ -67,9 +68,9 @@ pub(crate) fn is_read(
     bytes: &[u8],
     wanted: &LinkMessage,
 ) {
-    assert_eq!(rt; cause_checked(bytes), None, "{label}");
+    is_same(rt, label, &cause_checked(bytes), &None);
     let read = read_message(rt, alloc, bytes);
-    assert!(rt; is_copied(alloc, &read, wanted), "{label}");
+    holds(rt, label, is_copied(alloc, &read, wanted));
 }
 
 /// A buffer of this byte, so many bytes long.
@@ -98,12 +99,12 @@ fn is_emitted(
     text: &[u8],
     byte: u8,
 ) {
-    assert!(rt; text.len() < MOST, "{label}");
-    assert!(rt; message.fits(), "{label}");
-    assert!(rt; message.buffer_len() == text.len(), "{label}");
+    holds(rt, label, text.len() < MOST);
+    holds(rt, label, message.fits());
+    holds(rt, label, message.buffer_len() == text.len());
     let mut out = room_of(rt, alloc, byte, text.len() + 3);
     message.emit(out.as_mut_slice());
-    assert!(rt; is_at_front(out.as_slice(), text, byte), "{label}");
+    holds(rt, label, is_at_front(out.as_slice(), text, byte));
 }
 
 /// The same, at the end of the buffer.
@@ -115,12 +116,12 @@ fn is_filled(
     text: &[u8],
     byte: u8,
 ) {
-    assert!(rt; text.len() < MOST, "{label}");
-    assert!(rt; message.fits(), "{label}");
-    assert!(rt; message.buffer_len() == text.len(), "{label}");
+    holds(rt, label, text.len() < MOST);
+    holds(rt, label, message.fits());
+    holds(rt, label, message.buffer_len() == text.len());
     let mut out = room_of(rt, alloc, byte, text.len() + 3);
-    assert!(rt; message.fill(out.as_mut_slice()) == 3, "{label}");
-    assert!(rt; is_at_end(out.as_slice(), text, byte), "{label}");
+    holds(rt, label, message.fill(out.as_mut_slice()) == 3);
+    holds(rt, label, is_at_end(out.as_slice(), text, byte));
 }
 
 /// A message is written as this text, to the front and to the end of longer buffers, which keep their other bytes.
@@ -153,7 +154,7 @@ pub(crate) fn is_refused_so<T: Drop>(
     wanted: CanonError,
 ) {
     let found = answer.err().map(|error| without_place(error));
-    assert_eq!(rt; found, Some(without_place(wanted)), "{label}");
+    is_same(rt, label, &found, &Some(without_place(wanted)));
 }
 
 /// The refusal of bytes that are no message, for this cause.
@@ -163,12 +164,12 @@ pub(crate) fn no_message(cause: Cause) -> CanonError {
 
 /// Bytes are written again as this text, into a buffer with `GROWTH` bytes for each of theirs, which is room enough.
 fn is_rewritten(rt: &impl Abort, alloc: Global, label: &str, bytes: &[u8], text: &[u8]) {
-    assert!(rt; bytes.len() < MOST, "{label}");
+    holds(rt, label, bytes.len() < MOST);
     law_room(bytes);
     let mut out = room_of(rt, alloc, 255, GROWTH * bytes.len());
     let out = out.as_mut_slice();
-    assert!(rt; canonical_into(bytes, out) == Ok(text.len()), "{label}");
-    assert!(rt; is_stored(text.len(), out, text), "{label}");
+    holds(rt, label, canonical_into(bytes, out) == Ok(text.len()));
+    holds(rt, label, is_stored(text.len(), out, text));
 }
 
 /// Bytes are written again as this text into a buffer of just its length.
@@ -178,8 +179,8 @@ fn is_rewritten_exactly(rt: &impl Abort, alloc: Global, label: &str, bytes: &[u8
             law_exact_room(bytes, len);
             let mut out = room_of(rt, alloc, 255, len);
             let out = out.as_mut_slice();
-            assert!(rt; canonical_into(bytes, out) == Ok(text.len()), "{label}");
-            assert!(rt; equal(out, text), "{label}");
+            holds(rt, label, canonical_into(bytes, out) == Ok(text.len()));
+            holds(rt, label, equal(out, text));
         },
         Err(_) => panic!(rt; "{label}: the bytes have no canonical encoding"),
     }
@@ -187,15 +188,12 @@ fn is_rewritten_exactly(rt: &impl Abort, alloc: Global, label: &str, bytes: &[u8
 
 /// Bytes are written again as this text where there is room for it, be it no byte more.
 fn is_rewritten_within(rt: &impl Abort, alloc: Global, label: &str, bytes: &[u8], text: &[u8]) {
-    assert!(rt; text.len() < MOST, "{label}");
+    holds(rt, label, text.len() < MOST);
     for more in [0, 1, 5] {
         let mut out = room_of(rt, alloc, 255, text.len() + more);
         let len = written_within(bytes, out.as_mut_slice());
-        assert!(rt; len == Ok(text.len()), "{label}: {more} more");
-        assert!(rt;
-            is_stored(text.len(), out.as_slice(), text),
-            "{label}: {more} more"
-        );
+        holds(rt, label, len == Ok(text.len()));
+        holds(rt, label, is_stored(text.len(), out.as_slice(), text));
     }
 }
 
@@ -210,18 +208,14 @@ fn is_too_long_for(
 ) {
     let mut out = room_of(rt, alloc, 255, room);
     let found = written_within(bytes, out.as_mut_slice());
-    assert_eq!(rt;
-        found,
-        Err(RoomError::NoRoom { wanted }),
-        "{label}: room of {room}"
-    );
-    assert!(rt; are_all(out.as_slice(), 255), "{label}: room of {room}");
+    is_same(rt, label, &found, &Err(RoomError::NoRoom { wanted }));
+    holds(rt, label, are_all(out.as_slice(), 255));
 }
 
 /// With one byte less than the text has, or with none, the bytes are not written, and the buffer is left as it is.
 fn is_too_long(rt: &impl Abort, alloc: Global, label: &str, bytes: &[u8], text: &[u8]) {
     let wanted = text.len();
-    assert!(rt; 0 < wanted, "{label}");
+    holds(rt, label, 0 < wanted);
     is_too_long_for(rt, alloc, label, bytes, wanted, 0);
     is_too_long_for(rt, alloc, label, bytes, wanted, 1);
     is_too_long_for(rt, alloc, label, bytes, wanted, wanted - 1);
@@ -230,8 +224,8 @@ fn is_too_long(rt: &impl Abort, alloc: Global, label: &str, bytes: &[u8], text: 
 /// Bytes have this canonical encoding, made in memory and without.
 fn has_text(rt: &impl Abort, alloc: Global, label: &str, bytes: &[u8], text: &[u8]) {
     let made = text_made(rt, alloc, bytes);
-    assert!(rt; equal(made.as_slice(), text), "{label}");
-    assert!(rt; canonical_len(bytes) == Ok(text.len()), "{label}");
+    holds(rt, label, equal(made.as_slice(), text));
+    holds(rt, label, canonical_len(bytes) == Ok(text.len()));
     is_rewritten(rt, alloc, label, bytes, text);
     is_rewritten_exactly(rt, alloc, label, bytes, text);
     is_rewritten_within(rt, alloc, label, bytes, text);
@@ -264,19 +258,19 @@ fn has_no_text_within(
     let answer = written_within(bytes, out.as_mut_slice());
     let answer = without_room(rt, label, answer);
     is_refused_so(rt, label, answer, wanted);
-    assert!(rt; are_all(out.as_slice(), 255), "{label}: room of {room}");
+    holds(rt, label, are_all(out.as_slice(), 255));
 }
 
 /// Bytes have no canonical encoding, for this reason, and no buffer is changed.
 fn has_no_text(rt: &impl Abort, alloc: Global, label: &str, bytes: &[u8], wanted: CanonError) {
     is_refused_so(rt, label, canonical(alloc, bytes), wanted);
     is_refused_so(rt, label, canonical_len(bytes), wanted);
-    assert!(rt; bytes.len() < MOST, "{label}");
+    holds(rt, label, bytes.len() < MOST);
     law_room(bytes);
     let mut out = room_of(rt, alloc, 255, GROWTH * bytes.len());
     let answer = canonical_into(bytes, out.as_mut_slice());
     is_refused_so(rt, label, answer, wanted);
-    assert!(rt; are_all(out.as_slice(), 255), "{label}");
+    holds(rt, label, are_all(out.as_slice(), 255));
     for room in [0, 15, 100] {
         has_no_text_within(rt, alloc, label, bytes, wanted, room);
     }
@@ -292,7 +286,7 @@ pub(crate) fn is_row(
     text: &[u8],
 ) {
     is_read(rt, alloc, label, bytes, wanted);
-    assert!(rt; !wanted.has_empty_ports(), "{label}");
+    holds(rt, label, !wanted.has_empty_ports());
     is_written(rt, alloc, label, wanted, text);
     is_written(rt, alloc, label, &read_message(rt, alloc, bytes), text);
     has_text(rt, alloc, label, bytes, text);
@@ -315,7 +309,7 @@ pub(crate) fn is_attribute_row(
             interface_family: AddressFamily::from(family),
             ..LinkHeader::default()
         },
-        attributes: list(alloc, [wanted]).expect(rt, "memory"),
+        attributes: list_of(rt, alloc, [wanted]),
     };
     let bytes = with_header(rt, alloc, family, attribute);
     let text = with_header(rt, alloc, family, text);
@@ -330,8 +324,8 @@ pub(crate) fn is_refused_row(
     bytes: &[u8],
     cause: Cause,
 ) {
-    assert_eq!(rt; cause_checked(bytes), Some(cause), "{label}");
-    assert_eq!(rt; cause_read(alloc, bytes), Some(cause), "{label}");
+    is_same(rt, label, &cause_checked(bytes), &Some(cause));
+    is_same(rt, label, &cause_read(alloc, bytes), &Some(cause));
     has_no_text(rt, alloc, label, bytes, no_message(cause));
 }
 
@@ -344,7 +338,7 @@ pub(crate) fn is_unfit_row(
     wanted: &LinkMessage,
 ) {
     is_read(rt, alloc, label, bytes, wanted);
-    assert!(rt; !wanted.fits(), "{label}");
+    holds(rt, label, !wanted.fits());
     has_no_text(rt, alloc, label, bytes, CanonError::DoesNotFit);
 }
 
@@ -359,7 +353,7 @@ pub(crate) fn is_portless_row(
     text: &[u8],
 ) {
     is_read(rt, alloc, label, bytes, wanted);
-    assert!(rt; wanted.has_empty_ports(), "{label}");
+    holds(rt, label, wanted.has_empty_ports());
     is_written(rt, alloc, label, wanted, text);
     is_written(rt, alloc, label, &read_message(rt, alloc, bytes), text);
     has_no_text(rt, alloc, label, bytes, CanonError::EmptyVfPorts);

@@ -1,8 +1,8 @@
 //! Messages that are built or changed, written into memory of their own, and read back.
 
 use crate::rows::*;
-use crate::testing::read_message;
-use expected::{equal, filled, kept, list};
+use crate::testing::{kept_of, list_of, read_message};
+use expected::{equal, filled};
 use link_msg::*;
 use std::alloc::Global;
 use std::process::Abort;
@@ -57,7 +57,7 @@ fn a_changed_message(rt: HostRuntime) {
 #[test]
 fn what_is_not_sent(rt: HostRuntime) {
     let alloc = rt.alloc();
-    let ports = LinkAttribute::VfPorts(list(alloc, []).expect(&rt, "memory"));
+    let ports = LinkAttribute::VfPorts(list_of(&rt, alloc, []));
     let empty = message_of(&rt, alloc, [ports]);
     is_refused_so(
         &rt,
@@ -81,11 +81,11 @@ fn what_is_not_sent(rt: HostRuntime) {
 #[test]
 fn what_is_read_otherwise(rt: HostRuntime) {
     let alloc = rt.alloc();
-    let infos = list(alloc, []).expect(&rt, "memory");
+    let infos = list_of(&rt, alloc, []);
     assert!(rt; is_read_otherwise(&rt, alloc, LinkAttribute::LinkInfo(infos)));
-    let bridge = AfSpecBridge::Other(kept(alloc, 1, &[2]).expect(&rt, "memory"));
-    let settings = LinkAttribute::AfSpecBridge(list(alloc, [bridge]).expect(&rt, "memory"));
+    let bridge = AfSpecBridge::Other(kept_of(&rt, alloc, 1, &[2]));
+    let settings = LinkAttribute::AfSpecBridge(list_of(&rt, alloc, [bridge]));
     assert!(rt; is_read_otherwise(&rt, alloc, settings));
-    let mtu = LinkAttribute::Other(kept(alloc, 4, &[0xdc, 0x05, 0x00, 0x00]).expect(&rt, "memory"));
+    let mtu = LinkAttribute::Other(kept_of(&rt, alloc, 4, &[0xdc, 0x05, 0x00, 0x00]));
     assert!(rt; is_read_otherwise(&rt, alloc, mtu));
 }

@@ -1,7 +1,8 @@
 //! Numbers round those that are read at one size of payload alone, at each place, with each flag and ten sizes.
 
 use crate::rows::*;
-use expected::{kept, rewrites, vec_from, writes};
+use crate::testing::{holds, kept_of, vec_of};
+use expected::{rewrites, writes};
 use link_msg::numbers::{IFLA_HEADROOM, IFLA_NETNS_IMMUTABLE, IFLA_TAILROOM};
 use link_msg::*;
 use std::alloc::Global;
@@ -34,7 +35,7 @@ const PAYLOAD: [u8; 9] = [0x20, 0x01, 0x02, 0x03, 0x04, 0x05, 0x06, 0x07, 0x08];
 fn frame(rt: &impl Abort, alloc: Global, kind: u16, payload: &[u8]) -> Vec<u8> {
     assert!(rt; payload.len() < 10);
     let [low, high] = kind.to_le_bytes();
-    let mut bytes = vec_from(alloc, &[4 + payload.len() as u8, 0, low, high]).expect(rt, "memory");
+    let mut bytes = vec_of(rt, alloc, &[4 + payload.len() as u8, 0, low, high]);
     bytes.extend_from_slice(payload).expect(rt, "memory");
     let padding = [0; 3];
     let missing = (4 - payload.len() % 4) % 4;
@@ -74,7 +75,7 @@ fn outcome(
             frame(rt, alloc, number, payload),
         ));
     }
-    let nla = kept(alloc, kind, payload).expect(rt, "memory");
+    let nla = kept_of(rt, alloc, kind, payload);
     Ok((LinkAttribute::Other(nla), frame(rt, alloc, kind, payload)))
 }
 
@@ -131,7 +132,7 @@ fn keeps_all<N: NlaRead + Drop>(rt: &impl Abort, alloc: Global, label: &str) {
             for len in 0..10 {
                 let kind = number | flags;
                 let is_kept = is_kept::<N>(rt, alloc, kind, &PAYLOAD[..len]);
-                assert!(rt; is_kept, "{label}: kind {kind}, {len} bytes");
+                holds(rt, label, is_kept);
             }
         }
     }

@@ -1,8 +1,8 @@
 //! Messages whose header says something, or with several attributes, and the calls that take a longer buffer.
 
 use crate::rows::*;
-use crate::testing::read_message;
-use expected::{GROWTH, equal, is_stored, kept, list, text_from};
+use crate::testing::{holds, kept_of, list_of, read_message, text_of};
+use expected::{GROWTH, equal, is_stored};
 use link_msg::laws::law_room;
 use link_msg::*;
 use std::alloc::Global;
@@ -44,9 +44,9 @@ fn headers(rt: HostRuntime) {
 #[test]
 fn a_mask_and_a_name(rt: HostRuntime) {
     let alloc = rt.alloc();
-    let mask = list(alloc, [LinkExtentMask::Vf, LinkExtentMask::SkipStats]).expect(&rt, "memory");
+    let mask = list_of(&rt, alloc, [LinkExtentMask::Vf, LinkExtentMask::SkipStats]);
     let mask = LinkAttribute::ExtMask(mask);
-    let name = LinkAttribute::IfName(text_from(alloc, "lo").expect(&rt, "memory"));
+    let name = LinkAttribute::IfName(text_of(&rt, alloc, "lo"));
     let message = message_of(&rt, alloc, [mask, name]);
     let attributes = [
         0x08, 0x00, 0x1d, 0x00, 0x09, 0x00, 0x00, 0x00, 0x07, 0x00, 0x03, 0x00, 0x6c, 0x6f, 0x00,
@@ -67,9 +67,9 @@ fn names_of_a_card(rt: HostRuntime) {
         0x30, 0x66, 0x33, 0x00, 0x00, 0x00, 0x09, 0x00, 0x35, 0x00, 0x77, 0x69, 0x66, 0x69, 0x00,
         0x00, 0x00, 0x00,
     ];
-    let first = Prop::AltIfName(text_from(alloc, "wlp0s20f3").expect(&rt, "memory"));
-    let second = Prop::AltIfName(text_from(alloc, "wifi").expect(&rt, "memory"));
-    let names = LinkAttribute::PropList(list(alloc, [first, second]).expect(&rt, "memory"));
+    let first = Prop::AltIfName(text_of(&rt, alloc, "wlp0s20f3"));
+    let second = Prop::AltIfName(text_of(&rt, alloc, "wifi"));
+    let names = LinkAttribute::PropList(list_of(&rt, alloc, [first, second]));
     let message = LinkMessage {
         header: LinkHeader {
             interface_family: AddressFamily::Unspec,
@@ -78,7 +78,7 @@ fn names_of_a_card(rt: HostRuntime) {
             flags: LinkFlags::from_bits_retain(0x11043),
             change_mask: LinkFlags::empty(),
         },
-        attributes: list(alloc, [names]).expect(&rt, "memory"),
+        attributes: list_of(&rt, alloc, [names]),
     };
     is_row(&rt, alloc, "names of a card", &bytes, &message, &bytes);
     let flags = read_message(&rt, alloc, &bytes).header.flags;
@@ -104,17 +104,17 @@ fn a_tunnel_of_sessions(rt: HostRuntime) {
         0x00, 0x0a, 0x00, 0x03, 0x00, 0x70, 0x66, 0x63, 0x70, 0x30, 0x00, 0x00, 0x00, 0x10, 0x00,
         0x12, 0x00, 0x09, 0x00, 0x01, 0x00, 0x70, 0x66, 0x63, 0x70, 0x00, 0x00, 0x00, 0x00,
     ];
-    let kind = LinkInfo::Kind(text_from(alloc, "pfcp").expect(&rt, "memory"));
+    let kind = LinkInfo::Kind(text_of(&rt, alloc, "pfcp"));
     let message = LinkMessage {
         header: layerless(16, 0x1090),
-        attributes: list(
+        attributes: list_of(
+            &rt,
             alloc,
             [
-                LinkAttribute::IfName(text_from(alloc, "pfcp0").expect(&rt, "memory")),
-                LinkAttribute::LinkInfo(list(alloc, [kind]).expect(&rt, "memory")),
+                LinkAttribute::IfName(text_of(&rt, alloc, "pfcp0")),
+                LinkAttribute::LinkInfo(list_of(&rt, alloc, [kind])),
             ],
-        )
-        .expect(&rt, "memory"),
+        ),
     };
     is_row(&rt, alloc, "a tunnel of sessions", &bytes, &message, &bytes);
 }
@@ -128,39 +128,35 @@ fn a_tunnel_of_packets(rt: HostRuntime) {
         0x00, 0x00, 0x14, 0x00, 0x02, 0x00, 0x08, 0x00, 0x01, 0x00, 0x02, 0x00, 0x00, 0x00, 0x08,
         0x00, 0x02, 0x00, 0x0a, 0x00, 0x00, 0x00,
     ];
-    let kind = LinkInfo::Kind(text_from(alloc, "xfrm").expect(&rt, "memory"));
-    let data = LinkInfo::Other(kept(alloc, 2, &bytes[36..]).expect(&rt, "memory"));
+    let kind = LinkInfo::Kind(text_of(&rt, alloc, "xfrm"));
+    let data = LinkInfo::Other(kept_of(&rt, alloc, 2, &bytes[36..]));
     let message = LinkMessage {
         header: layerless(40, 0x100c1),
-        attributes: list(
+        attributes: list_of(
+            &rt,
             alloc,
-            [LinkAttribute::LinkInfo(list(alloc, [kind, data]).expect(&rt, "memory"))],
-        )
-        .expect(&rt, "memory"),
+            [LinkAttribute::LinkInfo(list_of(&rt, alloc, [kind, data]))],
+        ),
     };
     is_row(&rt, alloc, "a tunnel of packets", &bytes, &message, &bytes);
 }
 
 /// The message of a name.
 fn named(rt: &impl Abort, alloc: Global) -> LinkMessage {
-    message_of(
-        rt,
-        alloc,
-        [LinkAttribute::IfName(text_from(alloc, "lo").expect(rt, "memory"))],
-    )
+    message_of(rt, alloc, [LinkAttribute::IfName(text_of(rt, alloc, "lo"))])
 }
 
 /// The message of `NAME` is written at the end of a buffer of 40 bytes and of 24.
 fn is_at_the_end(rt: &impl Abort, label: &str, message: &LinkMessage) {
-    assert!(rt; message.fits(), "{label}");
-    assert!(rt; message.buffer_len() == 24, "{label}");
+    holds(rt, label, message.fits());
+    holds(rt, label, message.buffer_len() == 24);
     let mut buffer = [255; 40];
-    assert!(rt; message.fill(&mut buffer) == 16, "{label}");
-    assert!(rt; buffer.starts_with(&[255; 16]), "{label}");
-    assert!(rt; buffer.ends_with(&NAME_TEXT), "{label}");
+    holds(rt, label, message.fill(&mut buffer) == 16);
+    holds(rt, label, buffer.starts_with(&[255; 16]));
+    holds(rt, label, buffer.ends_with(&NAME_TEXT));
     let mut buffer = [255; 24];
-    assert!(rt; message.fill(&mut buffer) == 0, "{label}");
-    assert!(rt; equal(&buffer, &NAME_TEXT), "{label}");
+    holds(rt, label, message.fill(&mut buffer) == 0);
+    holds(rt, label, equal(&buffer, &NAME_TEXT));
 }
 
 #[test]

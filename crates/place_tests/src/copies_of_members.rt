@@ -1,9 +1,8 @@
 //! Copies of what stands inside of attributes: each is equal to what it was made from and to nothing else, and is
 //! written as the same text.
 
-use expected::{
-    are_copied_alike, are_told_apart, bytes_from, equal, filled, kept, kept_byte, list, text_from,
-};
+use crate::testing::{bytes_of, kept_byte_of, kept_of, list_of, text_of};
+use expected::{are_copied_alike, are_told_apart, equal, filled};
 use link_afspec::*;
 use link_nest::*;
 use link_recs::*;
@@ -19,17 +18,17 @@ use std::process::Abort;
 fn bytes_and_texts(rt: HostRuntime) {
     let alloc = rt.alloc();
     let bytes = [
-        bytes_from(alloc, &[]).expect(&rt, "memory"),
-        bytes_from(alloc, &[0]).expect(&rt, "memory"),
-        bytes_from(alloc, &[0, 1]).expect(&rt, "memory"),
-        bytes_from(alloc, &[0, 2]).expect(&rt, "memory"),
+        bytes_of(&rt, alloc, &[]),
+        bytes_of(&rt, alloc, &[0]),
+        bytes_of(&rt, alloc, &[0, 1]),
+        bytes_of(&rt, alloc, &[0, 2]),
     ];
     assert!(rt; are_told_apart(alloc, &bytes, &[]));
     let texts = [
-        text_from(alloc, "").expect(&rt, "memory"),
-        text_from(alloc, "l").expect(&rt, "memory"),
-        text_from(alloc, "lo").expect(&rt, "memory"),
-        text_from(alloc, "l\0").expect(&rt, "memory"),
+        text_of(&rt, alloc, ""),
+        text_of(&rt, alloc, "l"),
+        text_of(&rt, alloc, "lo"),
+        text_of(&rt, alloc, "l\0"),
     ];
     assert!(rt; are_told_apart(alloc, &texts, &[]));
 }
@@ -37,20 +36,14 @@ fn bytes_and_texts(rt: HostRuntime) {
 #[test]
 fn lists(rt: HostRuntime) {
     let alloc = rt.alloc();
-    let two = [
-        text_from(alloc, "").expect(&rt, "memory"),
-        text_from(alloc, "lo").expect(&rt, "memory"),
-    ];
-    let turned = [
-        text_from(alloc, "lo").expect(&rt, "memory"),
-        text_from(alloc, "").expect(&rt, "memory"),
-    ];
+    let two = [text_of(&rt, alloc, ""), text_of(&rt, alloc, "lo")];
+    let turned = [text_of(&rt, alloc, "lo"), text_of(&rt, alloc, "")];
     let values = [
         List::new(Vec::new(alloc)),
-        list(alloc, [text_from(alloc, "").expect(&rt, "memory")]).expect(&rt, "memory"),
-        list(alloc, [text_from(alloc, "lo").expect(&rt, "memory")]).expect(&rt, "memory"),
-        List::new(Vec::from_array(alloc, two).expect(&rt, "memory")),
-        List::new(Vec::from_array(alloc, turned).expect(&rt, "memory")),
+        list_of(&rt, alloc, [text_of(&rt, alloc, "")]),
+        list_of(&rt, alloc, [text_of(&rt, alloc, "lo")]),
+        list_of(&rt, alloc, two),
+        list_of(&rt, alloc, turned),
     ];
     assert!(rt; are_told_apart(alloc, &values, &[]));
 }
@@ -59,12 +52,12 @@ fn lists(rt: HostRuntime) {
 fn kept_attributes(rt: HostRuntime) {
     let alloc = rt.alloc();
     let values = [
-        kept(alloc, 99, &[]).expect(&rt, "memory"),
-        kept(alloc, 99, &[1]).expect(&rt, "memory"),
-        kept(alloc, 99, &[2]).expect(&rt, "memory"),
-        kept(alloc, 99 | NLA_F_NESTED, &[1]).expect(&rt, "memory"),
-        kept(alloc, 99 | NLA_F_NET_BYTEORDER, &[1]).expect(&rt, "memory"),
-        kept(alloc, 98, &[1]).expect(&rt, "memory"),
+        kept_of(&rt, alloc, 99, &[]),
+        kept_of(&rt, alloc, 99, &[1]),
+        kept_of(&rt, alloc, 99, &[2]),
+        kept_of(&rt, alloc, 99 | NLA_F_NESTED, &[1]),
+        kept_of(&rt, alloc, 99 | NLA_F_NET_BYTEORDER, &[1]),
+        kept_of(&rt, alloc, 98, &[1]),
     ];
     assert!(rt; are_copied_alike(alloc, &values, &[]));
 }
@@ -72,9 +65,9 @@ fn kept_attributes(rt: HostRuntime) {
 /// Wireless events with these bytes.
 fn events(rt: &impl Abort, alloc: Global, bytes: &[u8]) -> [WirelessEvent; 3] {
     [
-        WirelessEvent::AssociateRequest(bytes_from(alloc, bytes).expect(rt, "memory")),
-        WirelessEvent::AssociateResponse(bytes_from(alloc, bytes).expect(rt, "memory")),
-        WirelessEvent::Other(bytes_from(alloc, bytes).expect(rt, "memory")),
+        WirelessEvent::AssociateRequest(bytes_of(rt, alloc, bytes)),
+        WirelessEvent::AssociateResponse(bytes_of(rt, alloc, bytes)),
+        WirelessEvent::Other(bytes_of(rt, alloc, bytes)),
     ]
 }
 
@@ -106,16 +99,16 @@ fn wireless_events(rt: HostRuntime) {
 /// Members of IFLA_PROP_LIST with these letters and this number.
 fn properties(rt: &impl Abort, alloc: Global, letters: &str, n: u8) -> [Prop; 2] {
     [
-        Prop::AltIfName(text_from(alloc, letters).expect(rt, "memory")),
-        Prop::Other(kept_byte(alloc, n).expect(rt, "memory")),
+        Prop::AltIfName(text_of(rt, alloc, letters)),
+        Prop::Other(kept_byte_of(rt, alloc, n)),
     ]
 }
 
 /// Members of IFLA_LINKINFO with these letters and this number.
 fn infos(rt: &impl Abort, alloc: Global, letters: &str, n: u8) -> [LinkInfo; 2] {
     [
-        LinkInfo::Kind(text_from(alloc, letters).expect(rt, "memory")),
-        LinkInfo::Other(kept_byte(alloc, n).expect(rt, "memory")),
+        LinkInfo::Kind(text_of(rt, alloc, letters)),
+        LinkInfo::Other(kept_byte_of(rt, alloc, n)),
     ]
 }
 
@@ -131,10 +124,10 @@ fn properties_and_infos(rt: HostRuntime) {
 /// Members of IFLA_DEVLINK_PORT with these letters and this number.
 fn devlink(rt: &impl Abort, alloc: Global, letters: &str, n: u8) -> [DevlinkPort; 4] {
     [
-        DevlinkPort::BusName(text_from(alloc, letters).expect(rt, "memory")),
-        DevlinkPort::DevName(text_from(alloc, letters).expect(rt, "memory")),
+        DevlinkPort::BusName(text_of(rt, alloc, letters)),
+        DevlinkPort::DevName(text_of(rt, alloc, letters)),
         DevlinkPort::PortIndex(u32::from(n)),
-        DevlinkPort::Other(kept_byte(alloc, n).expect(rt, "memory")),
+        DevlinkPort::Other(kept_byte_of(rt, alloc, n)),
     ]
 }
 
@@ -143,7 +136,7 @@ fn reasons(rt: &impl Abort, alloc: Global, n: u8) -> [LinkProtocolDownReason; 3]
     [
         LinkProtocolDownReason::Mask(u32::from(n)),
         LinkProtocolDownReason::Value(u32::from(n)),
-        LinkProtocolDownReason::Other(kept_byte(alloc, n).expect(rt, "memory")),
+        LinkProtocolDownReason::Other(kept_byte_of(rt, alloc, n)),
     ]
 }
 
@@ -151,7 +144,7 @@ fn reasons(rt: &impl Abort, alloc: Global, n: u8) -> [LinkProtocolDownReason; 3]
 fn pins(rt: &impl Abort, alloc: Global, n: u8) -> [DpllPin; 2] {
     [
         DpllPin::PinId(u32::from(n)),
-        DpllPin::Other(kept_byte(alloc, n).expect(rt, "memory")),
+        DpllPin::Other(kept_byte_of(rt, alloc, n)),
     ]
 }
 
@@ -176,7 +169,7 @@ fn paths(rt: &impl Abort, alloc: Global, n: u8) -> [LinkXdp; 9] {
         LinkXdp::SkbProgId(number),
         LinkXdp::HwProgId(number),
         LinkXdp::ExpectedFd(number),
-        LinkXdp::Other(kept_byte(alloc, n).expect(rt, "memory")),
+        LinkXdp::Other(kept_byte_of(rt, alloc, n)),
     ]
 }
 
@@ -198,7 +191,7 @@ fn statistics_of(rt: &impl Abort, alloc: Global, n: u8) -> [VfStats; 9] {
         VfStats::Multicast(number),
         VfStats::RxDropped(number),
         VfStats::TxDropped(number),
-        VfStats::Other(kept_byte(alloc, n).expect(rt, "memory")),
+        VfStats::Other(kept_byte_of(rt, alloc, n)),
     ]
 }
 
@@ -207,7 +200,7 @@ fn vlans(rt: &impl Abort, alloc: Global, n: u8) -> [VfVlan; 2] {
     let info = VfVlanInfo::new(1, 2, u32::from(n), VlanProtocol::Ieee8021Ad);
     [
         VfVlan::Info(info),
-        VfVlan::Other(kept_byte(alloc, n).expect(rt, "memory")),
+        VfVlan::Other(kept_byte_of(rt, alloc, n)),
     ]
 }
 
@@ -230,17 +223,13 @@ fn functions_of(rt: &impl Abort, alloc: Global, n: u8) -> [VfInfo; 14] {
         VfInfo::LinkState(VfInfoLinkState::new(id, VfLinkState::Other(9))),
         VfInfo::Rate(VfInfoRate::new(id, 1, 2)),
         VfInfo::RssQueryEn(VfInfoRssQueryEn::new(id, true)),
-        VfInfo::Stats(list(alloc, [VfStats::RxBytes(u64::from(n))]).expect(rt, "memory")),
+        VfInfo::Stats(list_of(rt, alloc, [VfStats::RxBytes(u64::from(n))])),
         VfInfo::Trust(VfInfoTrust::new(id, true)),
         VfInfo::IbNodeGuid(VfInfoGuid::new(id, 7)),
         VfInfo::IbPortGuid(VfInfoGuid::new(id, 7)),
-        VfInfo::VlanList(list(
-            alloc,
-            [VfVlan::Other(kept_byte(alloc, n).expect(rt, "memory"))],
-        )
-        .expect(rt, "memory")),
+        VfInfo::VlanList(list_of(rt, alloc, [VfVlan::Other(kept_byte_of(rt, alloc, n))])),
         VfInfo::Broadcast(VfInfoBroadcast::new(&[n])),
-        VfInfo::Other(kept_byte(alloc, n).expect(rt, "memory")),
+        VfInfo::Other(kept_byte_of(rt, alloc, n)),
     ]
 }
 
@@ -254,16 +243,16 @@ fn functions(rt: HostRuntime) {
 #[test]
 fn lists_of_functions_and_ports(rt: HostRuntime) {
     let alloc = rt.alloc();
-    let ones = Vec::from_array(alloc, functions_of(&rt, alloc, 1)).expect(&rt, "memory");
-    let others = Vec::from_array(alloc, functions_of(&rt, alloc, 2)).expect(&rt, "memory");
-    let functions = [LinkVfInfo(List::new(ones)), LinkVfInfo(List::new(others))];
+    let ones = list_of(&rt, alloc, functions_of(&rt, alloc, 1));
+    let others = list_of(&rt, alloc, functions_of(&rt, alloc, 2));
+    let functions = [LinkVfInfo(ones), LinkVfInfo(others)];
     let other = [LinkVfInfo(List::new(Vec::new(alloc)))];
     assert!(rt; are_copied_alike(alloc, &functions, &other));
-    let one = [VfPort::Other(kept_byte(alloc, 1).expect(&rt, "memory"))];
-    let other = [VfPort::Other(kept_byte(alloc, 2).expect(&rt, "memory"))];
+    let one = [VfPort::Other(kept_byte_of(&rt, alloc, 1))];
+    let other = [VfPort::Other(kept_byte_of(&rt, alloc, 2))];
     assert!(rt; are_copied_alike(alloc, &one, &other));
-    let one = [LinkVfPort(list(alloc, one).expect(&rt, "memory"))];
-    let other = [LinkVfPort(list(alloc, other).expect(&rt, "memory"))];
+    let one = [LinkVfPort(list_of(&rt, alloc, one))];
+    let other = [LinkVfPort(list_of(&rt, alloc, other))];
     assert!(rt; are_copied_alike(alloc, &one, &other));
 }
 
@@ -276,7 +265,7 @@ fn ipv4(rt: &impl Abort, alloc: Global, n: u8) -> [AfSpecInet; 3] {
     [
         AfSpecInet::DevConf(conf),
         AfSpecInet::DevConfRequest(conf),
-        AfSpecInet::Other(kept_byte(alloc, n).expect(rt, "memory")),
+        AfSpecInet::Other(kept_byte_of(rt, alloc, n)),
     ]
 }
 
@@ -285,7 +274,7 @@ fn mctp(rt: &impl Abort, alloc: Global, n: u8) -> [AfSpecMctp; 3] {
     [
         AfSpecMctp::Net(u32::from(n)),
         AfSpecMctp::PhysBinding(MctpPhysBinding::Other(n)),
-        AfSpecMctp::Other(kept_byte(alloc, n).expect(rt, "memory")),
+        AfSpecMctp::Other(kept_byte_of(rt, alloc, n)),
     ]
 }
 
@@ -316,7 +305,7 @@ fn ipv6(rt: &impl Abort, alloc: Global, n: u8) -> [AfSpecInet6; 9] {
         AfSpecInet6::Token(Ipv6Addr::from_octets([n; 16])),
         AfSpecInet6::AddrGenMode(In6AddrGenMode::Other(n)),
         AfSpecInet6::RaMtu(number),
-        AfSpecInet6::Other(kept_byte(alloc, n).expect(rt, "memory")),
+        AfSpecInet6::Other(kept_byte_of(rt, alloc, n)),
     ]
 }
 
@@ -329,14 +318,14 @@ fn settings_of_ipv6(rt: HostRuntime) {
 
 /// Settings by family with this number.
 fn families_of(rt: &impl Abort, alloc: Global, n: u8) -> [AfSpecUnspec; 4] {
-    let inet = AfSpecInet::Other(kept_byte(alloc, n).expect(rt, "memory"));
-    let inet6 = AfSpecInet6::Other(kept_byte(alloc, n).expect(rt, "memory"));
-    let mctp = AfSpecMctp::Other(kept_byte(alloc, n).expect(rt, "memory"));
+    let inet = AfSpecInet::Other(kept_byte_of(rt, alloc, n));
+    let inet6 = AfSpecInet6::Other(kept_byte_of(rt, alloc, n));
+    let mctp = AfSpecMctp::Other(kept_byte_of(rt, alloc, n));
     [
-        AfSpecUnspec::Inet(list(alloc, [inet]).expect(rt, "memory")),
-        AfSpecUnspec::Inet6(list(alloc, [inet6]).expect(rt, "memory")),
-        AfSpecUnspec::Mctp(list(alloc, [mctp]).expect(rt, "memory")),
-        AfSpecUnspec::Other(kept_byte(alloc, n).expect(rt, "memory")),
+        AfSpecUnspec::Inet(list_of(rt, alloc, [inet])),
+        AfSpecUnspec::Inet6(list_of(rt, alloc, [inet6])),
+        AfSpecUnspec::Mctp(list_of(rt, alloc, [mctp])),
+        AfSpecUnspec::Other(kept_byte_of(rt, alloc, n)),
     ]
 }
 
@@ -350,13 +339,13 @@ fn families(rt: HostRuntime) {
 #[test]
 fn members_that_are_all_kept(rt: HostRuntime) {
     let alloc = rt.alloc();
-    let one = [AfSpecBridge::Other(kept_byte(alloc, 1).expect(&rt, "memory"))];
-    let other = [AfSpecBridge::Other(kept_byte(alloc, 2).expect(&rt, "memory"))];
+    let one = [AfSpecBridge::Other(kept_byte_of(&rt, alloc, 1))];
+    let other = [AfSpecBridge::Other(kept_byte_of(&rt, alloc, 2))];
     assert!(rt; are_copied_alike(alloc, &one, &other));
-    let one = [LinkProtoInfoBridge::Other(kept_byte(alloc, 1).expect(&rt, "memory"))];
-    let other = [LinkProtoInfoBridge::Other(kept_byte(alloc, 2).expect(&rt, "memory"))];
+    let one = [LinkProtoInfoBridge::Other(kept_byte_of(&rt, alloc, 1))];
+    let other = [LinkProtoInfoBridge::Other(kept_byte_of(&rt, alloc, 2))];
     assert!(rt; are_copied_alike(alloc, &one, &other));
-    let one = [LinkProtoInfoInet6::Other(kept_byte(alloc, 1).expect(&rt, "memory"))];
-    let other = [LinkProtoInfoInet6::Other(kept_byte(alloc, 2).expect(&rt, "memory"))];
+    let one = [LinkProtoInfoInet6::Other(kept_byte_of(&rt, alloc, 1))];
+    let other = [LinkProtoInfoInet6::Other(kept_byte_of(&rt, alloc, 2))];
     assert!(rt; are_copied_alike(alloc, &one, &other));
 }

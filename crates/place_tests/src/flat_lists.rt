@@ -1,9 +1,7 @@
 //! The flat inner lists and wireless events: what each member means, is refused for, and is written as.
 
-use expected::{
-    bytes_from, cause_of, equal, is_copied, is_stored, kept, means, refuses, text_from,
-    wrong_bad_frame,
-};
+use crate::testing::{bytes_of, has_cause, holds, is_same, kept_of, refuses_bad_frames, text_of};
+use expected::{cause_of, equal, is_copied, is_stored, means, refuses};
 use link_nest::*;
 use link_vals::XdpAttached;
 use nla_wire::exact::same;
@@ -14,7 +12,7 @@ use std::process::Abort;
 #[test]
 fn alternative_names(rt: HostRuntime) {
     let alloc = rt.alloc();
-    assert_eq!(rt; wrong_bad_frame::<Prop>(alloc), None);
+    refuses_bad_frames::<Prop>(&rt, alloc);
     for (label, bytes) in [
         ("no UTF-8", [0x05, 0x00, 0x35, 0x00, 0xff].as_slice()),
         (
@@ -24,12 +22,12 @@ fn alternative_names(rt: HostRuntime) {
             ],
         ),
     ] {
-        assert!(rt; refuses::<Prop>(alloc, bytes, Cause::NotUtf8), "{label}");
+        holds(&rt, label, refuses::<Prop>(alloc, bytes, Cause::NotUtf8));
     }
     let values = [
-        Prop::AltIfName(text_from(alloc, "").expect(&rt, "memory")),
-        Prop::Other(kept(alloc, 99 | 0xc000, &[7]).expect(&rt, "memory")),
-        Prop::AltIfName(text_from(alloc, "lo").expect(&rt, "memory")),
+        Prop::AltIfName(text_of(&rt, alloc, "")),
+        Prop::Other(kept_of(&rt, alloc, 99 | 0xc000, &[7])),
+        Prop::AltIfName(text_of(&rt, alloc, "lo")),
     ];
     assert!(rt;
         means(
@@ -51,7 +49,7 @@ fn alternative_names(rt: HostRuntime) {
 #[test]
 fn devlink_ports(rt: HostRuntime) {
     let alloc = rt.alloc();
-    assert_eq!(rt; wrong_bad_frame::<DevlinkPort>(alloc), None);
+    refuses_bad_frames::<DevlinkPort>(&rt, alloc);
     let short = Cause::WrongLength { got: 0, want: 4 };
     assert!(rt; refuses::<DevlinkPort>(alloc, &[0x04, 0x00, 0x03, 0x00], short));
     assert!(rt; refuses::<DevlinkPort>(alloc, &[0x05, 0x00, 0x02, 0x00, 0xc3], Cause::NotUtf8));
@@ -64,9 +62,9 @@ fn devlink_ports(rt: HostRuntime) {
             ],
             &[
                 DevlinkPort::PortIndex(258),
-                DevlinkPort::Other(kept(alloc, 4 | 0x4000, &[]).expect(&rt, "memory")),
-                DevlinkPort::DevName(text_from(alloc, "").expect(&rt, "memory")),
-                DevlinkPort::BusName(text_from(alloc, "p").expect(&rt, "memory")),
+                DevlinkPort::Other(kept_of(&rt, alloc, 4 | 0x4000, &[])),
+                DevlinkPort::DevName(text_of(&rt, alloc, "")),
+                DevlinkPort::BusName(text_of(&rt, alloc, "p")),
             ],
             &[
                 0x08, 0x00, 0x03, 0x00, 0x02, 0x01, 0x00, 0x00, 0x04, 0x00, 0x04, 0x40, 0x05, 0x00,
@@ -79,10 +77,10 @@ fn devlink_ports(rt: HostRuntime) {
 #[test]
 fn clock_pins(rt: HostRuntime) {
     let alloc = rt.alloc();
-    assert_eq!(rt; wrong_bad_frame::<DpllPin>(alloc), None);
+    refuses_bad_frames::<DpllPin>(&rt, alloc);
     let short = Cause::WrongLength { got: 2, want: 4 };
     assert!(rt; refuses::<DpllPin>(alloc, &[0x06, 0x00, 0x01, 0x00, 0x01, 0x02], short));
-    let other = DpllPin::Other(kept(alloc, 0x63, &[0xde, 0xad]).expect(&rt, "memory"));
+    let other = DpllPin::Other(kept_of(&rt, alloc, 0x63, &[0xde, 0xad]));
     let bytes = [
         0x08, 0x00, 0x01, 0x00, 0x2a, 0x00, 0x00, 0x00, 0x06, 0x00, 0x63, 0x00, 0xde, 0xad, 0x00,
         0x00,
@@ -96,7 +94,7 @@ fn one_clock_pin(rt: HostRuntime) {
     let frame = NlaBuffer::new_checked(&bytes).expect(&rt, "it is read");
     let pin = DpllPin::parse(rt.alloc(), &frame).expect(&rt, "it is read");
     assert!(rt; same(&pin, &DpllPin::PinId(42)));
-    assert_eq!(rt; cause_of(DpllPin::check(&frame)), None);
+    has_cause(&rt, DpllPin::check(&frame), None);
 }
 
 #[test]
@@ -117,7 +115,7 @@ fn one_clock_pin_written(rt: HostRuntime) {
 #[test]
 fn down_reasons(rt: HostRuntime) {
     let alloc = rt.alloc();
-    assert_eq!(rt; wrong_bad_frame::<LinkProtocolDownReason>(alloc), None);
+    refuses_bad_frames::<LinkProtocolDownReason>(&rt, alloc);
     let long = Cause::WrongLength { got: 5, want: 4 };
     assert!(rt;
         refuses::<LinkProtocolDownReason>(
@@ -126,7 +124,7 @@ fn down_reasons(rt: HostRuntime) {
             long
         )
     );
-    let other = LinkProtocolDownReason::Other(kept(alloc, 3, &[]).expect(&rt, "memory"));
+    let other = LinkProtocolDownReason::Other(kept_of(&rt, alloc, 3, &[]));
     let bytes = [
         0x08, 0x00, 0x01, 0x00, 0x01, 0x00, 0x00, 0x00, 0x08, 0x00, 0x02, 0x00, 0x02, 0x00, 0x00,
         0x00, 0x04, 0x00, 0x03, 0x00,
@@ -176,13 +174,13 @@ const REFUSED_PATHS: &[(&str, &[u8], usize, usize)] = &[
 #[test]
 fn refused_express_data_paths(rt: HostRuntime) {
     let alloc = rt.alloc();
-    assert_eq!(rt; wrong_bad_frame::<LinkXdp>(alloc), None);
+    refuses_bad_frames::<LinkXdp>(&rt, alloc);
     for (label, bytes, got, want) in REFUSED_PATHS {
         let cause = Cause::WrongLength {
             got: *got,
             want: *want,
         };
-        assert!(rt; refuses::<LinkXdp>(alloc, bytes, cause), "{label}");
+        holds(&rt, label, refuses::<LinkXdp>(alloc, bytes, cause));
     }
     let over = Cause::FrameOver {
         length: 65535,
@@ -200,7 +198,7 @@ fn refused_express_data_paths(rt: HostRuntime) {
 /// A member of this number is -2, or as many as these bytes are without a sign.
 fn is_path(rt: &impl Abort, alloc: Global, label: &str, number: u8, value: LinkXdp) {
     let bytes = [0x08, 0x00, number, 0x00, 0xfe, 0xff, 0xff, 0xff];
-    assert!(rt; means(alloc, &bytes, &[value], &bytes), "{label}");
+    holds(rt, label, means(alloc, &bytes, &[value], &bytes));
 }
 
 #[test]
@@ -262,7 +260,7 @@ fn attached_express_data_paths(rt: HostRuntime) {
             ],
             &[
                 LinkXdp::Attached(XdpAttached::SocketBuffer),
-                LinkXdp::Other(kept(alloc, 9, &[]).expect(&rt, "memory")),
+                LinkXdp::Other(kept_of(&rt, alloc, 9, &[])),
             ],
             &[
                 0x05, 0x00, 0x02, 0x00, 0x02, 0x00, 0x00, 0x00, 0x04, 0x00, 0x09, 0x00
@@ -274,7 +272,7 @@ fn attached_express_data_paths(rt: HostRuntime) {
 #[test]
 fn link_infos(rt: HostRuntime) {
     let alloc = rt.alloc();
-    assert_eq!(rt; wrong_bad_frame::<LinkInfo>(alloc), None);
+    refuses_bad_frames::<LinkInfo>(&rt, alloc);
     assert!(rt; refuses::<LinkInfo>(alloc, &[0x05, 0x00, 0x01, 0x00, 0xff], Cause::NotUtf8));
     assert!(rt;
         means(
@@ -283,8 +281,8 @@ fn link_infos(rt: HostRuntime) {
                 0x04, 0x00, 0x02, 0x00, 0x09, 0x00, 0x01, 0x00, 0x70, 0x66, 0x63, 0x70, 0x00
             ],
             &[
-                LinkInfo::Other(kept(alloc, 2, &[]).expect(&rt, "memory")),
-                LinkInfo::Kind(text_from(alloc, "pfcp").expect(&rt, "memory")),
+                LinkInfo::Other(kept_of(&rt, alloc, 2, &[])),
+                LinkInfo::Kind(text_of(&rt, alloc, "pfcp")),
             ],
             &[
                 0x04, 0x00, 0x02, 0x00, 0x09, 0x00, 0x01, 0x00, 0x70, 0x66, 0x63, 0x70, 0x00, 0x00,
@@ -299,8 +297,8 @@ fn long_names(rt: HostRuntime) {
     let letters = [97; 65531];
     for (label, from, fits) in [("65531 letters", 0, false), ("65530 letters", 1, true)] {
         let letters = std::str::from_utf8(&letters[from..]).expect(&rt, "memory");
-        let name = Prop::AltIfName(text_from(rt.alloc(), letters).expect(&rt, "memory"));
-        assert!(rt; name.fits() == fits, "{label}");
+        let name = Prop::AltIfName(text_of(&rt, rt.alloc(), letters));
+        holds(&rt, label, name.fits() == fits);
     }
 }
 
@@ -308,15 +306,12 @@ fn long_names(rt: HostRuntime) {
 fn is_no_event(rt: &impl Abort, alloc: Global, label: &str, payload: &[u8], got: usize) {
     let short = Some(Cause::TooShort { got, need: 8 });
     let read = WirelessEvent::parse(alloc, payload);
-    assert_eq!(rt; cause_of(read), short, "{label}");
-    assert_eq!(rt; cause_of(WirelessEvent::check(payload)), short, "{label}");
+    is_same(rt, label, &cause_of(read), &short);
+    is_same(rt, label, &cause_of(WirelessEvent::check(payload)), &short);
     let mut out = [255; 8];
-    assert!(rt; WirelessEvent::measure(payload).is_none(), "{label}");
-    assert!(rt;
-        WirelessEvent::canon(payload, &mut out).is_none(),
-        "{label}"
-    );
-    assert!(rt; equal(&out, &[255; 8]), "{label}");
+    holds(rt, label, WirelessEvent::measure(payload).is_none());
+    holds(rt, label, WirelessEvent::canon(payload, &mut out).is_none());
+    holds(rt, label, equal(&out, &[255; 8]));
 }
 
 #[test]
@@ -382,7 +377,7 @@ fn event_writes(rt: &impl Abort, event: &WirelessEvent, text: &[u8; 9]) {
 #[test]
 fn wireless_events(rt: HostRuntime) {
     let alloc = rt.alloc();
-    let event = WirelessEvent::AssociateRequest(bytes_from(alloc, &[0xaa]).expect(&rt, "memory"));
+    let event = WirelessEvent::AssociateRequest(bytes_of(&rt, alloc, &[0xaa]));
     let text = [0x09, 0x00, 0x07, 0x8c, 0x00, 0x00, 0x00, 0x00, 0xaa];
     let payload = [0xff, 0xff, 0x07, 0x8c, 0x01, 0x02, 0x03, 0x04, 0xaa];
     event_means(&rt, alloc, &payload, &event, &text);
@@ -392,7 +387,7 @@ fn wireless_events(rt: HostRuntime) {
 #[test]
 fn more_wireless_events(rt: HostRuntime) {
     let alloc = rt.alloc();
-    let event = WirelessEvent::AssociateResponse(bytes_from(alloc, &[0xbb]).expect(&rt, "memory"));
+    let event = WirelessEvent::AssociateResponse(bytes_of(&rt, alloc, &[0xbb]));
     let text = [0x09, 0x00, 0x08, 0x8c, 0x00, 0x00, 0x00, 0x00, 0xbb];
     event_means(
         &rt,
@@ -408,14 +403,14 @@ fn more_wireless_events(rt: HostRuntime) {
 fn other_wireless_events(rt: HostRuntime) {
     let alloc = rt.alloc();
     let text = [0x09, 0x00, 0x01, 0x8b, 0x01, 0x02, 0x03, 0x04, 0x05];
-    let event = WirelessEvent::Other(bytes_from(alloc, &text).expect(&rt, "memory"));
+    let event = WirelessEvent::Other(bytes_of(&rt, alloc, &text));
     event_means(&rt, alloc, &text, &event, &text);
     event_writes(&rt, &event, &text);
 }
 
 /// A request of these bytes.
 fn request_of(rt: &impl Abort, alloc: Global, bytes: &[u8]) -> WirelessEvent {
-    WirelessEvent::AssociateRequest(bytes_from(alloc, bytes).expect(rt, "memory"))
+    WirelessEvent::AssociateRequest(bytes_of(rt, alloc, bytes))
 }
 
 #[test]

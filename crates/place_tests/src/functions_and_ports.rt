@@ -1,8 +1,8 @@
 //! Virtual functions and ports, four levels deep: what they mean, are refused for, and are written as.
 
+use crate::testing::{holds, is_same, kept_of, list_of, refuses_bad_frames};
 use expected::{
-    BAD_FRAMES, cause_of, equal, has_value, is_copied, is_stored, kept, means, refuses,
-    wrong_bad_frame, zeros_after,
+    BAD_FRAMES, cause_of, equal, has_value, is_copied, is_stored, means, refuses, zeros_after,
 };
 use link_vals::{VfLinkState, VlanProtocol};
 use link_vf::*;
@@ -18,7 +18,7 @@ use std::process::Abort;
 #[test]
 fn refused_statistics(rt: HostRuntime) {
     let alloc = rt.alloc();
-    assert_eq!(rt; wrong_bad_frame::<VfStats>(alloc), None);
+    refuses_bad_frames::<VfStats>(&rt, alloc);
     let short = Cause::WrongLength { got: 7, want: 8 };
     assert!(rt;
         refuses::<VfStats>(
@@ -38,7 +38,7 @@ fn is_counter(rt: &impl Abort, alloc: Global, label: &str, number: u8, value: Vf
     let bytes = [
         0x0c, 0x00, number, 0x00, 0x07, 0x00, 0x00, 0x00, 0x00, 0x00, 0x00, 0x00,
     ];
-    assert!(rt; means(alloc, &bytes, &[value], &bytes), "{label}");
+    holds(rt, label, means(alloc, &bytes, &[value], &bytes));
 }
 
 #[test]
@@ -93,7 +93,7 @@ fn statistics(rt: HostRuntime) {
 #[test]
 fn padding_among_statistics(rt: HostRuntime) {
     let alloc = rt.alloc();
-    let padding = VfStats::Other(kept(alloc, 6 | 0x8000, &[1]).expect(&rt, "memory"));
+    let padding = VfStats::Other(kept_of(&rt, alloc, 6 | 0x8000, &[1]));
     let text = [0x05, 0x00, 0x06, 0x80, 0x01, 0x00, 0x00, 0x00];
     assert!(rt; means(alloc, &[0x05, 0x00, 0x06, 0x80, 0x01], &[padding], &text));
 }
@@ -101,7 +101,7 @@ fn padding_among_statistics(rt: HostRuntime) {
 #[test]
 fn vlans(rt: HostRuntime) {
     let alloc = rt.alloc();
-    assert_eq!(rt; wrong_bad_frame::<VfVlan>(alloc), None);
+    refuses_bad_frames::<VfVlan>(&rt, alloc);
     let short = Cause::TooShort { got: 0, need: 16 };
     assert!(rt; refuses::<VfVlan>(alloc, &[0x04, 0x00, 0x01, 0x00], short));
     assert!(rt;
@@ -113,7 +113,7 @@ fn vlans(rt: HostRuntime) {
             ],
             &[
                 VfVlan::Info(VfVlanInfo::new(1, 100, 0, VlanProtocol::Ieee8021Ad)),
-                VfVlan::Other(kept(alloc, 2, &[]).expect(&rt, "memory")),
+                VfVlan::Other(kept_of(&rt, alloc, 2, &[])),
             ],
             &[
                 0x14, 0x00, 0x01, 0x00, 0x01, 0x00, 0x00, 0x00, 0x64, 0x00, 0x00, 0x00, 0x00, 0x00,
@@ -141,26 +141,20 @@ const SHORT_RECORDS: &[(&str, u8, usize)] = &[
 #[test]
 fn short_records_of_functions(rt: HostRuntime) {
     let alloc = rt.alloc();
-    assert_eq!(rt; wrong_bad_frame::<VfInfo>(alloc), None);
+    refuses_bad_frames::<VfInfo>(&rt, alloc);
     for (label, number, need) in SHORT_RECORDS {
         let empty = [0x04, 0x00, *number, 0x00];
         let none = Cause::TooShort {
             got: 0,
             need: *need,
         };
-        assert!(rt;
-            refuses::<VfInfo>(alloc, &empty, none),
-            "{label} of no bytes"
-        );
+        holds(&rt, label, refuses::<VfInfo>(alloc, &empty, none));
         let four = [0x08, 0x00, *number, 0x00, 0x01, 0x02, 0x03, 0x04];
         let some = Cause::TooShort {
             got: 4,
             need: *need,
         };
-        assert!(rt;
-            refuses::<VfInfo>(alloc, &four, some),
-            "{label} of four bytes"
-        );
+        holds(&rt, label, refuses::<VfInfo>(alloc, &four, some));
     }
 }
 
@@ -177,7 +171,7 @@ fn functions(rt: HostRuntime) {
             &[
                 VfInfo::Trust(VfInfoTrust::new(1, true)),
                 VfInfo::Trust(VfInfoTrust::new(1, false)),
-                VfInfo::Other(kept(alloc, 14 | 0x4000, &[]).expect(&rt, "memory")),
+                VfInfo::Other(kept_of(&rt, alloc, 14 | 0x4000, &[])),
             ],
             &[
                 0x0c, 0x00, 0x09, 0x00, 0x01, 0x00, 0x00, 0x00, 0x01, 0x00, 0x00, 0x00, 0x0c, 0x00,
@@ -229,7 +223,7 @@ fn is_record(rt: &impl Abort, alloc: Global, label: &str, number: u8, value: VfI
     let bytes = [
         0x0c, 0x00, number, 0x00, 0x03, 0x00, 0x00, 0x00, 0x01, 0x00, 0x00, 0x00,
     ];
-    assert!(rt; means(alloc, &bytes, &[value], &bytes), "{label}");
+    holds(rt, label, means(alloc, &bytes, &[value], &bytes));
 }
 
 #[test]
@@ -307,14 +301,14 @@ const REFUSED_LISTS: &[(&str, &[u8], Cause)] = &[
 #[test]
 fn refused_lists_of_functions(rt: HostRuntime) {
     for (label, bytes, cause) in REFUSED_LISTS {
-        assert!(rt; refuses::<VfInfo>(rt.alloc(), bytes, *cause), "{label}");
+        holds(&rt, label, refuses::<VfInfo>(rt.alloc(), bytes, *cause));
     }
 }
 
 #[test]
 fn lists_of_functions(rt: HostRuntime) {
     let alloc = rt.alloc();
-    let stats = Vec::from_array(alloc, [VfStats::RxPackets(7)]).expect(&rt, "memory");
+    let stats = list_of(&rt, alloc, [VfStats::RxPackets(7)]);
     assert!(rt;
         means(
             alloc,
@@ -323,7 +317,7 @@ fn lists_of_functions(rt: HostRuntime) {
                 0x00, 0x00, 0x04, 0x00, 0x08, 0x00, 0x04, 0x00, 0x0c, 0x80
             ],
             &[
-                VfInfo::Stats(List::new(stats)),
+                VfInfo::Stats(stats),
                 VfInfo::Stats(List::new(Vec::new(alloc))),
                 VfInfo::VlanList(List::new(Vec::new(alloc))),
             ],
@@ -343,15 +337,12 @@ fn entry_faults<E: Entry>(
     payload: &[u8],
     cause: Option<Cause>,
 ) {
-    assert_eq!(rt;
-        cause_of(E::parse(alloc, payload)),
-        cause,
-        "{label}: {payload:?}"
-    );
-    assert_eq!(rt; cause_of(E::check(payload)), cause, "{label}: {payload:?}");
-    assert!(rt;
+    is_same(rt, label, &cause_of(E::parse(alloc, payload)), &cause);
+    is_same(rt, label, &cause_of(E::check(payload)), &cause);
+    holds(
+        rt,
+        label,
         E::measure_entry(payload).is_none() == cause.is_some(),
-        "{label}: {payload:?}"
     );
 }
 
@@ -363,19 +354,12 @@ fn list_faults<E: Entry>(
     payload: &[u8],
     cause: Option<Cause>,
 ) {
-    assert_eq!(rt;
-        cause_of(E::parse_list(alloc, payload)),
-        cause,
-        "{label}: {payload:?}"
-    );
-    assert_eq!(rt;
-        cause_of(E::check_list(payload)),
-        cause,
-        "{label}: {payload:?}"
-    );
-    assert!(rt;
+    is_same(rt, label, &cause_of(E::parse_list(alloc, payload)), &cause);
+    is_same(rt, label, &cause_of(E::check_list(payload)), &cause);
+    holds(
+        rt,
+        label,
         E::measure_list(payload).is_none() == cause.is_some(),
-        "{label}: {payload:?}"
     );
 }
 
@@ -484,8 +468,8 @@ const VLAN_TEXT: [u8; 28] = [
 /// A function with a list of one vlan.
 fn vlan_function(rt: &impl Abort, alloc: Global) -> LinkVfInfo {
     let vlan = VfVlan::Info(VfVlanInfo::new(1, 100, 0, VlanProtocol::Ieee8021Ad));
-    let vlans = VfInfo::VlanList(List::new(Vec::from_array(alloc, [vlan]).expect(rt, "memory")));
-    LinkVfInfo(List::new(Vec::from_array(alloc, [vlans]).expect(rt, "memory")))
+    let vlans = VfInfo::VlanList(list_of(rt, alloc, [vlan]));
+    LinkVfInfo(list_of(rt, alloc, [vlans]))
 }
 
 #[test]
@@ -529,23 +513,23 @@ fn four_levels_written_alone(rt: HostRuntime) {
 /// What is refused as an entry is not written, and changes no byte.
 fn writes_no_entry<E: Entry>(rt: &impl Abort, label: &str, payload: &[u8]) {
     let mut out = [255; 8];
-    assert!(rt; E::measure_entry(payload).is_none(), "{label}");
+    holds(rt, label, E::measure_entry(payload).is_none());
     let Err(_error) = E::check(payload) else {
         panic!(rt; "there is an entry: {label}");
     };
-    assert!(rt; E::canon(payload, &mut out).is_none(), "{label}");
-    assert!(rt; equal(&out, &[255; 8]), "{label}");
+    holds(rt, label, E::canon(payload, &mut out).is_none());
+    holds(rt, label, equal(&out, &[255; 8]));
 }
 
 /// What is refused as a list of entries is not written, and changes no byte.
 fn writes_no_list<E: Entry>(rt: &impl Abort, label: &str, payload: &[u8]) {
     let mut out = [255; 8];
-    assert!(rt; E::measure_list(payload).is_none(), "{label}");
+    holds(rt, label, E::measure_list(payload).is_none());
     let Err(_error) = E::check_list(payload) else {
         panic!(rt; "there is a list: {label}");
     };
-    assert!(rt; E::canon_list(payload, &mut out).is_none(), "{label}");
-    assert!(rt; equal(&out, &[255; 8]), "{label}");
+    holds(rt, label, E::canon_list(payload, &mut out).is_none());
+    holds(rt, label, equal(&out, &[255; 8]));
 }
 
 /// No bytes, and what passes them.
@@ -598,14 +582,14 @@ fn four_levels_filled(rt: HostRuntime) {
 #[test]
 fn refused_ports(rt: HostRuntime) {
     let alloc = rt.alloc();
-    assert_eq!(rt; wrong_bad_frame::<VfPort>(alloc), None);
+    refuses_bad_frames::<VfPort>(&rt, alloc);
     refuses_bad_entries::<LinkVfPort>(&rt, alloc);
 }
 
 #[test]
 fn ports(rt: HostRuntime) {
     let alloc = rt.alloc();
-    let kind_one = VfPort::Other(kept(alloc, 1 | 0x8000, &[7]).expect(&rt, "memory"));
+    let kind_one = VfPort::Other(kept_of(&rt, alloc, 1 | 0x8000, &[7]));
     let text = [0x05, 0x00, 0x01, 0x80, 0x07, 0x00, 0x00, 0x00];
     assert!(rt; means(alloc, &[0x05, 0x00, 0x01, 0x80, 0x07], &[kind_one], &text));
 }
@@ -615,8 +599,8 @@ const ENTRY: [u8; 8] = [0x08, 0x00, 0x01, 0x00, 0x05, 0x00, 0x00, 0x00];
 
 /// A port with one member.
 fn port_of_one(rt: &impl Abort, alloc: Global) -> LinkVfPort {
-    let member = VfPort::Other(kept(alloc, 1, &[0x05, 0x00, 0x00, 0x00]).expect(rt, "memory"));
-    LinkVfPort(List::new(Vec::from_array(alloc, [member]).expect(rt, "memory")))
+    let member = VfPort::Other(kept_of(rt, alloc, 1, &[0x05, 0x00, 0x00, 0x00]));
+    LinkVfPort(list_of(rt, alloc, [member]))
 }
 
 #[test]

@@ -1,6 +1,7 @@
 //! Lists of attributes that are all kept, read, checked and written again.
 
-use expected::{GROWTH, cause_of, equal, is_stored};
+use crate::testing::{has_cause, holds};
+use expected::{GROWTH, equal, is_stored};
 use link_vf::{VfPort, VfStats};
 use nla_wire::laws::{law_list_room, law_room};
 use nla_wire::*;
@@ -22,8 +23,8 @@ fn reads_lists(rt: HostRuntime) {
 fn refuses_lists(rt: HostRuntime) {
     let short = &TWO[..8];
     let over = Some(Cause::FrameOver { length: 5, left: 4 });
-    assert_eq!(rt; cause_of(VfPort::parse_list(rt.alloc(), short)), over);
-    assert_eq!(rt; cause_of(VfPort::check_list(short)), over);
+    has_cause(&rt, VfPort::parse_list(rt.alloc(), short), over);
+    has_cause(&rt, VfPort::check_list(short), over);
 }
 
 #[test]
@@ -34,12 +35,12 @@ fn measures_lists(rt: HostRuntime) {
         ("no bytes", &[], Some(0)),
         ("the second is cut", &TWO[..8], None),
     ] {
-        assert!(rt; VfPort::measure_list(bytes) == wanted, "{label}");
-        assert!(rt; VfPort::measure_nested(bytes) == wanted, "{label}");
+        holds(&rt, label, VfPort::measure_list(bytes) == wanted);
+        holds(&rt, label, VfPort::measure_nested(bytes) == wanted);
         let members = measure_members::<VfPort, OwnPlace>(&OwnPlace, bytes);
-        assert!(rt; members == wanted, "{label}");
+        holds(&rt, label, members == wanted);
         let nested = measure_nested_members::<VfPort, OwnPlace>(&OwnPlace, bytes);
-        assert!(rt; nested == wanted, "{label}");
+        holds(&rt, label, nested == wanted);
     }
 }
 

@@ -12,4 +12,6 @@ mod kept_lists;
 #[cfg(test)]
 mod settings;
 #[cfg(test)]
+mod testing;
+#[cfg(test)]
 mod what_is_not_so;

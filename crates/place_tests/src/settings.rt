@@ -1,13 +1,14 @@
 //! Settings by family: records of each length, requests, and members that are kept.
 
+use crate::testing::{holds, is_same, kept_of, list_of, refuses_bad_frames, vec_of};
 use expected::{
-    BAD_FRAMES, COUNTERS, SETTINGS, has_value, is_copied, kept, means, refuses, rewrites, vec_from,
-    writes, wrong_bad_frame, zeros_after,
+    BAD_FRAMES, COUNTERS, SETTINGS, has_value, is_copied, means, refuses, rewrites, writes,
+    wrong_bad_frame, zeros_after,
 };
 use link_afspec::*;
 use link_recs::{Icmp6Stats, Inet6CacheInfo, Inet6DevConf, Inet6Stats, InetDevConf};
 use link_vals::{In6AddrGenMode, Inet6IfaceFlags, MctpPhysBinding};
-use nla_wire::{Cause, CloneIn, Exact, List, Nla, NlaRead};
+use nla_wire::{Cause, CloneIn, Exact, Nla, NlaRead};
 use std::alloc::Global;
 use std::net::Ipv6Addr;
 use std::process::Abort;
@@ -45,13 +46,13 @@ const REFUSED_MCTP: &[(&str, &[u8], usize, usize)] = &[
 #[test]
 fn settings_of_mctp(rt: HostRuntime) {
     let alloc = rt.alloc();
-    assert_eq!(rt; wrong_bad_frame::<AfSpecMctp>(alloc), None);
+    refuses_bad_frames::<AfSpecMctp>(&rt, alloc);
     for (label, bytes, got, want) in REFUSED_MCTP {
         let cause = Cause::WrongLength {
             got: *got,
             want: *want,
         };
-        assert!(rt; refuses::<AfSpecMctp>(alloc, bytes, cause), "{label}");
+        holds(&rt, label, refuses::<AfSpecMctp>(alloc, bytes, cause));
     }
     assert!(rt;
         means(
@@ -66,7 +67,7 @@ fn settings_of_mctp(rt: HostRuntime) {
                 AfSpecMctp::PhysBinding(MctpPhysBinding::Smbus),
                 AfSpecMctp::PhysBinding(MctpPhysBinding::Vendor),
                 AfSpecMctp::PhysBinding(MctpPhysBinding::Other(77)),
-                AfSpecMctp::Other(kept(alloc, 3 | 0xc000, &[9]).expect(&rt, "memory")),
+                AfSpecMctp::Other(kept_of(&rt, alloc, 3 | 0xc000, &[9])),
             ],
             &[
                 0x08, 0x00, 0x01, 0x00, 0x05, 0x01, 0x00, 0x00, 0x05, 0x00, 0x02, 0x00, 0x01, 0x00,
@@ -107,7 +108,7 @@ fn family_text() -> [u8; INET] {
 
 #[test]
 fn settings_of_ipv4(rt: HostRuntime) {
-    assert_eq!(rt; wrong_bad_frame::<AfSpecInet>(rt.alloc()), None);
+    refuses_bad_frames::<AfSpecInet>(&rt, rt.alloc());
     let conf = two_settings();
     assert!(rt; conf.fits());
     assert!(rt; conf.kind() == 1);
@@ -126,7 +127,7 @@ fn flags_of_settings_of_ipv4(rt: HostRuntime) {
     ] {
         let mut bytes = SHORT;
         bytes[3] = flags;
-        assert!(rt; means(rt.alloc(), &bytes, &values, &text), "{label}");
+        holds(&rt, label, means(rt.alloc(), &bytes, &values, &text));
     }
 }
 
@@ -136,7 +137,7 @@ fn short_settings_of_ipv4(rt: HostRuntime) {
     let none = AfSpecInet::DevConf(InetDevConf::default());
     let text: [u8; SETTINGS] = zeros_after(&[0x8c, 0x00, 0x01, 0x00]);
     assert!(rt; means(alloc, &[0x04, 0x00, 0x01, 0x00], &[none], &text));
-    let other = AfSpecInet::Other(kept(alloc, 2, &[]).expect(&rt, "memory"));
+    let other = AfSpecInet::Other(kept_of(&rt, alloc, 2, &[]));
     assert!(rt;
         means(
             alloc,
@@ -175,9 +176,10 @@ fn settings_of_the_kernel(rt: HostRuntime) {
 
 /// A request for what the label names is written as this value.
 fn asks(rt: &impl Abort, label: &str, conf: InetDevConf, value: &[u8; 8]) {
-    assert!(rt;
+    holds(
+        rt,
+        label,
         has_value(&AfSpecInet::DevConfRequest(conf), 0x8001, value),
-        "{label}"
     );
 }
 
@@ -305,21 +307,19 @@ const REFUSED_SETTINGS: &[(&str, u8, u8, Cause)] = &[
 #[test]
 fn refused_settings_of_ipv6(rt: HostRuntime) {
     let alloc = rt.alloc();
-    assert_eq!(rt; wrong_bad_frame::<AfSpecInet6>(alloc), None);
+    refuses_bad_frames::<AfSpecInet6>(&rt, alloc);
     for (label, number, len, cause) in REFUSED_SETTINGS {
         let mut bytes = [0; 24];
         bytes[0] = *len;
         bytes[2] = *number;
         assert!(rt; *len < 24);
-        assert!(rt;
+        holds(
+            &rt,
+            label,
             refuses::<AfSpecInet6>(alloc, &bytes[..*len as usize], *cause),
-            "{label}"
         );
         // a length below 4 after it is not come to
-        assert!(rt;
-            refuses::<AfSpecInet6>(alloc, &bytes, *cause),
-            "{label}, and a fault after it"
-        );
+        holds(&rt, label, refuses::<AfSpecInet6>(alloc, &bytes, *cause));
     }
 }
 
@@ -338,7 +338,7 @@ fn settings_of_ipv6(rt: HostRuntime) {
                 AfSpecInet6::Flags(Inet6IfaceFlags::from_bits_retain(0x8000_0001)),
                 AfSpecInet6::AddrGenMode(In6AddrGenMode::StablePrivacy),
                 AfSpecInet6::RaMtu(1500),
-                AfSpecInet6::Other(kept(alloc, 4, &[1]).expect(&rt, "memory")),
+                AfSpecInet6::Other(kept_of(&rt, alloc, 4, &[1])),
             ],
             &[
                 0x08, 0x00, 0x01, 0x00, 0x01, 0x00, 0x00, 0x80, 0x05, 0x00, 0x08, 0x00, 0x02, 0x00,
@@ -410,31 +410,25 @@ fn refuses_bad_members(rt: &impl Abort, alloc: Global, label: &str, family: u8) 
     for (members, cause) in &BAD_FRAMES {
         assert!(rt; members.len() <= 12);
         let len = 4 + members.len() as u8;
-        let mut bytes = vec_from(alloc, &[len, 0x00, family, 0x00]).expect(rt, "memory");
+        let mut bytes = vec_of(rt, alloc, &[len, 0x00, family, 0x00]);
         bytes.extend_from_slice(members).expect(rt, "memory");
         let is_refused = refuses::<AfSpecUnspec>(alloc, bytes.as_slice(), *cause);
-        assert!(rt; is_refused, "{label}: {cause:?}");
+        holds(rt, label, is_refused);
     }
 }
 
 #[test]
 fn refused_families(rt: HostRuntime) {
     let alloc = rt.alloc();
-    assert_eq!(rt; wrong_bad_frame::<AfSpecUnspec>(alloc), None);
+    refuses_bad_frames::<AfSpecUnspec>(&rt, alloc);
     let empty = Cause::EmptyList;
     for (label, family) in [("AF_INET", 0x02), ("AF_INET6", 0x0a), ("AF_MCTP", 0x2d)] {
         for flag in [0x00, 0x80] {
             let bytes = [0x04, 0x00, family, flag];
-            assert!(rt;
-                refuses::<AfSpecUnspec>(alloc, &bytes, empty),
-                "{label}, flag {flag}"
-            );
+            holds(&rt, label, refuses::<AfSpecUnspec>(alloc, &bytes, empty));
         }
         let followed = [0x04, 0x00, family, 0x00, 0x03, 0x00, 0x02, 0x00];
-        assert!(rt;
-            refuses::<AfSpecUnspec>(alloc, &followed, empty),
-            "{label} and a fault"
-        );
+        holds(&rt, label, refuses::<AfSpecUnspec>(alloc, &followed, empty));
         refuses_bad_members(&rt, alloc, label, family);
     }
     let short = Cause::WrongLength { got: 0, want: 1 };
@@ -447,11 +441,11 @@ fn refused_families(rt: HostRuntime) {
 #[test]
 fn families(rt: HostRuntime) {
     let alloc = rt.alloc();
-    let mtus = Vec::from_array(alloc, [AfSpecInet6::RaMtu(1500)]).expect(&rt, "memory");
+    let mtus = list_of(&rt, alloc, [AfSpecInet6::RaMtu(1500)]);
     let vendor = AfSpecMctp::PhysBinding(MctpPhysBinding::Vendor);
-    let vendors = Vec::from_array(alloc, [vendor]).expect(&rt, "memory");
-    let foreign = AfSpecMctp::Other(kept(alloc, 99, &[]).expect(&rt, "memory"));
-    let others = Vec::from_array(alloc, [foreign]).expect(&rt, "memory");
+    let vendors = list_of(&rt, alloc, [vendor]);
+    let foreign = AfSpecMctp::Other(kept_of(&rt, alloc, 99, &[]));
+    let others = list_of(&rt, alloc, [foreign]);
     let bytes = [
         0x0c, 0x00, 0x0a, 0x00, 0x08, 0x00, 0x09, 0x00, 0xdc, 0x05, 0x00, 0x00, 0x0c, 0x00, 0x2d,
         0x00, 0x05, 0x00, 0x02, 0x00, 0xff, 0x00, 0x00, 0x00, 0x08, 0x00, 0x2d, 0x00, 0x04, 0x00,
@@ -462,10 +456,10 @@ fn families(rt: HostRuntime) {
             alloc,
             &bytes,
             &[
-                AfSpecUnspec::Inet6(List::new(mtus)),
-                AfSpecUnspec::Mctp(List::new(vendors)),
-                AfSpecUnspec::Mctp(List::new(others)),
-                AfSpecUnspec::Other(kept(alloc, 3, &[]).expect(&rt, "memory")),
+                AfSpecUnspec::Inet6(mtus),
+                AfSpecUnspec::Mctp(vendors),
+                AfSpecUnspec::Mctp(others),
+                AfSpecUnspec::Other(kept_of(&rt, alloc, 3, &[])),
             ],
             &bytes
         )
@@ -475,8 +469,8 @@ fn families(rt: HostRuntime) {
 #[test]
 fn family_of_ipv4(rt: HostRuntime) {
     let alloc = rt.alloc();
-    let conf = Vec::from_array(alloc, [two_settings()]).expect(&rt, "memory");
-    let inet = AfSpecUnspec::Inet(List::new(conf));
+    let conf = list_of(&rt, alloc, [two_settings()]);
+    let inet = AfSpecUnspec::Inet(conf);
     let bytes = [
         0x10, 0x00, 0x02, 0x00, 0x0c, 0x00, 0x01, 0x00, 0x08, 0x00, 0x01, 0x00, 0x01, 0x00, 0x00,
         0x00,
@@ -490,7 +484,7 @@ fn one_request(rt: &impl Abort, alloc: Global) -> AfSpecUnspec {
         forwarding: 1,
         ..InetDevConf::default()
     });
-    AfSpecUnspec::Inet(List::new(Vec::from_array(alloc, [request]).expect(rt, "memory")))
+    AfSpecUnspec::Inet(list_of(rt, alloc, [request]))
 }
 
 /// A request is read as settings, whose record begins with its attributes.
@@ -507,30 +501,30 @@ fn requests_of_a_family(rt: HostRuntime) {
 
 /// A list takes these values, one of kind 2 with both flags, and is refused where it is damaged.
 fn keeps<N: NlaRead + Exact + CloneIn>(rt: &impl Abort, alloc: Global, label: &str, values: &[N]) {
-    assert_eq!(rt; wrong_bad_frame::<N>(alloc), None, "{label}");
+    is_same(rt, label, &wrong_bad_frame::<N>(alloc), &None);
     let bytes = [0x05, 0x00, 0x02, 0xc0, 0x07];
     let text = [0x05, 0x00, 0x02, 0xc0, 0x07, 0x00, 0x00, 0x00];
-    assert!(rt; means(alloc, &bytes, values, &text), "{label}");
+    holds(rt, label, means(alloc, &bytes, values, &text));
 }
 
 #[test]
 fn kept_members(rt: HostRuntime) {
     let alloc = rt.alloc();
-    let member = kept(alloc, 2 | 0xc000, &[7]).expect(&rt, "memory");
+    let member = kept_of(&rt, alloc, 2 | 0xc000, &[7]);
     keeps(
         &rt,
         alloc,
         "IFLA_AF_SPEC of AF_BRIDGE",
         &[AfSpecBridge::Other(member)],
     );
-    let member = kept(alloc, 2 | 0xc000, &[7]).expect(&rt, "memory");
+    let member = kept_of(&rt, alloc, 2 | 0xc000, &[7]);
     keeps(
         &rt,
         alloc,
         "IFLA_PROTINFO of AF_BRIDGE",
         &[LinkProtoInfoBridge::Other(member)],
     );
-    let member = kept(alloc, 2 | 0xc000, &[7]).expect(&rt, "memory");
+    let member = kept_of(&rt, alloc, 2 | 0xc000, &[7]);
     keeps(
         &rt,
         alloc,

@@ -1,8 +1,8 @@
 //! The shared calls of the tests say no where something does not hold.
 
+use crate::testing::{holds, kept_byte_of};
 use expected::{
-    are_told_apart, equal, has_value, is_copied, is_stored, kept_byte, means, refuses, rewrites,
-    writes,
+    are_told_apart, equal, has_value, is_copied, is_stored, means, refuses, rewrites, writes,
 };
 use link_vf::{VfPort, VfStats};
 use nla_wire::Cause;
@@ -24,7 +24,7 @@ fn bytes(rt: HostRuntime) {
         ("another byte", 1, [0x02, 0xff]),
         ("another byte after it", 1, [0x01, 0x00]),
     ] {
-        assert!(rt; !is_stored(len, &out, &[0x01]), "{label}");
+        holds(&rt, label, !is_stored(len, &out, &[0x01]));
     }
 }
 
@@ -40,7 +40,7 @@ fn refusals(rt: HostRuntime) {
 #[test]
 fn texts(rt: HostRuntime) {
     let alloc = rt.alloc();
-    let value = [VfPort::Other(kept_byte(alloc, 1).expect(&rt, "memory"))];
+    let value = [VfPort::Other(kept_byte_of(&rt, alloc, 1))];
     assert!(rt; means(alloc, &TEXT, &value, &TEXT));
     assert!(rt; !means(alloc, &OTHER, &value, &TEXT));
     assert!(rt; !means(alloc, &TEXT, &value, &OTHER));
@@ -53,9 +53,9 @@ fn texts(rt: HostRuntime) {
 #[test]
 fn values(rt: HostRuntime) {
     let alloc = rt.alloc();
-    let one = kept_byte(alloc, 1).expect(&rt, "memory");
-    let twin = kept_byte(alloc, 1).expect(&rt, "memory");
-    let other = kept_byte(alloc, 2).expect(&rt, "memory");
+    let one = kept_byte_of(&rt, alloc, 1);
+    let twin = kept_byte_of(&rt, alloc, 1);
+    let other = kept_byte_of(&rt, alloc, 2);
     assert!(rt; is_copied(alloc, &one, &twin));
     assert!(rt; !is_copied(alloc, &one, &other));
     assert!(rt; !are_told_apart(alloc, &[one, twin], &[]));
