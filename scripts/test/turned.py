@@ -18,7 +18,7 @@ OURS = Repository(TOP)
 second = OURS.second
 NUMBERS = {"u8": 1, "u16": 2, "u32": 4, "u64": 8, "i32": 4, "ext_mask": 4}
 HEADER = [(2, 2), (4, 4), (8, 4), (12, 4)]
-INFO, INFO_DATA = (1, 4), "Info"
+INFO_DATA = "Info"
 
 
 class Ends(Exception):
@@ -58,10 +58,7 @@ def by_form(form, table, levels, payload):
 
 def of_info(payload):
     """The levels of link info, by the kinds that it names."""
-    named = [(k & 0x3fff, q if q[-1:] == b"\0" else q + b"\0") for _, k, q in second.frames_in(payload)]
-    kinds = [next((second.KINDS[i][q] for k, q in named if k == n and q in second.KINDS[i]), "Other")
-             for i, n in enumerate(INFO)]
-    return second.level(INFO_DATA, *kinds)
+    return second.level(INFO_DATA, *second.kinds_in(payload))
 
 
 def below(levels, number, payload):

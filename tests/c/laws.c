@@ -249,7 +249,9 @@ static void add_text(struct text *out) {
 }
 
 static void add_kind(struct text *out) {
-    static const char *const kinds[] = {"bridge", "bridge", "bond", "can", "hsr", "bridge_slave", "bridg", "veth", ""};
+    static const char *const kinds[] = {
+        "bridge", "bridge", "bond", "can", "vcan", "hsr", "bridge_slave", "bridg", "veth", "",
+    };
     const char *kind = kinds[below(sizeof kinds / sizeof *kinds)];
     size_t len = strlen(kind) + !one_in(8);
     memcpy(out->bytes + out->len, kind, len);

@@ -85,32 +85,35 @@ static const struct bound {
     {IN_LINK, 26, IN_FAMILIES, 0, 0, NULL}, {IN_LINK, 12, IN_INET6, 0, 10, NULL},
     {IN_LINK, 12, IN_PORT_OF_BRIDGE, 0, 7, NULL},
     {IN_INFO, 2, IN_BRIDGE, 1, 0, "bridge"}, {IN_INFO, 2, IN_HSR, 1, 0, "hsr"}, {IN_INFO, 2, IN_CAN, 1, 0, "can"},
+    {IN_INFO, 2, IN_CAN, 1, 0, "vcan"},
     {IN_INFO, 5, IN_PORT_OF_BRIDGE, 4, 0, "bridge"}, {IN_INFO, 5, IN_PORT_OF_BOND, 4, 0, "bond"},
 };
 
-/* The kind of the first attribute of this number whose text, with its NUL, is one that a row is bound to; else "". */
-static const char *kind_of(const uint8_t *list, size_t len, unsigned number) {
+/* Whether the first attribute of this number is this text, which may end in one NUL. */
+static int is_kind(const uint8_t *list, size_t len, unsigned number, const char *kind) {
     struct linkwire_attribute it;
     for (size_t at = 0; linkwire_next(list, len, &at, &it) == 1;) {
-        for (size_t i = 0; i < sizeof bounds / sizeof *bounds && linkwire_number(it.kind) == number; i++) {
-            const char *kind = bounds[i].kind;
-            if (bounds[i].asked == number && it.payload_len == strlen(kind) + 1 &&
-                memcmp(list + it.payload, kind, it.payload_len) == 0) {
-                return kind;
-            }
+        if (linkwire_number(it.kind) == number) {
+            size_t has_nul = it.payload_len > 0 && list[it.payload + it.payload_len - 1] == 0;
+            return it.payload_len - has_nul == strlen(kind) &&
+                   memcmp(list + it.payload, kind, it.payload_len - has_nul) == 0;
         }
     }
-    return "";
+    return 0;
 }
 
 static int holds(const struct row *row, const uint8_t *list, size_t len, int family) {
+    int is_bound = 0;
     for (size_t i = 0; i < sizeof bounds / sizeof *bounds; i++) {
         const struct bound *it = &bounds[i];
         if (it->level == row->level && it->number == row->number && it->then == row->then) {
-            return it->asked == 0 ? it->family == family : strcmp(kind_of(list, len, it->asked), it->kind) == 0;
+            if (it->asked == 0 ? it->family == family : is_kind(list, len, it->asked, it->kind)) {
+                return 1;
+            }
+            is_bound = 1;
         }
     }
-    return 1;
+    return !is_bound;
 }
 
 /* The first row of a number that holds in a list. */

@@ -147,6 +147,7 @@ static const struct place {
     {"IFLA_BRPORT_MCAST_N_GROUPS in IFLA_PROTINFO", 7, NULL, NULL, {12, 41, END}, 4, 4},
     {"IFLA_HSR_SEQ_NR", FAMILY, "hsr", NULL, {LINKINFO, 2, 5, END}, 2, 2},
     {"IFLA_CAN_BERR_COUNTER", FAMILY, "can", NULL, {LINKINFO, 2, 8, END}, 4, 4},
+    {"IFLA_CAN_BERR_COUNTER of vcan", FAMILY, "vcan", NULL, {LINKINFO, 2, 8, END}, 4, 4},
     {"IFLA_BOND_SLAVE_LINK_FAILURE_COUNT", FAMILY, NULL, "bond", {LINKINFO, 5, 3, END}, 4, 4},
 };
 
@@ -157,6 +158,7 @@ struct making {
     int family;
     const char *kind, *slave;
     const char *first, *first_slave; /* if not null, in front of these */
+    int more_nuls; /* behind each kind than one; -1: it has none */
     size_t len;
     int is_kind_last, has_flags;
     int is_last; /* nothing stands behind it in any list, and not its padding either */
@@ -173,7 +175,11 @@ static void put_kinds(struct text *text, const struct making *making) {
     const unsigned numbers[] = {1, 1, 4, 4};
     for (size_t i = 0; i < sizeof kinds / sizeof *kinds; i++) {
         if (kinds[i] != NULL) {
-            put(text, numbers[i] | (making->has_flags ? 0xc000 : 0), kinds[i], strlen(kinds[i]) + 1);
+            char payload[20] = "";
+            size_t len = strlen(kinds[i]);
+            memcpy(payload, kinds[i], len);
+            len = (size_t)((long)len + 1 + making->more_nuls);
+            put(text, numbers[i] | (making->has_flags ? 0xc000 : 0), payload, len);
         }
     }
 }
@@ -269,10 +275,28 @@ static void asks_kinds(void) {
     }
 }
 
-/* Of several kinds the first that a row is bound to counts. */
+/* A kind is a text, which one NUL may end; more are of the text. */
+static void asks_texts(void) {
+    for (const struct place *place = places; place < places + PLACES; place++) {
+        if (place->numbers[0] != LINKINFO || place->numbers[1] == 3) {
+            continue;
+        }
+        struct making making = as_it_is(place);
+        making.more_nuls = -1;
+        expect_count(place, &making, place->count);
+        making.more_nuls = 1;
+        expect_count(place, &making, 0);
+    }
+}
+
+/* Of two names of kinds that have the same numbers the same one. */
+static const char *numbers_of(const char *kind) {
+    return strcmp(kind, "vcan") == 0 ? "can" : kind;
+}
+
+/* Of several kinds the first decides, whatever it is. */
 static void asks_first_kinds(void) {
-    static const char *const kinds[] = {"bridge", "hsr", "can"}, *const slave_kinds[] = {"bridge", "bond"};
-    static const char *const others[] = {"dummy", "bonding", "bridge_slave", ""};
+    static const char *const kinds[] = {"bridge", "hsr", "can", "vcan", "bond", "vrf", "veth", "dummy", "bonding", ""};
     for (const struct place *place = places; place < places + PLACES; place++) {
         if (place->numbers[0] != LINKINFO || place->numbers[1] == 3) {
             continue;
@@ -281,15 +305,9 @@ static void asks_first_kinds(void) {
         int is_slave = place->numbers[1] == 5;
         const char **first = is_slave ? &making.first_slave : &making.first;
         const char *own = is_slave ? place->slave : place->kind;
-        for (size_t i = 0; i < sizeof others / sizeof *others; i++) {
-            *first = others[i];
-            expect_count(place, &making, place->count);
-        }
-        *first = is_slave ? "can" : "bond"; /* each is a kind of the other number alone */
-        expect_count(place, &making, place->count);
-        for (size_t i = 0; i < (is_slave ? 2 : 3); i++) {
-            *first = is_slave ? slave_kinds[i] : kinds[i];
-            expect_count(place, &making, strcmp(*first, own) == 0 ? place->count : 0);
+        for (size_t i = 0; i < sizeof kinds / sizeof *kinds; i++) {
+            *first = kinds[i];
+            expect_count(place, &making, strcmp(numbers_of(kinds[i]), numbers_of(own)) == 0 ? place->count : 0);
         }
     }
 }
@@ -486,6 +504,7 @@ int main(void) {
     EXPECT(linkwire_state_form(), LINKWIRE_STATE_FORM);
     clears_rows();
     asks_kinds();
+    asks_texts();
     asks_first_kinds();
     clears_lengths();
     clears_ends();

@@ -325,7 +325,7 @@ for name, rows in re.findall(r'^kernel_rows (\w+|\([^)]*\)) =\s+(.*?)\[\]', spec
     ROWS[name.strip('()').split()[0]] = [(int(n), a) for n, a in re.findall(r'\((\d+), (.*?)\)(?=\s*∷)', rows)]
 ACTIONS = {d: dict(re.findall(rf'^{d} \w+\.(\w+) = (.*)$', STATE, re.M))
            for d in ('proto_info_action', 'af_spec_action', 'data_action', 'slave_data_action')}
-KINDS = ({b'bridge\0': 'Bridge', b'can\0': 'Can', b'hsr\0': 'Hsr'}, {b'bridge\0': 'Bridge', b'bond\0': 'Bond'})
+KINDS = ({b'bridge': 'Bridge', b'can': 'Can', b'vcan': 'Can', b'hsr': 'Hsr'}, {b'bridge': 'Bridge', b'bond': 'Bond'})
 
 
 def frames_in(b):
@@ -333,6 +333,12 @@ def frames_in(b):
         yield from each(b)
     except Fault:
         return
+
+
+def kinds_in(info):
+    """The kinds that a list names, of a device and of its ports: by the first of each number, with a NUL or without."""
+    named = [(k & 0x3fff, q[:-1] if q[-1:] == b'\0' else q) for _, k, q in frames_in(info)]
+    return [next((KINDS[i].get(q, 'Other') for k, q in named if k == n), 'Other') for i, n in ((0, 1), (1, 4))]
 
 
 @functools.lru_cache(None)
@@ -362,9 +368,7 @@ def cleared(rows, b, byte=b'\0'):
         elif what == 'Enter':
             p = cleared(level(said[0]), p, byte)
         elif what == 'EnterInfo':
-            kinds = [next((KINDS[i][q] for _, k, q in frames_in(p) if k & 0x3fff == n and q in KINDS[i]), 'Other')
-                     for i, n in ((0, 1), (1, 4))]
-            p = cleared(level('Info', *kinds), p, byte)
+            p = cleared(level('Info', *kinds_in(p)), p, byte)
         end = start + 4 + size + 3 & ~3
         padding = b[start + 4 + size:end] if len(p) == size else bytes(-len(p) % 4)
         out += [(4 + len(p)).to_bytes(2, 'little'), b[start + 2:start + 4], p, padding]

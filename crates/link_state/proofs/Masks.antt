@@ -7,6 +7,7 @@ use Rattle.std.proofs.lemmas.List.{length-append, length-replicate, length-take,
 use Rattle.std.proofs.Common.{append-nil, if◌then◌else◌, ◌==◌, eqb-true, ◌-◌}
 use Rattle.std.specs.Prelude.{min}
 use Rattle.std.proofs.lemmas.List.{take-append-drop}
+use Rattle.nla_wire.specs.Items.{items}
 use Rattle.nla_wire.proofs.Items.{items_next}
 use Rattle.link_state.specs.declared.level.Level.TheVariants.{Info}
 use Rattle.std.specs.Int.{w16, to_le_bytes}
@@ -21,8 +22,8 @@ use Rattle.link_nest.specs.declared.numbers.TheConstants.{IFLA_INFO_KIND}
 use Rattle.link_state.specs.declared.numbers.TheConstants.{IFLA_INFO_SLAVE_KIND}
 use Rattle.link_state.specs.Laws.{ListTwice, OneList, ListZeroAtItsMask, ListFilledTwice, ListFilledAtItsMask}
 use Rattle.link_state.specs.Laws.{ListMaskStays}
-use Rattle.link_state.specs.Kinds.{kind_of, named, or_else, first_kind, kind_at}
-use Rattle.link_state.specs.declared.kind.Kind.TheVariants.{Other}
+use Rattle.link_state.specs.Kinds.{kind_of, first_kind, kind_at}
+use Rattle.link_state.specs.declared.kind.Kind.{Kind}
 use Rattle.link_state.specs.Table.{action_of}
 use Rattle.link_state.specs.Cleared.{info_level, part, payload_by, filled_on, filled, cleared}
 use Rattle.link_state.specs.Masks.{part_mask, payload_mask, mask_on, mask_within, mask, stamp}
@@ -115,13 +116,18 @@ filled_goes_on by level b f rest small e =
 
 -- ** kinds
 
-same_named : (by n : ℕ) (level : Level) (f : Frame) → action_of level n ≡ Keep → (t : Bool) → (number f == n) ≡ t
-    → named n (filled_frame by level f) ≡ named n f
-same_named by n level f keeps true e =
-    ap (λ a. named n (acted by a f)) (ap (action_of level) (eqb-true (number f) n e) ∙ keeps)
-same_named by n level f keeps false e =
-    ap (λ t. if t then kind_of n (filled_frame by level f).payload else Other) e
-    ∙ sym (ap (λ t. if t then kind_of n f.payload else Other) e)
+-- a frame of a number that is kept, or else what comes behind it
+same_first : (by n : ℕ) (level : Level) (f : Frame) (k l : Kind) → action_of level n ≡ Keep → k ≡ l
+    → (t : Bool) → (number f == n) ≡ t
+    → (if number f == n then kind_of n (filled_frame by level f).payload else k)
+    ≡ (if number f == n then kind_of n f.payload else l)
+same_first by n level f k l keeps same true e =
+    ap (λ t. if t then kind_of n (filled_frame by level f).payload else k) e
+    ∙ ap (λ a. kind_of n (acted by a f).payload) (ap (action_of level) (eqb-true (number f) n e) ∙ keeps)
+    ∙ sym (ap (λ t. if t then kind_of n f.payload else l) e)
+same_first by n level f k l keeps same false e =
+    ap (λ t. if t then kind_of n (filled_frame by level f).payload else k) e ∙ same
+    ∙ sym (ap (λ t. if t then kind_of n f.payload else l) e)
 
 -- the frames of a number that is kept name the same kind
 kind_kept : (by n : ℕ) (level : Level) (b : List ℕ) → IsBytes b → action_of level n ≡ Keep
@@ -133,7 +139,8 @@ kind_kept by n = by_frames (λ level b. action_of level n ≡ Keep → kind_at n
     (λ level b f rest small e inside later keeps.
     ap (first_kind n) (items_next (filled by level b) (filled_frame by level f) (filled by level rest)
     (filled_goes_on by level b f rest small e))
-    ∙ ap₂ or_else (same_named by n level f keeps (number f == n) refl) (later keeps)
+    ∙ same_first by n level f (first_kind n (items (filled by level rest))) (first_kind n (items rest)) keeps
+    (later keeps) (number f == n) refl
     ∙ sym (ap (first_kind n) (items_next b f rest e)))
 
 level_kept : (by : ℕ) (p : List ℕ) → IsBytes p → info_level (filled by (info_level p) p) ≡ info_level p

@@ -1,6 +1,7 @@
 //! Kinds of device.
 
 ghost use Rattle.std.specs.Prelude.{◌≡◌};
+ghost use Rattle.nla_wire.specs.Payloads.{without_nul};
 ghost use Rattle.link_nest.specs.declared.numbers.TheConstants as link_nest;
 ghost use Rattle.link_state.specs.declared.numbers.TheConstants as numbers;
 ghost use Rattle.link_state.specs.Kinds.{device_kind_of, port_kind_of, kind_at};
@@ -16,7 +17,7 @@ pub enum Kind {
     Bridge,
     /// `bond`: of its ports.
     Bond,
-    /// `can`.
+    /// `can` and `vcan`.
     Can,
     /// `hsr`.
     Hsr,
@@ -24,64 +25,65 @@ pub enum Kind {
     Other,
 }
 
-/// The kind with this name, which ends in one NUL.
+/// The name in a payload, which one NUL may end.
+fn name_in(payload: &[u8]) -> &[u8]
+    ensures { without_nul payload.now ≡ result.now }
+{
+    match payload {
+        [name @ .., 0] => name,
+        _ => payload,
+    }
+}
+
+/// The kind with this name.
 fn device_kind(name: &[u8]) -> Kind
     ensures { result ≡ device_kind_of name.now }
 {
-    if name == b"bridge\0".as_slice() {
+    if name == b"bridge".as_slice() {
         Kind::Bridge
-    } else if name == b"can\0".as_slice() {
+    } else if name == b"can".as_slice() || name == b"vcan".as_slice() {
         Kind::Can
-    } else if name == b"hsr\0".as_slice() {
+    } else if name == b"hsr".as_slice() {
         Kind::Hsr
     } else {
         Kind::Other
     }
 }
 
-/// The kind with this name, which ends in one NUL, where something of its ports moves.
+/// The kind with this name, where something of its ports moves.
 fn port_kind(name: &[u8]) -> Kind
     ensures { result ≡ port_kind_of name.now }
 {
-    if name == b"bridge\0".as_slice() {
+    if name == b"bridge".as_slice() {
         Kind::Bridge
-    } else if name == b"bond\0".as_slice() {
+    } else if name == b"bond".as_slice() {
         Kind::Bond
     } else {
         Kind::Other
     }
 }
 
-impl Kind {
-    ghost use Rattle.link_state.specs.Kinds.{or_else};
-
-    /// This kind, or else the other.
-    fn or(self, other: Kind) -> Kind
-        ensures { result ≡ or_else self other }
-    {
-        match self {
-            Kind::Other => other,
-            kind => kind,
-        }
-    }
-}
-
 /// The kind of the device that attributes of these frames name, and that of the device that it is a port of: of several
-/// of one number the first one whose kind is listed.
+/// of one number the first one decides, whatever it names.
 pub(crate) fn kinds(list: &[u8]) -> (Kind, Kind)
     ensures device { result.0 ≡ kind_at link_nest.IFLA_INFO_KIND list.now }
     ensures port { result.1 ≡ kind_at numbers.IFLA_INFO_SLAVE_KIND list.now }
 {
-    let mut kind = Kind::Other;
-    let mut slave_kind = Kind::Other;
+    let mut kind = None;
+    let mut slave_kind = None;
     for item in NlasIterator::new(list) {
-        if let Ok(frame) = item {
-            match frame.kind() {
-                IFLA_INFO_KIND => kind = kind.or(device_kind(frame.value())),
-                IFLA_INFO_SLAVE_KIND => slave_kind = slave_kind.or(port_kind(frame.value())),
-                _ => {}
-            }
+        let Ok(frame) = item else {
+            break;
+        };
+        let name = name_in(frame.value());
+        match frame.kind() {
+            IFLA_INFO_KIND => kind = Some(kind.unwrap_or(device_kind(name))),
+            IFLA_INFO_SLAVE_KIND => slave_kind = Some(slave_kind.unwrap_or(port_kind(name))),
+            _ => {}
         }
     }
-    (kind, slave_kind)
+    (
+        kind.unwrap_or(Kind::Other),
+        slave_kind.unwrap_or(Kind::Other),
+    )
 }
