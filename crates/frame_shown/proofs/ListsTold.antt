@@ -2,7 +2,7 @@
 use Rattle.std.proofs.Common.{◌≡◌, ℕ, zero, suc, ◌==◌, ◌||◌, Bool, true, false, cond, List, [], ◌∷◌, refl, ap, sym}
 use Rattle.std.proofs.Common.{◌∙◌, eqb-true, map, subst}
 use Rattle.std.specs.Prelude.{Option, None, Some, codes, get_or, nat_lt}
-use Rattle.std.specs.List.{find, list_any}
+use Rattle.std.specs.List.{find}
 use Rattle.std.proofs.Math.Bool.{or-true}
 use Rattle.link_info.specs.Places.{rows_of}
 use Rattle.link_info.specs.Rows.{own_rows}
@@ -16,7 +16,7 @@ use Rattle.frame_shown.specs.Lists.{ListsAreThese, has_list, lists_at, place_lis
 use Rattle.frame_shown.specs.Plain.{IsPlain}
 use Rattle.frame_shown.specs.Tables.{Known, Rows, af_spec_form, info_row, is_each, is_listed, listed_row, lists_in}
 use Rattle.frame_shown.specs.Tables.{lists_of, message_row, nest_row, no_row, place_row, proto_inet6_row}
-use Rattle.frame_shown.specs.Tables.{proto_info_form, refused_row, row_by, row_found, row_in, row_of_list, rows_in}
+use Rattle.frame_shown.specs.Tables.{proto_info_form, refused_row, row_by, row_found, row_in, rows_in}
 use Rattle.frame_shown.specs.Tables.{styled, xstats_row}
 use Rattle.frame_shown.specs.declared.form.Around.{Around}
 use Rattle.frame_shown.specs.declared.form.Form.{Form}

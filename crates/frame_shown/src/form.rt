@@ -561,7 +561,7 @@ fn refused_row(number: u16) -> Found
 
 /// Whether an attribute of this form with this payload is kept as it is.
 #[inline(always)]
-fn is_kept_form(form: &Form, payload: &[u8]) -> bool
+pub(crate) fn is_kept_form(form: &Form, payload: &[u8]) -> bool
     ensures { result ≡ is_kept_form form.now payload.now }
 {
     match *form {
@@ -703,6 +703,7 @@ pub fn name_in(cx: &Around<'_>, list: List, number: u16, payload: &[u8]) -> Opti
 }
 
 /// The row of a number in a list.
+#[inline(always)]
 pub fn row_in(cx: &Around<'_>, list: List, number: u16) -> Known
     ensures row { (result.0.now, result.1) ≡ row_in cx.now list number }
     ensures key { is_own result.1 ≡ true → IsKey result.0.now }

@@ -16,7 +16,7 @@ ghost use Rattle.frame_shown.specs.Frames.{are_twice, by_number, entries_in, fra
 ghost use Rattle.frame_shown.specs.Frames.{values_by, way_shown};
 ghost use Rattle.frame_shown.specs.Tables.{AreOf, entry_list, group_name, is_each, is_listed, is_own, lists_in};
 ghost use Rattle.frame_shown.specs.Lists.{said_kept, said_value};
-ghost use Rattle.frame_shown.specs.Tables.{lists_of, manner_way, row_in};
+ghost use Rattle.frame_shown.specs.Tables.{lists_of, row_in};
 ghost use Rattle.frame_shown.specs.Values.{form_shown, style_shown};
 ghost use Rattle.frame_shown.specs.declared.form.Way.TheVariants as Ways;
 ghost use Rattle.link_info.specs.declared.style.Style.TheVariants as S;
@@ -25,7 +25,7 @@ ghost use Rattle.shown.specs.Keys.{IsKey};
 use crate::depth::Depth;
 use crate::form::{
     Around, Form, Group, List, Manner, NUMBERS, Rows, Way, data_rows, found_by, found_in,
-    is_each_by, is_kept_by, is_listed, kind_shown, own_rows,
+    is_each_by, is_kept_by, is_kept_form, is_listed, kind_shown, own_rows,
 };
 use crate::kept::show_kept;
 use crate::value::{number_at, show_form, show_style, show_text};
@@ -103,28 +103,6 @@ fn show_counters<D: Depth>(
     show_style::<D>(cx, page, name, &Style::Record(members), payload)
 }
 
-/// Adds a value by the row where it stands.
-#[inline(always)]
-fn show_manner<D: Depth>(
-    cx: &Around<'_>,
-    page: &mut Page,
-    name: &str,
-    manner: Manner,
-    payload: &[u8],
-) -> Result<(), AllocError>
-    requires key { is_own (manner_way manner) ≡ true → IsKey name.now }
-    ensures { OnOk result (page.new ≡ with_value name.now
-        (way_shown (D.nest cx.now) cx.now (manner_way manner) payload.now) page.old) }
-{
-    match manner {
-        Manner::Own(form) => show_own::<D>(cx, page, name, form, payload),
-        Manner::By(style) => show_style::<D>(cx, page, name, style, payload),
-        Manner::Nest(place) => show_data::<D>(cx, page, name, place, payload),
-        Manner::Counters(members) => show_counters::<D>(cx, page, name, members, payload),
-        Manner::Bytes => show_style::<D>(cx, page, name, &Style::Bytes, payload),
-    }
-}
-
 /// Which attributes of a list say nothing under a name of their own.
 #[derive(Drop)]
 struct Left {
@@ -165,13 +143,16 @@ fn show_frame<D: Depth>(
         ≡ is_value (frame_item (D.nest cx.now) cx.now list.now frame.now)) }
 {
     let (name, manner) = found_by(cx, list, rows, frame.kind());
-    if is_kept_by(manner, frame.value()) {
-        return Ok(Said::Kept);
+    let payload = frame.value();
+    match manner {
+        Manner::Own(form) if is_kept_form(form, payload) => return Ok(Said::Kept),
+        Manner::Own(form) => show_own::<D>(cx, page, name, form, payload)?,
+        Manner::By(style) if is_listed(style) => return Ok(Said::Value),
+        Manner::By(style) => show_style::<D>(cx, page, name, style, payload)?,
+        Manner::Nest(place) => show_data::<D>(cx, page, name, place, payload)?,
+        Manner::Counters(members) => show_counters::<D>(cx, page, name, members, payload)?,
+        Manner::Bytes => page.hex(name, payload)?,
     }
-    if is_each_by(manner) {
-        return Ok(Said::Value);
-    }
-    show_manner::<D>(cx, page, name, manner, frame.value())?;
     Ok(Said::Named)
 }
 

@@ -1,4 +1,4 @@
-use Rattle.std.proofs.Common.{◌≡◌, ◌∙◌, sym, ap, false}
+use Rattle.std.proofs.Common.{◌≡◌, sym, ap, false}
 use Rattle.std.specs.List.{list_any}
 use Rattle.nla_wire.specs.Items.{items as read}
 use Rattle.shown.specs.Drafts.{with_members}
