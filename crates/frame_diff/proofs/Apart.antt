@@ -31,7 +31,10 @@ use Rattle.frame_shown.specs.declared.form.Way.TheVariants as Ways
 use Rattle.frame_diff.specs.Counters.{action_in, fields_left, is_clear, is_passed}
 use Rattle.frame_diff.specs.Forests.{AreApart, Forest, Held, Member, Step, comes, find, forest, is_step, left_of}
 use Rattle.frame_diff.specs.Forests.{rest_step}
+use Rattle.frame_diff.specs.Keys.{key_at, number_in}
+use Rattle.frame_diff.specs.Labels.{labelled, labels_of}
 use Rattle.frame_diff.specs.Members.{Inner, Reading, alone, as_object, attributes_in, earlier, entries_in, entry_of}
+use Rattle.frame_diff.specs.Members.{entries_inside, entry_with, inside_of, inside_with, numbers_by}
 use Rattle.frame_diff.specs.Members.{is_unnamed, array_at, arrays_in, arrays_of, value_with, values_with}
 use Rattle.frame_diff.specs.Members.{fields, fields_kept, form_inside, frame_member, held_by, held_inside}
 use Rattle.frame_diff.specs.Members.{are_plain, ipv6_inside, values_inside}
@@ -39,6 +42,8 @@ use Rattle.frame_diff.specs.Members.{is_some}
 use Rattle.frame_diff.specs.Members.{kept_by, kept_in, list_at, list_members, meaning_inside, members_in}
 use Rattle.frame_diff.specs.Members.{message_forest, message_members, named, named_by, named_in, placed, placed_one}
 use Rattle.frame_diff.specs.Members.{Parts, places, reading, refused_in, refused_step, unless_none, way_inside}
+use Rattle.frame_diff.specs.declared.keys.Key.{Key}
+use Rattle.frame_diff.specs.declared.labels.Label.{Label}
 use Rattle.frame_shown.specs.Items.{Lists}
 
 -- ** those of a list of members
@@ -125,12 +130,25 @@ unless_apart s value Forest.none h = tt
 unless_apart s value Forest.passed h = tt
 unless_apart s value (Forest.tree a b c d) h = (h, tt)
 
-inside_apart : (hs : List (Option Held)) → HeldApart hs → AreApart (values_inside hs)
-inside_apart hs h = by (are_plain hs)
+labelled_apart : (key : Key) (ls : List Label) (hs : List (Option Held)) → HeldApart hs
+    → AllApart (labelled key ls hs)
+labelled_apart key [] hs h = tt
+labelled_apart key (l ∷ ls) [] h = tt
+labelled_apart key (l ∷ ls) (None ∷ hs) h = labelled_apart key ls hs h
+labelled_apart key (l ∷ ls) (Some held ∷ hs) h = (h.0, labelled_apart key ls hs h.1)
+
+pub each_apart_inside : (key : Option Key) (ns : List (Option ℕ)) (hs : List (Option Held)) → HeldApart hs
+    → AreApart (inside_of key ns hs)
+each_apart_inside None ns hs h = places_apart hs h
+each_apart_inside (Some key) ns hs h =
+    forest_apart (labelled key (labels_of ns) hs) (labelled_apart key (labels_of ns) hs h)
+
+inside_apart : (hs : List (Option Held)) (inside : Forest) → AreApart inside → AreApart (values_inside hs inside)
+inside_apart hs inside h = by (are_plain hs)
   where
-    by : (b : Bool) → AreApart (cond b Forest.none (places hs))
+    by : (b : Bool) → AreApart (cond b Forest.none inside)
     by true = tt
-    by false = places_apart hs h
+    by false = h
 
 list_apart : (s : Step) (hs : List (Option Held)) → HeldApart hs → AllApart (list_at s hs)
 list_apart s hs h = unless_apart s _ (places hs) (places_apart hs h)
@@ -219,6 +237,7 @@ alone_apart (Step.name name) held h = ((refl, h, tt), tt)
 alone_apart (Step.array name) held h = tt
 alone_apart (Step.part sort text) held h = tt
 alone_apart (Step.place n) held h = tt
+alone_apart (Step.label name label) held h = tt
 alone_apart Step.repeated held h = tt
 alone_apart Step.other held h = tt
 
@@ -262,15 +281,24 @@ value_with_apart r list n h f = by (number f == n) (is_each row.1)
     by true false = tt
     by false c = tt
 
-array_apart : (name : List ℕ) (hs : List (Option Held)) → HeldApart hs → AllApart (array_at name hs)
-array_apart name [] h = tt
-array_apart name (x ∷ hs) h = (inside_apart (x ∷ hs) h, tt)
+array_apart : (name : List ℕ) (hs : List (Option Held)) (inside : Forest) → AreApart inside
+    → AllApart (array_at name hs inside)
+array_apart name [] inside h = tt
+array_apart name (x ∷ hs) inside h = (inside_apart (x ∷ hs) inside h, tt)
+
+inside_with_apart : (r : Reading) (list : Shape) (n : ℕ) (fs : List Frame) → InnerApart r.inner
+    → AreApart (inside_with r list n fs)
+inside_with_apart r list n fs h =
+    let key = key_at (Some n) list in
+    each_apart_inside key (numbers_by (number_in r.around key list) (value_with r list n) fs) (values_with r list n fs)
+    (each_held (value_with r list n) fs (value_with_apart r list n h))
 
 arrays_apart : (r : Reading) (list : Shape) (lists : Lists) (fs : List Frame) → InnerApart r.inner
     → AllApart (arrays_of r list lists fs)
-arrays_apart r list lists fs h = each_apart (λ l. array_at l.1 (values_with r list l.0 fs)) lists
-    (λ l. array_apart l.1 (values_with r list l.0 fs)
-    (each_held (value_with r list l.0) fs (value_with_apart r list l.0 h)))
+arrays_apart r list lists fs h =
+    each_apart (λ l. array_at l.1 (values_with r list l.0 fs) (inside_with r list l.0 fs)) lists
+    (λ l. array_apart l.1 (values_with r list l.0 fs) (inside_with r list l.0 fs)
+    (inside_with_apart r list l.0 fs h))
 
 members_apart : (r : Reading) (list : Shape) (fs : List Frame) → InnerApart r.inner
     → AllApart (members_in r list fs)
@@ -289,8 +317,7 @@ values_apart (m ∷ ms) h = (h.0, values_apart ms h.1)
 
 entries_apart : (r : Reading) (list : Shape) (fs : List Frame) → InnerApart r.inner
     → HeldApart (entries_in r list fs)
-entries_apart r list fs h = each_held (λ f. cond (number f == 1) (Some (entry_of r list f.payload) ∷ []) []) fs
-    (λ f. by f (number f == 1))
+entries_apart r list fs h = each_held (entry_with r list) fs (λ f. by f (number f == 1))
   where
     by : (f : Frame) (b : Bool) → HeldApart (cond b (Some (entry_of r list f.payload) ∷ []) [])
     by f true = (
@@ -304,12 +331,21 @@ pub list_members_apart : (r : Reading) (list : Shape) (fs : List Frame) → Inne
     → AllApart (list_members r list fs)
 list_members_apart r (Shapes.Listed group table) fs h = (
   inside_apart (map (λ (m : Member). Some m.1) (named_in r (Shapes.Listed group table) fs))
-      (values_apart (named_in r (Shapes.Listed group table) fs) (named_in_apart r (Shapes.Listed group table) fs h)),
+      (places (map (λ (m : Member). Some m.1) (named_in r (Shapes.Listed group table) fs)))
+      (places_apart (map (λ (m : Member). Some m.1) (named_in r (Shapes.Listed group table) fs))
+      (values_apart (named_in r (Shapes.Listed group table) fs) (named_in_apart r (Shapes.Listed group table) fs h))),
   list_apart (rest_step (codes "other")) (kept_in r (Shapes.Listed group table) fs)
       (kept_in_apart r (Shapes.Listed group table) fs),
 )
 list_members_apart r (Shapes.Entries group) fs h =
-    (inside_apart (entries_in r (entry_list group) fs) (entries_apart r (entry_list group) fs h), tt)
+    let list = Shapes.Entries group in
+    let key = key_at None list in
+    let hs = entries_in r (entry_list group) fs in (
+      inside_apart hs (entries_inside r group fs)
+          (each_apart_inside key (numbers_by (number_in r.around key list) (entry_with r (entry_list group)) fs) hs
+          (entries_apart r (entry_list group) fs h)),
+      tt,
+    )
 list_members_apart r (Shapes.Message family) fs h = members_apart r (Shapes.Message family) fs h
 list_members_apart r (Shapes.Own table) fs h = members_apart r (Shapes.Own table) fs h
 list_members_apart r (Shapes.Of place) fs h = members_apart r (Shapes.Of place) fs h

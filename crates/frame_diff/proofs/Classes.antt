@@ -37,6 +37,13 @@ object_not_part : (s t : Step) → is_of_object s ≡ true → is_of_object t �
 object_not_part (Step.name a) (Step.part n b) h k = refl
 object_not_part (Step.array a) (Step.part n b) h k = refl
 object_not_part (Step.place m) (Step.part n b) h k = refl
+object_not_part (Step.name a) (Step.label b l) h k = refl
+object_not_part (Step.array a) (Step.label b l) h k = refl
+object_not_part (Step.place m) (Step.label b l) h k = refl
+object_not_part Step.repeated (Step.label b l) h k = refl
+object_not_part Step.other (Step.label b l) h k = refl
+object_not_part (Step.part m a) (Step.label b l) h k = absurd cc
+object_not_part (Step.label a l) t h k = absurd cc
 object_not_part Step.repeated (Step.part n b) h k = refl
 object_not_part Step.other (Step.part n b) h k = refl
 object_not_part (Step.part m a) (Step.part n b) h k = absurd cc
@@ -154,8 +161,8 @@ none_without r list =
 without : (r : Reading) (list : Shape) (fs : List Frame)
     → has_none (inner_of r list fs) ≡ (not (is_group list) && not (is_some fs))
 without r (Shapes.Listed group table) fs =
-    forest_some (group_of (values_step (group_name group))
-    (map (λ (m : Member). Some m.1) (named_in r (Shapes.Listed group table) fs)))
+    let hs = map (λ (m : Member). Some m.1) (named_in r (Shapes.Listed group table) fs) in
+    forest_some (group_of (values_step (group_name group)) hs (places hs))
     (list_at (rest_step (codes "other")) (kept_in r (Shapes.Listed group table) fs))
 without r (Shapes.Entries group) fs = refl
 without r (Shapes.Message family) [] = refl
@@ -182,6 +189,7 @@ part_apart n text (Step.part m other) of = absurd cc
 part_apart n text (Step.name name) of = refl
 part_apart n text (Step.array name) of = refl
 part_apart n text (Step.place m) of = refl
+part_apart n text (Step.label name label) of = absurd cc
 part_apart n text Step.repeated of = refl
 part_apart n text Step.other of = refl
 

@@ -1,6 +1,6 @@
 -- Lists of values beside each other, place by place.
 use Rattle.std.proofs.Common.{◌≡◌, ℕ, ◌+◌, ◌<◌, ◌≤◌, Bool, true, false, List, [], ◌∷◌, ◌++◌, refl, subst}
-use Rattle.std.proofs.Common.{sym, ap, ◌∙◌, Ok, append-nil, arith, eq-eqb, map}
+use Rattle.std.proofs.Common.{sym, ap, ◌∙◌, Ok, append-nil, arith, eq-eqb, length, map, suc}
 use Rattle.std.specs.Prelude.{IfSome, Option, Some, None, ◌==◌, ◌&&◌, ◌||◌, codes, cond, decimal, nat_lt, not}
 use Rattle.std.specs.Prelude.{option_map}
 use Rattle.std.specs.List.{flat_map}
@@ -28,18 +28,22 @@ use Rattle.frame_diff.specs.Counters.{action_in}
 use Rattle.frame_diff.specs.Forests.{Forest, Held, Member, Step, comes, entries_step, find, forest, is_step, is_text}
 use Rattle.frame_diff.specs.Forests.{left_of, rest_step, values_step}
 use Rattle.frame_diff.specs.Groups.{IsFlat, first_by, first_of, group_at, group_by, group_held, group_step}
-use Rattle.frame_diff.specs.Groups.{flat_shown, is_valued, picked_by, picked_values}
+use Rattle.frame_diff.specs.Groups.{flat_shown, group_inside, is_valued, numbers_at, picked_by, picked_values}
 use Rattle.frame_diff.specs.Groups.{group_values, is_entries, is_group, is_same_group}
 use Rattle.frame_diff.specs.Groups.{next_place, picked, place_items, rest_by, rest_forest, rest_of, value_at}
 use Rattle.frame_diff.specs.Groups.{values_by, values_of}
 use Rattle.frame_diff.specs.Inside.{has_none}
-use Rattle.frame_diff.specs.Items.{items_told, joined, leaf_items, step_text}
+use Rattle.frame_diff.specs.Keys.{key_at, number_in}
+use Rattle.frame_diff.specs.Labels.{label_step, labelled, labels_behind, labels_of}
+use Rattle.frame_diff.specs.Items.{further, items_told, joined, leaf_items, step_text}
 use Rattle.frame_diff.specs.Members.{Reading, entries_in, entry_of, frame_member, group_of, held_by, is_some}
-use Rattle.frame_diff.specs.Members.{values_with}
+use Rattle.frame_diff.specs.Members.{inside_of, numbers_by, values_with}
 use Rattle.frame_diff.specs.Members.{kept_in, list_at, list_members, named_by, named_in, placed, placed_one, places}
 use Rattle.frame_diff.specs.Members.{are_plain, is_nested, value_in, values_inside}
 use Rattle.frame_diff.specs.Values.{kept_among, listed_shown}
 use Rattle.frame_diff.specs.Walked.{Holding, Showing, held_items, reading_at}
+use Rattle.frame_diff.specs.declared.keys.Key.{Key}
+use Rattle.frame_diff.specs.declared.labels.Label.{Label}
 use Rattle.frame_diff.specs.declared.side.Side.{Side}
 use Rattle.frame_diff.specs.declared.walk.Attribute.{Attribute}
 use Rattle.frame_diff.specs.declared.walk.Attributes.{Attributes}
@@ -217,19 +221,73 @@ placed_some n [] some = absurd cc
 placed_some n (None ∷ hs) some = placed_some (n + 1) hs some
 placed_some n (Some h ∷ hs) some = forest_some (Step.place n, h) (placed (n + 1) hs)
 
-pub inside_plain : (hs : List (Option Held)) → has_none (values_inside hs) ≡ are_plain hs
-inside_plain hs = by (are_plain hs) refl
+-- each of the others at its label
+labels_long : (before ns : List (Option ℕ)) → length (labels_behind before ns) ≡ length ns
+labels_long before [] = refl
+labels_long before (n ∷ ns) = ap (λ k. suc k) (labels_long (n ∷ before) ns)
+
+labelled_some : (key : Key) (ls : List Label) (hs : List (Option Held)) → length ls ≡ length hs
+    → are_plain hs ≡ false → has_none (forest (labelled key ls hs)) ≡ false
+labelled_some key ls [] long some = absurd cc
+labelled_some key [] (h ∷ hs) long some = absurd cc
+labelled_some key (l ∷ ls) (None ∷ hs) long some = labelled_some key ls hs (omega (arith, long)) some
+labelled_some key (l ∷ ls) (Some h ∷ hs) long some = forest_some (label_step key l, h) (labelled key ls hs)
+
+inside_some : (key : Option Key) (ns : List (Option ℕ)) (hs : List (Option Held)) → length ns ≡ length hs
+    → are_plain hs ≡ false → has_none (inside_of key ns hs) ≡ false
+inside_some None ns hs long some = placed_some 0 hs some
+inside_some (Some key) ns hs long some = labelled_some key (labels_of ns) hs (labels_long [] ns ∙ long) some
+
+pub inside_plain : (hs : List (Option Held)) (inside : Forest)
+    → (are_plain hs ≡ false → has_none inside ≡ false) → has_none (values_inside hs inside) ≡ are_plain hs
+inside_plain hs inside some = by (are_plain hs) some
   where
-    by : (b : Bool) → are_plain hs ≡ b → has_none (cond b Forest.none (places hs)) ≡ b
+    by : (b : Bool) → (b ≡ false → has_none inside ≡ false) → has_none (cond b Forest.none inside) ≡ b
     by true is = refl
-    by false is = placed_some 0 hs is
+    by false is = is refl
 
 -- what is inside a list of which some are
-pub inside_places : (hs : List (Option Held)) → are_plain hs ≡ false → values_inside hs ≡ places hs
-inside_places hs some = ap (λ b. cond b Forest.none (places hs)) some
+pub inside_here : (hs : List (Option Held)) (inside : Forest) → are_plain hs ≡ false
+    → values_inside hs inside ≡ inside
+inside_here hs inside some = ap (λ b. cond b Forest.none inside) some
 
-pub inside_none : (hs : List (Option Held)) → are_plain hs ≡ true → values_inside hs ≡ Forest.none
-inside_none hs plain = ap (λ b. cond b Forest.none (places hs)) plain
+pub inside_none : (hs : List (Option Held)) (inside : Forest) → are_plain hs ≡ true
+    → values_inside hs inside ≡ Forest.none
+inside_none hs inside plain = ap (λ b. cond b Forest.none inside) plain
+
+-- each value has a number
+pub picked_none : (r : Reading) (picks : Option ℕ) (list : Shape) → picked_values r picks list [] ≡ []
+picked_none r (Some n) list = refl
+picked_none r None (Shapes.Listed group table) = refl
+picked_none r None (Shapes.Entries group) = refl
+picked_none r None (Shapes.Message family) = refl
+picked_none r None (Shapes.Own table) = refl
+picked_none r None (Shapes.Of place) = refl
+picked_none r None Shapes.ProtoInet6 = refl
+picked_none r None Shapes.Refused = refl
+picked_none r None (Shapes.Info link port) = refl
+
+both_long : (n : Option ℕ) (hs gs : List (Option Held)) (ns : List (Option ℕ)) → length ns ≡ length gs
+    → length (map (λ (h : Option Held). n) hs ++ ns) ≡ length (hs ++ gs)
+both_long n [] gs ns long = long
+both_long n (h ∷ hs) gs ns long = ap (λ k. suc k) (both_long n hs gs ns long)
+
+numbers_long : (number_of : Frame → Option ℕ) (r : Reading) (picks : Option ℕ) (list : Shape) (fs : List Frame)
+    → length (numbers_by number_of (picked_by r picks list) fs) ≡ length (picked_values r picks list fs)
+numbers_long number_of r picks list [] = sym (ap length (picked_none r picks list))
+numbers_long number_of r picks list (f ∷ fs) =
+    both_long (number_of f) (picked_by r picks list f) (picked_values r picks list fs)
+    (numbers_by number_of (picked_by r picks list) fs) (numbers_long number_of r picks list fs)
+    ∙ sym (ap length (picked_further r picks list f fs))
+
+module _ (nest : Showing) (inner : Holding) (is_state : Bool) where
+  pub group_plain : (a : Attributes)
+      → has_none (group_held nest inner is_state a).1 ≡ are_plain (group_at nest inner is_state a)
+  group_plain a =
+      inside_plain (group_at nest inner is_state a) (group_inside nest inner is_state a)
+      (inside_some (key_at a.number a.list) (numbers_at nest inner is_state a) (group_at nest inner is_state a)
+      (numbers_long (number_in a.around.now (key_at a.number a.list) a.list)
+      (reading_at nest inner is_state a.around.now) a.number a.list (frames_in (items a.bytes.now))))
 
 -- as one value they are what is shown
 
@@ -284,7 +342,7 @@ module _ (nest : Showing) (inner : Holding) (is_state : Bool) (cx : Around) wher
 
   pub plain_shown : (list : Shape) (p : List ℕ) → is_group list ≡ true
       → are_plain (group_values r list (frames_in (items p))) ≡ true
-      → listed_shown (nest cx) cx list p ≡ (group_by (group_values r list (frames_in (items p)))).0
+      → listed_shown (nest cx) cx list p ≡ list_of (flat_map value_in (group_values r list (frames_in (items p))))
   plain_shown (Shapes.Listed group table) p h plain =
       ap list_of (sym (listed_texts (Shapes.Listed group table) (frames_in (items p))))
   plain_shown (Shapes.Entries group) p h plain =
@@ -299,7 +357,8 @@ module _ (nest : Showing) (inner : Holding) (is_state : Bool) (cx : Around) wher
 
   pub valued_shown : (picks : Option ℕ) (list : Shape) (p : List ℕ) → is_valued picks list ≡ true
       → are_plain (picked_values r picks list (frames_in (items p))) ≡ true
-      → flat_shown (nest cx) cx picks list p ≡ (group_by (picked_values r picks list (frames_in (items p)))).0
+      → flat_shown (nest cx) cx picks list p
+      ≡ list_of (flat_map value_in (picked_values r picks list (frames_in (items p))))
   valued_shown None list p h plain = plain_shown list p h plain
   valued_shown (Some n) list p h plain =
       ap list_of (sym (texts_are (values_with r list n (frames_in (items p)))
@@ -314,24 +373,29 @@ inner_of r list fs = left_of (is_some fs) (list_members r list fs)
 abbrev rest_step_now : Step
 rest_step_now = rest_step (codes "other")
 
+-- one value of all of them
+abbrev all_held : Reading → Shape → List Frame → Held
+all_held r list fs = group_by (group_values r list fs) (inside_of (key_at None list)
+    (numbers_by (number_in r.around (key_at None list) list) (picked_by r None list) fs) (group_values r list fs))
+
 one_told : (side : Side) (text : List ℕ) (s : Step) (h : Held) (ms : List Member) (g : Forest) → comes s ms ≡ false
     → items_told side text (forest ((s, h) ∷ ms)) g
-    ≡ held_items side (joined text (step_text s)) h (find s g) ++ items_told side text (forest ms) g
+    ≡ held_items side (further text s) h (find s g) ++ items_told side text (forest ms) g
 one_told side text s h ms g once =
     last_further side text g (s, h) ms
-    ∙ ap (λ b. cond b [] (held_items side (joined text (step_text s)) h (find s g))
+    ∙ ap (λ b. cond b [] (held_items side (further text s) h (find s g))
     ++ items_told side text (forest ms) g)
     once
 
 pub listed_told : (side : Side) (text : List ℕ) (r : Reading) (list : Shape) (fs : List Frame) (g : Forest)
     → (is_group list && not (is_entries list)) ≡ true
     → items_told side text (inner_of r list fs) g
-    ≡ held_items side (joined text (step_text (group_step list))) (group_by (group_values r list fs))
+    ≡ held_items side (joined text (step_text (group_step list))) (all_held r list fs)
     (find (group_step list) g)
     ++ items_told side text (forest (list_at rest_step_now (kept_in r list fs))) g
 listed_told side text r (Shapes.Listed group table) fs g h =
     let list = Shapes.Listed group table in
-    one_told side text (values_step (group_name group)) (group_by (group_values r list fs))
+    one_told side text (values_step (group_name group)) (all_held r list fs)
     (list_at rest_step_now (kept_in r list fs)) g
     (list_lacks (values_step (group_name group)) rest_step_now (kept_in r list fs) refl)
 listed_told side text r (Shapes.Entries group) fs g h = absurd cc
@@ -341,6 +405,22 @@ listed_told side text r (Shapes.Of place) fs g h = absurd cc
 listed_told side text r Shapes.ProtoInet6 fs g h = absurd cc
 listed_told side text r Shapes.Refused fs g h = absurd cc
 listed_told side text r (Shapes.Info link port) fs g h = absurd cc
+
+pub entries_told : (side : Side) (text : List ℕ) (r : Reading) (list : Shape) (fs : List Frame) (g : Forest)
+    → is_entries list ≡ true
+    → items_told side text (inner_of r list fs) g
+    ≡ held_items side (joined text (step_text (group_step list))) (all_held r list fs) (find (group_step list) g)
+entries_told side text r (Shapes.Entries group) fs g h =
+    let s = entries_step (group_name group) in
+    let held = all_held r (Shapes.Entries group) fs in
+    one_told side text s held [] g refl ∙ append-nil (held_items side (further text s) held (find s g))
+entries_told side text r (Shapes.Listed group table) fs g h = absurd cc
+entries_told side text r (Shapes.Message family) fs g h = absurd cc
+entries_told side text r (Shapes.Own table) fs g h = absurd cc
+entries_told side text r (Shapes.Of place) fs g h = absurd cc
+entries_told side text r Shapes.ProtoInet6 fs g h = absurd cc
+entries_told side text r Shapes.Refused fs g h = absurd cc
+entries_told side text r (Shapes.Info link port) fs g h = absurd cc
 
 -- ** the same list of values among the members of another list
 
@@ -354,25 +434,25 @@ module _ (r : Reading) where
   listed_found : (s : Step) (group : Group) (table : Table) (fs : List Frame) (same : Bool)
       → is_step (values_step (group_name group)) s ≡ same → is_step rest_step_now s ≡ false
       → find s (inner_of r (Shapes.Listed group table) fs)
-      ≡ cond same (Some (group_by (group_values r (Shapes.Listed group table) fs))) None
+      ≡ cond same (Some (all_held r (Shapes.Listed group table) fs)) None
   listed_found s group table fs same is other =
       let list = Shapes.Listed group table in
       let t = values_step (group_name group) in
       let rest = list_at rest_step_now (kept_in r list fs) in
-      one_found s t (group_by (group_values r list fs)) rest same
+      one_found s t (all_held r list fs) rest same
       (list_lacks t rest_step_now (kept_in r list fs) refl) (list_lacks s rest_step_now (kept_in r list fs) other) is
 
   entries_found : (s : Step) (group : Group) (fs : List Frame) (same : Bool)
       → is_step (entries_step (group_name group)) s ≡ same
       → find s (inner_of r (Shapes.Entries group) fs)
-      ≡ cond same (Some (group_by (group_values r (Shapes.Entries group) fs))) None
+      ≡ cond same (Some (all_held r (Shapes.Entries group) fs)) None
   entries_found s group fs same is =
-      one_found s (entries_step (group_name group)) (group_by (group_values r (Shapes.Entries group) fs)) [] same refl
+      one_found s (entries_step (group_name group)) (all_held r (Shapes.Entries group) fs) [] same refl
       refl is
 
   pub group_beside : (own other : Shape) (fs : List Frame) → is_group own ≡ true
       → find (group_step own) (inner_of r other fs)
-      ≡ cond (is_same_group own other) (Some (group_by (group_values r other fs))) None
+      ≡ cond (is_same_group own other) (Some (all_held r other fs)) None
   group_beside (Shapes.Listed one table) (Shapes.Listed two other) fs h =
       listed_found (values_step (group_name one)) two other fs (is_text (group_name two) (group_name one)) refl refl
   group_beside (Shapes.Listed one table) (Shapes.Entries two) fs h =
@@ -418,7 +498,7 @@ module _ (r : Reading) where
   rest_there (Shapes.Listed group table) fs h =
       let list = Shapes.Listed group table in
       sym (find_back rest_step_now
-      (group_of (values_step (group_name group)) (group_values r list fs) ∷ [])
+      (group_of (values_step (group_name group)) (group_values r list fs) (places (group_values r list fs)) ∷ [])
       (list_at rest_step_now (kept_in r list fs)) refl)
   rest_there (Shapes.Entries group) fs h = absurd cc
   rest_there (Shapes.Message family) fs h = absurd cc
@@ -567,3 +647,13 @@ module _ (nest : Showing) (inner : Holding) (is_state : Bool) (side : Side) (tex
       ((λ k. leaf_items side text (shown_is own plain k) None)
       ∙ ap (leaf_items side text (held own).0) (sym (ap (option_map (λ a. (held a).0)) is) ∙ same))
       told
+
+-- ** the values of a list under its name
+
+-- what is told, where its path and both values are the same
+pub group_told : (side : Side) (text other : List ℕ) (h k : Held) (b d : Option Held) (was now : Draft)
+    → text ≡ other → h ≡ k → b ≡ d
+    → now ≡ with_members (objects (held_items side text h b)) was
+    → now ≡ with_members (objects (held_items side other k d)) was
+group_told side text other h k b d was now path held beside told =
+    told ∙ (λ i. with_members (objects (held_items side (path i) (held i) (beside i))) was)

@@ -10,7 +10,7 @@ use Rattle.frame_diff.specs.Differences.{inside_in, leaf_in}
 use Rattle.frame_diff.specs.Forests.{Forest, Held, Member, Step, comes, field_step, find, forest, is_step, is_text}
 use Rattle.frame_diff.specs.Forests.{left_of}
 use Rattle.frame_diff.specs.Inside.{has_none, is_field}
-use Rattle.frame_diff.specs.Items.{items_told, joined, leaf_items, member_items, step_text}
+use Rattle.frame_diff.specs.Items.{further, items_told, leaf_items, member_items}
 use Rattle.frame_diff.specs.Members.{fields, named}
 use Rattle.frame_diff.specs.Rows.{row_shown}
 use Rattle.frame_diff.specs.Walked.{held_items}
@@ -36,7 +36,7 @@ pub same_told : (P : Step → Type 0) (side : Side) (text : List ℕ) (f g h : F
 same_told P side text Forest.none g h all same = refl
 same_told P side text Forest.passed g h all same = refl
 same_told P side text (Forest.tree s v i rest) g h all same =
-    let path = joined text (step_text s) in
+    let path = further text s in
     (λ k. member_items side path v i (items_told side path i) (same s all.0 k)
     ++ same_told P side text rest g h all.1 same k)
 
@@ -132,6 +132,7 @@ field_apart (Step.array a) text h = refl
 field_apart (Step.part zero a) text h = absurd cc
 field_apart (Step.part (suc n) a) text h = ap (λ b. b && is_text text a) (below 0 (suc n) (omega arith))
 field_apart (Step.place n) text h = refl
+field_apart (Step.label name label) text h = refl
 field_apart Step.repeated text h = refl
 field_apart Step.other text h = refl
 
@@ -155,6 +156,7 @@ first_other (Step.part (suc n) text) v i rest h = refl
 first_other (Step.name text) v i rest h = refl
 first_other (Step.array text) v i rest h = refl
 first_other (Step.place n) v i rest h = refl
+first_other (Step.label name label) v i rest h = refl
 first_other Step.repeated v i rest h = refl
 first_other Step.other v i rest h = refl
 
@@ -182,6 +184,7 @@ field_found g h same (Step.part (suc n) text) is = absurd cc
 field_found g h same (Step.name text) is = absurd cc
 field_found g h same (Step.array text) is = absurd cc
 field_found g h same (Step.place n) is = absurd cc
+field_found g h same (Step.label name label) is = absurd cc
 field_found g h same Step.repeated is = absurd cc
 field_found g h same Step.other is = absurd cc
 

@@ -4,8 +4,8 @@ use Rattle.std.specs.Prelude.{Option, Some, None, cond}
 use Rattle.json.specs.Token.{Token}
 use Rattle.frame_diff.specs.Differences.{Change, inside_in, is_shown_same, leaf_change, leaf_in, member_told, told}
 use Rattle.frame_diff.specs.Forests.{Forest, Held, Path, Step, find}
-use Rattle.frame_diff.specs.Items.{change_item, is_leaf_untold, items_told, joined, leaf_item, leaf_items}
-use Rattle.frame_diff.specs.Items.{member_items, path_text, step_text, text_behind, turned_item}
+use Rattle.frame_diff.specs.Items.{change_item, further, is_leaf_untold, items_told, leaf_item, leaf_items}
+use Rattle.frame_diff.specs.Items.{member_items, path_text, text_behind, turned_item}
 use Rattle.frame_diff.specs.Laws.{ItemsAreChanges}
 use Rattle.frame_diff.specs.declared.side.Side.{Side}
 use Rattle.frame_diff.specs.declared.side.Side.TheVariants.{Old, New}
@@ -15,9 +15,9 @@ map_joined f [] ys = refl
 map_joined f (x ∷ xs) ys = ap (λ l. f x ∷ l) (map_joined f xs ys)
 
 text_further : (text : List ℕ) (path : Path) (s : Step)
-    → text_behind text (path ++ s ∷ []) ≡ joined (text_behind text path) (step_text s)
+    → text_behind text (path ++ s ∷ []) ≡ further (text_behind text path) s
 text_further text [] s = refl
-text_further text (t ∷ path) s = text_further (joined text (step_text t)) path s
+text_further text (t ∷ path) s = text_further (further text t) path s
 
 leaf_is : (side : Side) (path : Path) (v : List Token) (beside : Option (List Token))
     → leaf_items side (path_text path) v beside ≡ map change_item (leaf_change side path v beside)

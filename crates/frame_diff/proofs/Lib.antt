@@ -1,4 +1,5 @@
 pub mod Steps
+pub mod Labelled
 pub mod Unnamed
 pub mod Values
 pub mod ListRows
@@ -21,6 +22,7 @@ pub mod Classes
 pub mod Nested
 pub mod Grouped
 pub mod ArraysTold
+pub mod KeyedTold
 pub mod Sorts
 pub mod Told
 pub mod Names
@@ -29,6 +31,7 @@ pub mod Records
 pub mod Alike
 pub mod Whole
 pub mod Orders
+pub mod PlainKeys
 pub mod Plain
 pub mod Numbers
 pub mod PathTexts

@@ -9,9 +9,9 @@ use Rattle.frame_shown.specs.Tables.{row_in, lists_in}
 use Rattle.frame_shown.specs.declared.form.List.{List as Shape}
 use Rattle.frame_diff.specs.Beside.{held_of}
 use Rattle.frame_diff.specs.Forests.{Forest, Held, Member, Step, comes, find, forest, is_step, is_text}
-use Rattle.frame_diff.specs.Items.{items_told, joined, member_items, step_text}
+use Rattle.frame_diff.specs.Items.{further, items_told, joined, member_items}
 use Rattle.frame_diff.specs.Members.{Reading, earlier, kept_in, list_at, members_in, named_in, places, unless_none}
-use Rattle.frame_diff.specs.Members.{is_unnamed, array_at, arrays_in, arrays_of, values_with}
+use Rattle.frame_diff.specs.Members.{is_unnamed, array_at, arrays_in, arrays_of, inside_with, values_with}
 use Rattle.frame_diff.specs.Walked.{held_items, last_items}
 use Rattle.frame_diff.specs.declared.side.Side.{Side}
 use Rattle.frame_diff.proofs.Apart.{find_none}
@@ -69,7 +69,7 @@ module _ (side : Side) (text : List ℕ) where
       let front = one others ms m in
       last_further side text others m (ms ++ more)
       ∙ (λ k. cond (comes_append m.0 ms more none.0 k) []
-      (held_items side (joined text (step_text m.0)) m.1 (find m.0 others)) ++ told_parts others ms more none.1 k)
+      (held_items side (further text m.0) m.1 (find m.0 others)) ++ told_parts others ms more none.1 k)
       ∙ sym (append_assoc front (items_told side text (forest ms) others) (items_told side text (forest more) others))
       ∙ ap (λ l. l ++ items_told side text (forest more) others) (sym (last_further side text others m ms))
 
@@ -133,16 +133,18 @@ arrays_append : (xs ys : List Member) → AreArrays xs → AreArrays ys → AreA
 arrays_append [] ys h k = k
 arrays_append (x ∷ xs) ys h k = (h.0, arrays_append xs ys h.1 k)
 
-array_array : (name : List ℕ) (hs : List (Option Held)) → AreArrays (array_at name hs)
-array_array name [] = tt
-array_array name (h ∷ hs) = ((name, refl), tt)
+array_array : (name : List ℕ) (hs : List (Option Held)) (inside : Forest) → AreArrays (array_at name hs inside)
+array_array name [] inside = tt
+array_array name (h ∷ hs) inside = ((name, refl), tt)
 
 pub arrays_arrays : (r : Reading) (list : Shape) (lists : Lists) (fs : List Frame)
     → AreArrays (arrays_of r list lists fs)
 arrays_arrays r list [] fs = tt
 arrays_arrays r list (l ∷ lists) fs =
-    arrays_append (array_at l.1 (values_with r list l.0 fs)) (arrays_of r list lists fs)
-    (array_array l.1 (values_with r list l.0 fs)) (arrays_arrays r list lists fs)
+    let hs = values_with r list l.0 fs in
+    let inside = inside_with r list l.0 fs in
+    arrays_append (array_at l.1 hs inside) (arrays_of r list lists fs) (array_array l.1 hs inside)
+    (arrays_arrays r list lists fs)
 
 pub list_lacks : (t s : Step) (hs : List (Option Held)) → is_step s t ≡ false → comes t (list_at s hs) ≡ false
 list_lacks t s hs other = by _ (places hs)
@@ -225,25 +227,27 @@ list_lacks_arrays s hs ms arrays none = by _ (places hs)
     by v (Forest.tree a b c d) = (no_arrays s ms arrays none, tt)
 
 -- no list of a name is among those of other names
-array_lacks : (s : Step) (name : List ℕ) (hs : List (Option Held)) → is_step (Step.array name) s ≡ false
-    → comes s (array_at name hs) ≡ false
-array_lacks s name [] other = refl
-array_lacks s name (h ∷ hs) other = ap (λ b. cond b true false) other
+array_lacks : (s : Step) (name : List ℕ) (hs : List (Option Held)) (inside : Forest)
+    → is_step (Step.array name) s ≡ false → comes s (array_at name hs inside) ≡ false
+array_lacks s name [] inside other = refl
+array_lacks s name (h ∷ hs) inside other = ap (λ b. cond b true false) other
 
 pub lists_lack_name : (r : Reading) (list : Shape) (name : List ℕ) (lists : Lists) (fs : List Frame)
     → AllByRecursion (λ m. is_text m.1 name ≡ false) lists
     → comes (Step.array name) (arrays_of r list lists fs) ≡ false
 lists_lack_name r list name [] fs none = refl
 lists_lack_name r list name (l ∷ lists) fs none =
-    comes_append (Step.array name) (array_at l.1 (values_with r list l.0 fs)) (arrays_of r list lists fs)
+    let hs = values_with r list l.0 fs in
+    let inside = inside_with r list l.0 fs in
+    comes_append (Step.array name) (array_at l.1 hs inside) (arrays_of r list lists fs)
     (lists_lack_name r list name lists fs none.1)
-    ∙ array_lacks (Step.array name) l.1 (values_with r list l.0 fs) none.0
+    ∙ array_lacks (Step.array name) l.1 hs inside none.0
 
-pub array_apart : (r : Reading) (list : Shape) (name : List ℕ) (hs : List (Option Held)) (lists : Lists)
-    (fs : List Frame) → AllByRecursion (λ m. is_text m.1 name ≡ false) lists
-    → NoneComes (array_at name hs) (arrays_of r list lists fs)
-array_apart r list name [] lists fs none = tt
-array_apart r list name (h ∷ hs) lists fs none = (lists_lack_name r list name lists fs none, tt)
+pub array_apart : (r : Reading) (list : Shape) (name : List ℕ) (hs : List (Option Held)) (inside : Forest)
+    (lists : Lists) (fs : List Frame) → AllByRecursion (λ m. is_text m.1 name ≡ false) lists
+    → NoneComes (array_at name hs inside) (arrays_of r list lists fs)
+array_apart r list name [] inside lists fs none = tt
+array_apart r list name (h ∷ hs) inside lists fs none = (lists_lack_name r list name lists fs none, tt)
 
 -- beside members that are all passed over as beside none
 pub lacking : (side : Side) (text : List ℕ) (f : Forest)
@@ -251,27 +255,27 @@ pub lacking : (side : Side) (text : List ℕ) (f : Forest)
 lacking side text Forest.none = refl
 lacking side text Forest.passed = refl
 lacking side text (Forest.tree s v i rest) =
-    let path = joined text (step_text s) in
+    let path = further text s in
     ap (λ l. member_items side path v i (items_told side path i) None ++ l) (lacking side text rest)
 
 -- a member at one step tells what those inside it tell
 pub unless_told : (side : Side) (text : List ℕ) (s : Step) (v w : List Token) (f g : Forest)
     → items_told side text (forest (unless_none s v f)) (forest (unless_none s w g))
-    ≡ items_told side (joined text (step_text s)) f g
+    ≡ items_told side (further text s) f g
 unless_told side text s v w Forest.none g = refl
 unless_told side text s v w Forest.passed g = refl
 unless_told side text s v w (Forest.tree a b c d) Forest.none = append-nil _
 unless_told side text s v w (Forest.tree a b c d) Forest.passed =
-    append-nil _ ∙ lacking side (joined text (step_text s)) (Forest.tree a b c d)
+    append-nil _ ∙ lacking side (further text s) (Forest.tree a b c d)
 unless_told side text s v w (Forest.tree a b c d) (Forest.tree p q x y) =
     append-nil _
-    ∙ ap (λ e. held_items side (joined text (step_text s)) (v, Forest.tree a b c d)
+    ∙ ap (λ e. held_items side (further text s) (v, Forest.tree a b c d)
     (cond e (Some (w, Forest.tree p q x y)) None)) (step_is s)
 
 -- a list of values tells what those in it tell, by their places
 pub list_told : (side : Side) (text : List ℕ) (s : Step) (hs gs : List (Option Held))
     → items_told side text (forest (list_at s hs)) (forest (list_at s gs))
-    ≡ items_told side (joined text (step_text s)) (places hs) (places gs)
+    ≡ items_told side (further text s) (places hs) (places gs)
 list_told side text s hs gs = unless_told side text s _ _ (places hs) (places gs)
 
 -- ** the members of a list of attributes

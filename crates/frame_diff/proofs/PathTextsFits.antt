@@ -1,11 +1,12 @@
 -- What is inside a payload is of the sort that its row says, where the lists inside it are of theirs.
 use Rattle.std.proofs.Common.{◌≡◌, ℕ, ◌+◌, ◌<◌, ◌≤◌, ◌^◌, Bool, true, false, List, [], ◌∷◌, ◌++◌, map, arith, length}
-use Rattle.std.proofs.Common.{length-append, refl, sym, subst}
+use Rattle.std.proofs.Common.{inl, inr, length-append, ltb-true, refl, sym, subst}
 use Rattle.std.proofs.lemmas.Bool.{and_parts}
-use Rattle.std.specs.Prelude.{Option, Some, None, Result, Ok, Err, cond, ◌==◌}
+use Rattle.std.proofs.lemmas.List.{length-map}
+use Rattle.std.specs.Prelude.{Option, Some, None, Result, Ok, Err, cond, nat_lt, ◌==◌}
 use Rattle.std.specs.List.{AllByRecursion, flat_map}
 use Rattle.json.specs.Token.{Token}
-use Rattle.nla_wire.specs.Frames.{Frame}
+use Rattle.nla_wire.specs.Frames.{Frame, number}
 use Rattle.nla_wire.specs.Items.{items}
 use Rattle.nla_wire.specs.Payloads.{text}
 use Rattle.nla_wire.specs.declared.error.Cause.{Cause}
@@ -24,6 +25,7 @@ use Rattle.shown.specs.Drafts.{Members}
 use Rattle.frame_shown.specs.Values.{behind_settings, counter_names, counter_width, counters_shown, event_in, fields_in}
 use Rattle.frame_shown.specs.Values.{fields_shown, hexadecimal, info_of, ipv6_named, record_shown, setting_names}
 use Rattle.frame_shown.specs.Values.{settings_shown}
+use Rattle.frame_shown.specs.Tables.{row_in}
 use Rattle.frame_shown.specs.declared.form.Around.{Around}
 use Rattle.frame_shown.specs.declared.form.Form.{Form}
 use Rattle.frame_shown.specs.declared.form.Form.TheVariants as Forms
@@ -34,12 +36,18 @@ use Rattle.frame_shown.specs.declared.form.Order.TheVariants as Orders
 use Rattle.frame_shown.specs.declared.form.Way.{Way}
 use Rattle.frame_shown.specs.declared.form.Way.TheVariants as Ways
 use Rattle.frame_diff.specs.Counters.{fields_left, is_clear}
-use Rattle.frame_diff.specs.Forests.{Forest, Held, Member, Step, comes, forest, left_of}
+use Rattle.frame_diff.specs.Forests.{Forest, Held, Member, Step, comes, forest, is_number, left_of}
 use Rattle.frame_diff.specs.Items.{step_text}
-use Rattle.frame_diff.specs.Members.{Inner, fields, fields_kept, form_inside, held_inside, ipv6_inside}
-use Rattle.frame_diff.specs.Members.{is_some, meaning_inside, named, placed, placed_one, places, unless_none}
+use Rattle.frame_diff.specs.Keys.{bounded, key_name, number_in, number_said}
+use Rattle.frame_diff.specs.Labels.{count, labelled, labels_behind, labels_of}
+use Rattle.frame_diff.specs.Members.{Inner, fields, fields_kept, form_inside, held_inside, inside_of, ipv6_inside}
+use Rattle.frame_diff.specs.Members.{is_some, meaning_inside, named, numbers_by, placed, placed_one, places}
+use Rattle.frame_diff.specs.Members.{unless_none}
 use Rattle.frame_diff.specs.Members.{are_plain, values_inside, way_inside}
-use Rattle.frame_diff.proofs.PathTexts.{Sort, Stands, Whose, within}
+use Rattle.frame_diff.specs.declared.keys.Key.{Key}
+use Rattle.frame_diff.specs.declared.keys.Key.TheVariants as Keys
+use Rattle.frame_diff.specs.declared.labels.Label.{Label}
+use Rattle.frame_diff.proofs.PathTexts.{IsBounded, IsWritten, Sort, Stands, Whose, lacks_marks, within}
 use Rattle.frame_diff.proofs.PathTextsNames.{form_fits, info_known, is_known, is_same, same_sort, sort_of, style_fits}
 use Rattle.frame_diff.proofs.PathTextsNames.{way_fits, whose_place}
 
@@ -104,20 +112,20 @@ placed_fit sort n [] few h = tt
 placed_fit sort n (None ∷ hs) few h = placed_fit sort (n + 1) hs (omega (arith, few)) h
 placed_fit sort n (Some held ∷ hs) few h =
     append_fits (Sort.values sort) (placed_one n (Some held)) (placed (n + 1) hs)
-    ((n, omega (arith, few), refl), h.0, tt) (placed_fit sort (n + 1) hs (omega (arith, few)) h.1)
+    (inl (n, omega (arith, few), refl), h.0, tt) (placed_fit sort (n + 1) hs (omega (arith, few)) h.1)
 
 pub places_fit : (sort : Sort) (hs : List (Option Held)) → length hs < 2 ^ 64 → HeldFit sort hs
     → Fits (Sort.values sort) (places hs)
 places_fit sort hs few h =
     forest_fits (Sort.values sort) (placed 0 hs) (placed_fit sort 0 hs (omega (arith, few)) h)
 
-pub inside_fit : (sort : Sort) (hs : List (Option Held)) → length hs < 2 ^ 64 → HeldFit sort hs
-    → Fits (Sort.values sort) (values_inside hs)
-inside_fit sort hs few h = by (are_plain hs)
+pub inside_fit : (sort : Sort) (hs : List (Option Held)) (inside : Forest) → Fits (Sort.values sort) inside
+    → Fits (Sort.values sort) (values_inside hs inside)
+inside_fit sort hs inside h = by (are_plain hs)
   where
-    by : (b : Bool) → Fits (Sort.values sort) (cond b Forest.none (places hs))
+    by : (b : Bool) → Fits (Sort.values sort) (cond b Forest.none inside)
     by true = tt
-    by false = places_fit sort hs few h
+    by false = h
 
 pub unless_fits : (sort : Sort) (s : Step) (v : List Token) (f : Forest) → Stands sort s
     → Fits (within sort (step_text s)) f → AllFit sort (unless_none s v f)
@@ -130,6 +138,94 @@ pub few_each : {X : Type 0} (F : X → List (Option Held)) (xs : List X) → ((x
     → length (flat_map F xs) ≤ length xs
 few_each F [] one = omega arith
 few_each F (x ∷ xs) one = omega (arith, one x, few_each F xs one, length-append (F x) (flat_map F xs))
+
+-- ** values with labels
+
+abbrev AreWritten : List Label → Type 0
+AreWritten ls = AllByRecursion IsWritten ls
+
+abbrev AreBounded : List (Option ℕ) → Type 0
+AreBounded ns = AllByRecursion IsBounded ns
+
+-- at most all before it have its number
+count_few : (n : Option ℕ) (ns : List (Option ℕ)) → count n ns ≤ length ns
+count_few n [] = omega arith
+count_few n (m ∷ ns) = omega (arith, by (is_number n m), count_few n ns)
+  where
+    by : (b : Bool) → cond b 1 0 ≤ 1
+    by true = omega arith
+    by false = omega arith
+
+labels_written : (before ns : List (Option ℕ)) → length before + length ns < 2 ^ 64 → AreBounded ns
+    → AreWritten (labels_behind before ns)
+labels_written before [] few h = tt
+labels_written before (n ∷ ns) few h =
+    ((h.0, omega (arith, few, count_few n before)), labels_written (n ∷ before) ns (omega (arith, few)) h.1)
+
+key_lacks : (key : Key) → lacks_marks (key_name key) ≡ true
+key_lacks Keys.Vid = refl
+key_lacks Keys.Msti = refl
+key_lacks Keys.From = refl
+key_lacks Keys.Vf = refl
+
+labelled_fit : (sort : Sort) (key : Key) (ls : List Label) (hs : List (Option Held)) → AreWritten ls → HeldFit sort hs
+    → AllFit (Sort.values sort) (labelled key ls hs)
+labelled_fit sort key [] hs all h = tt
+labelled_fit sort key (l ∷ ls) [] all h = tt
+labelled_fit sort key (l ∷ ls) (None ∷ hs) all h = labelled_fit sort key ls hs all.1 h
+labelled_fit sort key (l ∷ ls) (Some held ∷ hs) all h =
+    (inr (key_name key, l, key_lacks key, all.0, refl), h.0, labelled_fit sort key ls hs all.1 h.1)
+
+bounded_is : (n : Option ℕ) → IsBounded (bounded n)
+bounded_is None = tt
+bounded_is (Some n) = by (nat_lt n (2 ^ 64)) refl
+  where
+    by : (b : Bool) → nat_lt n (2 ^ 64) ≡ b → IsBounded (cond b (Some n) None)
+    by true is = ltb-true n (2 ^ 64) is
+    by false is = tt
+
+bounded_append : (ms ns : List (Option ℕ)) → AreBounded ms → AreBounded ns → AreBounded (ms ++ ns)
+bounded_append [] ns h k = k
+bounded_append (m ∷ ms) ns h k = (h.0, bounded_append ms ns h.1 k)
+
+-- lists of values: each attribute is at most one
+module _ (sort : Sort) (cx : Around) (list : Shape) (values : Frame → List (Option Held))
+    (one : (f : Frame) → length (values f) ≤ 1) where
+  abbrev numbers : Option Key → List Frame → List (Option ℕ)
+  numbers key fs = numbers_by (number_in cx key list) values fs
+
+  numbers_few : (key : Option Key) (fs : List Frame) → length (numbers key fs) ≤ length fs
+  numbers_few key [] = omega arith
+  numbers_few key (f ∷ fs) =
+      let own = map (λ h. number_in cx key list f) (values f) in
+      omega (
+        arith,
+        one f,
+        numbers_few key fs,
+        length-map (values f) (λ h. number_in cx key list f),
+        length-append own (numbers key fs),
+      )
+
+  numbers_bounded : (key : Key) (fs : List Frame) → AreBounded (numbers (Some key) fs)
+  numbers_bounded key [] = tt
+  numbers_bounded key (f ∷ fs) =
+      bounded_append (map (λ h. number_in cx (Some key) list f) (values f)) (numbers (Some key) fs) (each (values f))
+      (numbers_bounded key fs)
+    where
+      each : (hs : List (Option Held)) → AreBounded (map (λ h. number_in cx (Some key) list f) hs)
+      each [] = tt
+      each (h ∷ hs) =
+          (bounded_is (number_said cx key list (row_in cx list (number f)).1 f.payload), each hs)
+
+  pub listed_fit : (key : Option Key) (fs : List Frame) → length fs < 2 ^ 64 → HeldFit sort (flat_map values fs)
+      → Fits (Sort.values sort) (inside_of key (numbers key fs) (flat_map values fs))
+  listed_fit None fs few h =
+      places_fit sort (flat_map values fs) (omega (arith, few, few_each values fs one)) h
+  listed_fit (Some key) fs few h =
+      let ns = numbers (Some key) fs in
+      forest_fits (Sort.values sort) (labelled key (labels_of ns) (flat_map values fs))
+      (labelled_fit sort key (labels_of ns) (flat_map values fs)
+      (labels_written [] ns (omega (arith, few, numbers_few (Some key) fs)) (numbers_bounded key fs)) h)
 
 pub each_held : {X : Type 0} (sort : Sort) (F : X → List (Option Held)) (xs : List X)
     → ((x : X) → HeldFit sort (F x)) → HeldFit sort (flat_map F xs)

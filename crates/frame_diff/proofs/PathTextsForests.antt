@@ -22,7 +22,9 @@ use Rattle.frame_diff.specs.Counters.{action_in, is_passed}
 use Rattle.frame_diff.specs.Forests.{Forest, Held, Leaf, Member, Path, Step, comes, entries_step, leaves}
 use Rattle.frame_diff.specs.Forests.{leaves_at, rest_step, under, values_step}
 use Rattle.frame_diff.specs.Items.{step_text}
+use Rattle.frame_diff.specs.Keys.{key_at}
 use Rattle.frame_diff.specs.Members.{Parts, Reading, alone, as_object, attributes_in, earlier, entries_in, entry_of}
+use Rattle.frame_diff.specs.Members.{entries_inside, entry_with, inside_with}
 use Rattle.frame_diff.specs.Members.{is_unnamed, array_at, arrays_in, arrays_of, value_with, values_with}
 use Rattle.frame_diff.specs.Members.{frame_member, held_by, is_some, kept_by, kept_in, list_at, list_members}
 use Rattle.frame_diff.specs.Members.{members_in, message_forest, message_members, named, named_in, places, reading}
@@ -37,7 +39,7 @@ use Rattle.frame_diff.proofs.PathTextsNames.{whose_table}
 use Rattle.frame_diff.proofs.PathTextsFits.{AllFit, AreFew, AreShort, Fits, HeldFit, InnerFits}
 use Rattle.frame_diff.proofs.PathTextsFits.{IsShort, append_fits, inside_fit}
 use Rattle.frame_diff.proofs.PathTextsFits.{each_held, few_each, few_in, fields_fit, forest_fits, held_append}
-use Rattle.frame_diff.proofs.PathTextsFits.{held_fits, left_fits, places_fit, unless_fits}
+use Rattle.frame_diff.proofs.PathTextsFits.{held_fits, left_fits, listed_fit, places_fit, unless_fits}
 use Rattle.frame_shown.specs.Items.{Lists}
 
 -- ** attributes
@@ -128,29 +130,29 @@ module _ (r : Reading) (fit : InnerFits r.inner) (list : Shape) where
     each_all (f ∷ fs) short =
         held_append sort (value_with r list n f) (values_with r list n fs) (each_fit f short.0) (each_all fs short.1)
 
-  each_few : (n : ℕ) (fs : List Frame) → length (values_with r list n fs) ≤ length fs
-  each_few n fs = few_each (value_with r list n) fs one
+  each_one : (n : ℕ) (f : Frame) → length (value_with r list n f) ≤ 1
+  each_one n f =
+      by (held_by r (action_in r.is_state list (number f)) (row_in r.around list (number f)).1 f.payload)
+      (number f == n) (is_each (row_in r.around list (number f)).1)
     where
       by : (held : Held) (b c : Bool) → length (cond b (cond c (Some held ∷ []) []) []) ≤ 1
       by held true true = omega arith
       by held true false = omega arith
       by held false c = omega arith
 
-      one : (f : Frame) → length (value_with r list n f) ≤ 1
-      one f =
-          by (held_by r (action_in r.is_state list (number f)) (row_in r.around list (number f)).1 f.payload)
-          (number f == n) (is_each (row_in r.around list (number f)).1)
+  array_inside : (sort : Sort) (n : ℕ) (fs : List Frame) → is_values sort ≡ true → length fs < 2 ^ 64
+      → HeldFit (sort_of_each sort) (values_with r list n fs)
+      → Fits sort (values_inside (values_with r list n fs) (inside_with r list n fs))
+  array_inside (Sort.values sort) n fs is few h =
+      inside_fit sort (values_with r list n fs) (inside_with r list n fs)
+      (listed_fit sort r.around list (value_with r list n) (each_one n) (key_at (Some n) list) fs few h)
+  array_inside sort n fs is few h = absurd cc
 
-  values_places : (sort : Sort) (hs : List (Option Held)) → is_values sort ≡ true → length hs < 2 ^ 64
-      → HeldFit (sort_of_each sort) hs → Fits sort (values_inside hs)
-  values_places (Sort.values sort) hs is few h = inside_fit sort hs few h
-  values_places sort hs is few h = absurd cc
-
-  array_fits : (whose : Whose) (name : List ℕ) (hs : List (Option Held)) → is_array whose name ≡ true
-      → Fits (within (Sort.attributes whose) name) (values_inside hs)
-      → AllFit (Sort.attributes whose) (array_at name hs)
-  array_fits whose name [] is h = tt
-  array_fits whose name (x ∷ hs) is h = (array_stands whose name is, h, tt)
+  array_fits : (whose : Whose) (name : List ℕ) (hs : List (Option Held)) (inside : Forest)
+      → is_array whose name ≡ true → Fits (within (Sort.attributes whose) name) (values_inside hs inside)
+      → AllFit (Sort.attributes whose) (array_at name hs inside)
+  array_fits whose name [] inside is h = tt
+  array_fits whose name (x ∷ hs) inside is h = (array_stands whose name is, h, tt)
 
   arrays_fit : (whose : Whose) (lists : Lists) → ListsFit whose (row_in r.around list) lists → (fs : List Frame)
       → AreFew fs → AllFit (Sort.attributes whose) (arrays_of r list lists fs)
@@ -161,8 +163,9 @@ module _ (r : Reading) (fit : InnerFits r.inner) (list : Shape) where
       let way = way_fits (sort_of_each own) (row_in r.around list l.0).1 in
       let first = and_parts (is_array whose l.1) (is_values own && way) all.0 in
       let second = and_parts (is_values own) way first.1 in
-      append_fits (Sort.attributes whose) (array_at l.1 hs) (arrays_of r list lists fs)
-      (array_fits whose l.1 hs first.0 (values_places own hs second.0 (omega (arith, few.0, each_few l.0 fs))
+      let inside = inside_with r list l.0 fs in
+      append_fits (Sort.attributes whose) (array_at l.1 hs inside) (arrays_of r list lists fs)
+      (array_fits whose l.1 hs inside first.0 (array_inside own l.0 fs second.0 few.0
       (each_all l.0 (sort_of_each own) second.1 fs few.1)))
       (arrays_fit whose lists all.1 fs few)
 
@@ -174,6 +177,7 @@ alone_fits sort (Step.name name) held is h = ((is, h, tt), tt)
 alone_fits sort (Step.array name) held is h = tt
 alone_fits sort (Step.part n words) held is h = tt
 alone_fits sort (Step.place n) held is h = tt
+alone_fits sort (Step.label name label) held is h = tt
 alone_fits sort Step.repeated held is h = tt
 alone_fits sort Step.other held is h = tt
 
@@ -283,33 +287,41 @@ module _ (r : Reading) (fit : InnerFits r.inner) where
       )
       by false = tt
 
-  entries_few : (list : Shape) (fs : List Frame) → length (entries_in r list fs) ≤ length fs
-  entries_few list fs = few_each (λ f. cond (number f == 1) (Some (entry_of r list f.payload) ∷ []) []) fs
-      (λ f. by (entry_of r list f.payload) (number f == 1))
+  entry_one : (list : Shape) (f : Frame) → length (entry_with r list f) ≤ 1
+  entry_one list f = by (entry_of r list f.payload) (number f == 1)
     where
       by : (held : Held) (b : Bool) → length (cond b (Some held ∷ []) []) ≤ 1
       by held true = omega arith
       by held false = omega arith
 
   module _ (all : AreAllRows r.around.tables.now) where
-    group_fits : (group : Group) (fs : List Frame) → AreFew fs
+    group_fits : (group : Group) (whose : Whose)
+        → ((n : ℕ) → row_fits (Sort.attributes whose) (row_in r.around (entry_list group) n) ≡ true)
+        → ListsFit whose (row_in r.around (entry_list group)) (lists_in r.around (entry_list group))
+        → (fs : List Frame) → AreFew fs
+        → Fits (Sort.values (Sort.attributes whose))
+        (values_inside (entries_in r (entry_list group) fs) (entries_inside r group fs))
+    group_fits group whose rows lists fs few =
+        let list = entry_list group in
+        inside_fit (Sort.attributes whose) (entries_in r list fs) (entries_inside r group fs)
+        (listed_fit (Sort.attributes whose) r.around (Shapes.Entries group) (entry_with r list) (entry_one list)
+        (key_at None (Shapes.Entries group)) fs few.0 (entries_fit list whose rows lists fs few.1))
+
+    groups_fit : (group : Group) (fs : List Frame) → AreFew fs
         → Fits (Sort.values (Sort.attributes (whose_entry (group_name group))))
-        (values_inside (entries_in r (entry_list group) fs))
-    group_fits Groups.AltIfname fs few =
+        (values_inside (entries_in r (entry_list group) fs) (entries_inside r group fs))
+    groups_fit Groups.AltIfname fs few =
         let list = entry_list Groups.AltIfname in
-        inside_fit (Sort.attributes Whose.other) (entries_in r list fs) (omega (arith, few.0, entries_few list fs))
-        (entries_fit list Whose.other (rows_suit r.around all list refl)
-        (lists_fit r.around all list Whose.other refl) fs few.1)
-    group_fits Groups.Info fs few =
+        group_fits Groups.AltIfname Whose.other (rows_suit r.around all list refl)
+        (lists_fit r.around all list Whose.other refl) fs few
+    groups_fit Groups.Info fs few =
         let list = entry_list Groups.Info in
-        inside_fit (Sort.attributes Whose.function) (entries_in r list fs) (omega (arith, few.0, entries_few list fs))
-        (entries_fit list Whose.function (rows_suit r.around all list refl)
-        (lists_fit r.around all list Whose.function refl) fs few.1)
-    group_fits Groups.Port fs few =
+        group_fits Groups.Info Whose.function (rows_suit r.around all list refl)
+        (lists_fit r.around all list Whose.function refl) fs few
+    groups_fit Groups.Port fs few =
         let list = entry_list Groups.Port in
-        inside_fit (Sort.attributes Whose.other) (entries_in r list fs) (omega (arith, few.0, entries_few list fs))
-        (entries_fit list Whose.other (rows_suit r.around all list refl)
-        (lists_fit r.around all list Whose.other refl) fs few.1)
+        group_fits Groups.Port Whose.other (rows_suit r.around all list refl)
+        (lists_fit r.around all list Whose.other refl) fs few
 
     group_is : (group : Group) → Stands Sort.entries (entries_step (group_name group))
     group_is Groups.AltIfname = (refl, refl)
@@ -330,16 +342,17 @@ module _ (r : Reading) (fit : InnerFits r.inner) where
         members_fit (Shapes.Own table) (whose_table table) (rows_suit r.around all (Shapes.Own table) known)
         (lists_fit r.around all (Shapes.Own table) (whose_table table) refl) fs few
     list_fits (Shapes.Listed group table) known fs few =
-        let list = Shapes.Listed group table in (
+        let list = Shapes.Listed group table in
+        let hs = map (λ (m : Member). Some m.1) (named_in r list fs) in (
           name_is group,
-          inside_fit Sort.fields (map (λ (m : Member). Some m.1) (named_in r list fs))
+          inside_fit Sort.fields hs (places hs) (places_fit Sort.fields hs
               (omega (arith, few.0, named_few r list fs, length-map (named_in r list fs) (λ (m : Member). Some m.1)))
-              (values_all r fit list (rows_suit r.around all list known) fs few.1),
+              (values_all r fit list (rows_suit r.around all list known) fs few.1)),
           unless_fits Sort.listed (rest_step (codes "other")) _ (places (kept_in r list fs)) (refl, refl)
               (places_fit Sort.fields (kept_in r list fs) (omega (arith, few.0, kept_few r list fs))
               (kept_fit r list fs)),
         )
-    list_fits (Shapes.Entries group) known fs few = (group_is group, group_fits group fs few, tt)
+    list_fits (Shapes.Entries group) known fs few = (group_is group, groups_fit group fs few, tt)
     list_fits (Shapes.Of place) known fs few =
         members_fit (Shapes.Of place) (whose_place place) (rows_suit r.around all (Shapes.Of place) known)
         (lists_fit r.around all (Shapes.Of place) (whose_place place) refl) fs few

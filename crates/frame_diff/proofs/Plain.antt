@@ -32,12 +32,15 @@ use Rattle.frame_shown.proofs.Plain.{plainly_alike, row_same, way_now, way_same,
 use Rattle.frame_shown.proofs.PlainStyles.{meaning_now, read_now, record_now, size_now}
 use Rattle.frame_diff.specs.Counters.{action_in, is_clear, is_passed}
 use Rattle.frame_diff.specs.Forests.{Forest, Member, Step, entries_step, forest, left_of, rest_step, values_step}
+use Rattle.frame_diff.specs.Keys.{key_at}
 use Rattle.frame_diff.specs.Members.{Inner, Parts, Reading, as_object, attributes_in, earlier, entries_in, entry_of}
+use Rattle.frame_diff.specs.Members.{entries_inside, entry_with, inside_of, inside_with, numbers_by, places}
 use Rattle.frame_diff.specs.Members.{is_unnamed, each_by, value_with, array_at, arrays_in}
 use Rattle.frame_diff.specs.Members.{fields, fields_kept, form_inside, frame_member, group_of, held_by, inner_by}
 use Rattle.frame_diff.specs.Members.{ipv6_inside, is_some, kept_by, kept_in, list_at, list_members, listed_in}
 use Rattle.frame_diff.specs.Members.{meaning_inside, members_in, message_forest, message_members, named, named_by}
 use Rattle.frame_diff.specs.Members.{named_in, reading, refused_in, refused_step, unless_none, way_inside}
+use Rattle.frame_diff.proofs.PlainKeys.{number_same}
 
 -- ** by rows as values
 
@@ -146,9 +149,16 @@ module _ (cx other : Around) (s : AreAlike cx other) where
         ∙ each_by_now (by cx) action (row_in other list (number f)) f
         ∙ each_by_same action (row_in other list (number f)) f)
 
+    inside_same : (list : Shape) (n : ℕ) (fs : List Frame)
+        → inside_with (by cx) list n fs ≡ inside_with (by other) list n fs
+    inside_same list n fs = let key = key_at (Some n) list in λ i.
+        inside_of key (numbers_by (λ f. number_same cx other s key list f i) (λ f. value_same list n f i) fs)
+        (flat_map (λ f. value_same list n f i) fs)
+
     arrays_same : (list : Shape) (fs : List Frame) → arrays_in (by cx) list fs ≡ arrays_in (by other) list fs
     arrays_same list fs = λ i.
-        flat_map (λ l. array_at l.1 (flat_map (λ f. value_same list l.0 f i) fs)) (lists_same cx other s list i)
+        flat_map (λ l. array_at l.1 (flat_map (λ f. value_same list l.0 f i) fs) (inside_same list l.0 fs i))
+        (lists_same cx other s list i)
 
     named_in_same : (list : Shape) (fs : List Frame) → named_in (by cx) list fs ≡ named_in (by other) list fs
     named_in_same list fs = λ i. flat_map (λ f. member_same list f i) fs
@@ -165,6 +175,7 @@ module _ (cx other : Around) (s : AreAlike cx other) where
         → listed_in (by cx) group list fs ≡ listed_in (by other) group list fs
     listed_same group list fs = λ i.
         group_of (values_step (group_name group)) (map (λ (m : Member). Some m.1) (named_in_same list fs i))
+        (places (map (λ (m : Member). Some m.1) (named_in_same list fs i)))
         ∷ list_at (rest_step (codes "other")) (kept_in_same list fs i)
 
     entry_same : (list : Shape) (p : List ℕ) → entry_of (by cx) list p ≡ entry_of (by other) list p
@@ -173,14 +184,23 @@ module _ (cx other : Around) (s : AreAlike cx other) where
       left_of (is_some (frames_in (items p))) (members_same list (frames_in (items p)) i),
     )
 
+    entry_with_same : (list : Shape) (f : Frame) → entry_with (by cx) list f ≡ entry_with (by other) list f
+    entry_with_same list f = λ i. cond (number f == 1) (Some (entry_same list f.payload i) ∷ []) []
+
     entries_same : (list : Shape) (fs : List Frame) → entries_in (by cx) list fs ≡ entries_in (by other) list fs
-    entries_same list fs = λ i.
-        flat_map (λ f. cond (number f == 1) (Some (entry_same list f.payload i) ∷ []) []) fs
+    entries_same list fs = λ i. flat_map (λ f. entry_with_same list f i) fs
+
+    entries_inside_same : (group : Group) (fs : List Frame)
+        → entries_inside (by cx) group fs ≡ entries_inside (by other) group fs
+    entries_inside_same group fs = let list = Shapes.Entries group in let key = key_at None list in λ i.
+        inside_of key (numbers_by (λ f. number_same cx other s key list f i)
+        (λ f. entry_with_same (entry_list group) f i) fs) (entries_same (entry_list group) fs i)
 
     list_same : (list : Shape) (fs : List Frame) → list_members (by cx) list fs ≡ list_members (by other) list fs
     list_same (Shapes.Listed group table) fs = listed_same group (Shapes.Listed group table) fs
-    list_same (Shapes.Entries group) fs =
-        ap (λ es. group_of (entries_step (group_name group)) es ∷ []) (entries_same (entry_list group) fs)
+    list_same (Shapes.Entries group) fs = λ i.
+        group_of (entries_step (group_name group)) (entries_same (entry_list group) fs i)
+        (entries_inside_same group fs i) ∷ []
     list_same (Shapes.Message family) fs = members_same (Shapes.Message family) fs
     list_same (Shapes.Own table) fs = members_same (Shapes.Own table) fs
     list_same (Shapes.Of place) fs = members_same (Shapes.Of place) fs

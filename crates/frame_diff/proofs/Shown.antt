@@ -20,7 +20,7 @@ use Rattle.frame_diff.specs.Forests.{Forest, Held, Member, Step, comes, field_st
 use Rattle.frame_diff.specs.Items.{step_text}
 use Rattle.frame_shown.specs.Values.{Nesting}
 use Rattle.frame_diff.specs.Members.{Inner, Reading, alone, as_object, earlier, fields, held_by, inner_by, kept_in}
-use Rattle.frame_diff.specs.Members.{array_at, arrays_in, arrays_of, values_with}
+use Rattle.frame_diff.specs.Members.{array_at, arrays_in, arrays_of, inside_with, values_with}
 use Rattle.frame_diff.specs.Members.{list_at, members_in, named, named_in, placed, placed_one, places, reading}
 use Rattle.frame_diff.specs.Members.{unless_none, value_in}
 use Rattle.frame_diff.specs.Shown.{AreNamedApart, HasNamesApart, MembersAreShown, shown_in, AreListsApart}
@@ -95,12 +95,12 @@ list_is s (Some (v, i) ∷ hs) (o ∷ os) h =
 
 -- ** a list that attributes are the values of
 
-array_is : (name : List ℕ) (hs : List (Option Held)) (vs : List (List Token)) → AreValues hs vs
-    → lasts (array_at name hs) ≡ list_under name vs
-array_is name [] [] h = refl
-array_is name [] (v ∷ vs) h = absurd h
-array_is name (x ∷ hs) [] h = absurd h
-array_is name (x ∷ hs) (v ∷ vs) h =
+array_is : (name : List ℕ) (hs : List (Option Held)) (inside : Forest) (vs : List (List Token)) → AreValues hs vs
+    → lasts (array_at name hs inside) ≡ list_under name vs
+array_is name [] inside [] h = refl
+array_is name [] inside (v ∷ vs) h = absurd h
+array_is name (x ∷ hs) inside [] h = absurd h
+array_is name (x ∷ hs) inside (v ∷ vs) h =
     ap (λ values. (name, list_of values) ∷ []) (texts_are (x ∷ hs) (v ∷ vs) h)
 
 -- ** attributes by name and by number
@@ -219,10 +219,11 @@ module _ (nest : Nesting) (inner : Inner) (cx : Around) (list : Shape) (apart : 
       → lasts (arrays_of r list lists fs) ≡ arrays lists (all fs)
   arrays_agree [] apart fs = refl
   arrays_agree (l ∷ lists) apart fs =
-      lasts_append (array_at l.1 (values_with r list l.0 fs)) (arrays_of r list lists fs)
-      (array_apart r list l.1 (values_with r list l.0 fs) lists fs apart.0)
-      ∙ (λ k. array_is l.1 (values_with r list l.0 fs)
-      (shown_values l.0 (all fs)) (values_agree false nest inner cx list l.0 fs) k
+      let hs = values_with r list l.0 fs in
+      let inside = inside_with r list l.0 fs in
+      lasts_append (array_at l.1 hs inside) (arrays_of r list lists fs)
+      (array_apart r list l.1 hs inside lists fs apart.0)
+      ∙ (λ k. array_is l.1 hs inside (shown_values l.0 (all fs)) (values_agree false nest inner cx list l.0 fs) k
       ++ arrays_agree lists apart.1 fs k)
 
   -- no name is one of the two lists

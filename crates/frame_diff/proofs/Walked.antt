@@ -24,7 +24,7 @@ use Rattle.frame_diff.specs.Beside.{held_of, is_named}
 use Rattle.frame_diff.specs.Counters.{action_in}
 use Rattle.frame_diff.specs.Forests.{AreApart, Forest, Held, Member, Step, comes, find, forest, is_text}
 use Rattle.frame_diff.specs.Differences.{text_of}
-use Rattle.frame_diff.specs.Items.{change_item, items_told, joined, leaf_items, step_text, turned_item}
+use Rattle.frame_diff.specs.Items.{change_item, further, items_told, leaf_items, turned_item}
 use Rattle.frame_diff.specs.Members.{Reading, held_by, named_in, is_unnamed}
 use Rattle.frame_diff.specs.Walked.{AreAlike, HasNames, HasRowOf, Holding, HoldsApart, IsOf, Showing, frame_items}
 use Rattle.frame_diff.specs.Walked.{AreBeside, HasRowByNumber, StandBeside, is_row_alike}
@@ -90,7 +90,7 @@ last_further side text others m ms = by (comes m.0 ms)
   where
     by : (b : Bool)
         → items_told side text (cond b (forest ms) (Forest.tree m.0 m.1.0 m.1.1 (forest ms))) others
-        ≡ cond b [] (held_items side (joined text (step_text m.0)) m.1 (find m.0 others))
+        ≡ cond b [] (held_items side (further text m.0) m.1 (find m.0 others))
         ++ items_told side text (forest ms) others
     by true = refl
     by false = refl
@@ -155,10 +155,10 @@ pub last_same : (side : Side) (text : List ℕ) (behind : List Member) (m : Memb
     → AreApart m.1.1 → beside ≡ Some m.1 → last_items side text behind m beside ≡ []
 last_same side text behind m beside apart is = by (comes m.0 behind)
   where
-    by : (b : Bool) → cond b [] (held_items side (joined text (step_text m.0)) m.1 beside) ≡ []
+    by : (b : Bool) → cond b [] (held_items side (further text m.0) m.1 beside) ≡ []
     by true = refl
-    by false = ap (held_items side (joined text (step_text m.0)) m.1) is
-        ∙ held_same side (joined text (step_text m.0)) m.1.0 m.1.1 apart
+    by false = ap (held_items side (further text m.0) m.1) is
+        ∙ held_same side (further text m.0) m.1.0 m.1.1 apart
 
 -- ** attributes with one row and one payload
 

@@ -3,17 +3,19 @@ use Rattle.std.specs.Prelude.{◌≡◌, ◌==◌, ◌&&◌, ℕ, List, [], ◌�
 use Rattle.std.specs.Prelude.{map}
 use lib.Pointwise.{pointwise}
 use Rattle.json.specs.Token.{Token}
+use Rattle.frame_diff.specs.declared.labels.Label.{Label}
 
 -- ** paths
 
 -- a step of a path: an attribute with this name, the list of this name that attributes are the values of, a member of
--- another sort with this text, the value at this place of a list, or one of the two lists that stand beside the
--- attributes of a place
+-- another sort with this text, the value at this place of a list, the value with this label in a list whose values say
+-- a number of this name, or one of the two lists that stand beside the attributes of a place
 pub data Step : Type 0 where
   name : List ℕ → Step
   array : List ℕ → Step
   part : (sort : ℕ) (text : List ℕ) → Step
   place : ℕ → Step
+  label : (name : List ℕ) (label : Label) → Step
   repeated : Step
   other : Step
 
@@ -38,11 +40,21 @@ values_step text = Step.part 2 text
 abbrev pub rest_step : List ℕ → Step
 rest_step text = Step.part 3 text
 
+-- two values have the same number, or neither has one
+abbrev pub is_number : Option ℕ → Option ℕ → Bool
+is_number None None = true
+is_number (Some m) (Some n) = m == n
+is_number _ _ = false
+
+abbrev pub is_same_label : Label → Label → Bool
+is_same_label l m = is_number l.number m.number && l.again == m.again
+
 abbrev pub is_step : Step → Step → Bool
 is_step (Step.name a) (Step.name b) = is_text a b
 is_step (Step.array a) (Step.array b) = is_text a b
 is_step (Step.part m a) (Step.part n b) = m == n && is_text a b
 is_step (Step.place m) (Step.place n) = m == n
+is_step (Step.label a l) (Step.label b m) = is_text a b && is_same_label l m
 is_step Step.repeated Step.repeated = true
 is_step Step.other Step.other = true
 is_step _ _ = false

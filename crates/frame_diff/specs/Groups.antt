@@ -1,8 +1,8 @@
--- Lists of values under the name of a group, and what two of them tell place by place.
-use Rattle.std.specs.Prelude.{◌≡◌, ℕ, ◌+◌, ◌==◌, List, [], ◌∷◌, Bool, true, false, Option, Some, None}
-use Rattle.std.specs.Prelude.{codes, cond, decimal, map}
+-- Lists of values under the name of a group, and what two of them tell, value by value.
+use Rattle.std.specs.Prelude.{◌≡◌, ℕ, ◌+◌, List, [], ◌∷◌, Bool, true, false, Option, Some, None}
+use Rattle.std.specs.Prelude.{codes, decimal, map}
 use Rattle.std.specs.List.{flat_map}
-use Rattle.nla_wire.specs.Frames.{Frame, number}
+use Rattle.nla_wire.specs.Frames.{Frame}
 use Rattle.nla_wire.specs.Items.{items}
 use Rattle.link_info.specs.Tables.{frames_in}
 use Rattle.shown.specs.Drafts.{Members, list_of}
@@ -16,8 +16,9 @@ use Rattle.frame_shown.specs.declared.form.List.TheVariants as Shapes
 use Rattle.frame_diff.specs.Forests.{Forest, Held, Member, Step, entries_step, forest, is_text, rest_step, values_step}
 use Rattle.frame_diff.specs.Inside.{above}
 use Rattle.frame_diff.specs.Items.{joined}
-use Rattle.frame_diff.specs.Members.{Reading, are_plain, entries_in, entry_of, frame_member, list_at, named_in}
-use Rattle.frame_diff.specs.Members.{value_in, value_with, values_inside, values_with}
+use Rattle.frame_diff.specs.Keys.{key_at, number_in}
+use Rattle.frame_diff.specs.Members.{Reading, are_plain, entries_in, entry_with, frame_member, inside_of, list_at}
+use Rattle.frame_diff.specs.Members.{named_in, numbers_by, value_in, value_with, values_inside, values_with}
 use Rattle.frame_diff.specs.Values.{array_shown, kept_at, listed_shown}
 use Rattle.frame_diff.specs.Walked.{Holding, Showing, held_at, held_items, reading_at}
 use Rattle.frame_diff.specs.declared.side.Side.{Side}
@@ -95,17 +96,43 @@ all_of a = record { around = a.around; list = a.list; number = None; bytes = a.b
 abbrev pub of_number : ℕ → Attributes → Attributes
 of_number n a = record { around = a.around; list = a.list; number = Some n; bytes = a.bytes }
 
+-- what a frame is in it
+abbrev pub values_by : Reading → Shape → Frame → List (Option Held)
+values_by r (Shapes.Entries group) f = entry_with r (entry_list group) f
+values_by r (Shapes.Listed group table) f = values_of (frame_member r (Shapes.Listed group table) f)
+values_by r (Shapes.Message family) f = values_of (frame_member r (Shapes.Message family) f)
+values_by r (Shapes.Own table) f = values_of (frame_member r (Shapes.Own table) f)
+values_by r (Shapes.Of place) f = values_of (frame_member r (Shapes.Of place) f)
+values_by r Shapes.ProtoInet6 f = values_of (frame_member r Shapes.ProtoInet6 f)
+values_by r Shapes.Refused f = values_of (frame_member r Shapes.Refused f)
+values_by r (Shapes.Info link port) f = values_of (frame_member r (Shapes.Info link port) f)
+
+abbrev pub picked_by : Reading → Option ℕ → Shape → Frame → List (Option Held)
+picked_by r None list f = values_by r list f
+picked_by r (Some n) list f = value_with r list n f
+
 -- it is shown as a list of values
 abbrev pub is_valued : Option ℕ → Shape → Bool
 is_valued None list = is_group list
 is_valued (Some n) list = true
 
 -- and all of them as one value
-abbrev pub group_by : List (Option Held) → Held
-group_by hs = (list_of (flat_map value_in hs), values_inside hs)
+abbrev pub group_by : List (Option Held) → Forest → Held
+group_by hs inside = (list_of (flat_map value_in hs), values_inside hs inside)
+
+-- the number of each
+abbrev pub numbers_at : Showing → Holding → Bool → Attributes → List (Option ℕ)
+numbers_at nest inner is_state a =
+    numbers_by (number_in a.around.now (key_at a.number a.list) a.list)
+    (picked_by (reading_at nest inner is_state a.around.now) a.number a.list) (frames_in (items a.bytes.now))
+
+-- each by its number, or by its place
+abbrev pub group_inside : Showing → Holding → Bool → Attributes → Forest
+group_inside nest inner is_state a = inside_of (key_at a.number a.list)
+    (numbers_at nest inner is_state a) (group_at nest inner is_state a)
 
 abbrev pub group_held : Showing → Holding → Bool → Attributes → Held
-group_held nest inner is_state a = group_by (group_at nest inner is_state a)
+group_held nest inner is_state a = group_by (group_at nest inner is_state a) (group_inside nest inner is_state a)
 
 -- none is an object or a list, whatever attributes there are
 abbrev pub IsFlat : Option ℕ → Shape → Type 0
@@ -151,22 +178,6 @@ value_at nest inner is_state a = value_by nest inner is_state a.list a
 abbrev pub picked : Showing → Holding → Bool → Option Attribute → List (Option Held)
 picked nest inner is_state None = []
 picked nest inner is_state (Some a) = Some (value_at nest inner is_state a) ∷ []
-
--- what a frame is in it
-abbrev pub values_by : Reading → Shape → Frame → List (Option Held)
-values_by r (Shapes.Entries group) f =
-    cond (number f == 1) (Some (entry_of r (entry_list group) f.payload) ∷ []) []
-values_by r (Shapes.Listed group table) f = values_of (frame_member r (Shapes.Listed group table) f)
-values_by r (Shapes.Message family) f = values_of (frame_member r (Shapes.Message family) f)
-values_by r (Shapes.Own table) f = values_of (frame_member r (Shapes.Own table) f)
-values_by r (Shapes.Of place) f = values_of (frame_member r (Shapes.Of place) f)
-values_by r Shapes.ProtoInet6 f = values_of (frame_member r Shapes.ProtoInet6 f)
-values_by r Shapes.Refused f = values_of (frame_member r Shapes.Refused f)
-values_by r (Shapes.Info link port) f = values_of (frame_member r (Shapes.Info link port) f)
-
-abbrev pub picked_by : Reading → Option ℕ → Shape → Frame → List (Option Held)
-picked_by r None list f = values_by r list f
-picked_by r (Some n) list f = value_with r list n f
 
 -- ** beside each other
 

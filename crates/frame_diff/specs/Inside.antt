@@ -20,6 +20,7 @@ is_field (Step.part (suc n) text) = false
 is_field (Step.name text) = false
 is_field (Step.array text) = false
 is_field (Step.place n) = false
+is_field (Step.label name label) = false
 is_field Step.repeated = false
 is_field Step.other = false
 
@@ -29,6 +30,7 @@ is_of_object (Step.part n text) = false
 is_of_object (Step.name text) = true
 is_of_object (Step.array text) = true
 is_of_object (Step.place n) = true
+is_of_object (Step.label name label) = false
 is_of_object Step.repeated = true
 is_of_object Step.other = true
 

@@ -4,6 +4,7 @@ use Rattle.json.specs.Token.{Token, string}
 use Rattle.shown.specs.Drafts.{Members}
 use Rattle.frame_diff.specs.Differences.{Change, inside_in, is_shown_same, leaf_in}
 use Rattle.frame_diff.specs.Forests.{Forest, Held, Path, Step, find}
+use Rattle.frame_diff.specs.Labels.{label_text}
 use Rattle.frame_diff.specs.Sides.{side_name}
 use Rattle.frame_diff.specs.declared.side.Side.{Side}
 use Rattle.frame_diff.specs.declared.side.Side.TheVariants.{Old, New}
@@ -15,6 +16,7 @@ step_text (Step.name text) = text
 step_text (Step.array text) = text
 step_text (Step.part sort text) = text
 step_text (Step.place n) = decimal n
+step_text (Step.label name label) = label_text name label
 step_text Step.repeated = codes "repeated"
 step_text Step.other = codes "other"
 
@@ -23,10 +25,23 @@ abbrev pub joined : List ℕ → List ℕ → List ℕ
 joined [] step = step
 joined (x ∷ text) step = (x ∷ text) ++ 46 ∷ step
 
+-- a label stands right behind the list that it is of
+abbrev pub is_label : Step → Bool
+is_label (Step.label name label) = true
+is_label (Step.part sort text) = false
+is_label (Step.name text) = false
+is_label (Step.array text) = false
+is_label (Step.place n) = false
+is_label Step.repeated = false
+is_label Step.other = false
+
+abbrev pub further : List ℕ → Step → List ℕ
+further text s = cond (is_label s) (text ++ step_text s) (joined text (step_text s))
+
 -- the text of a path that goes on from another one
 abbrev pub text_behind : List ℕ → Path → List ℕ
 text_behind text [] = text
-text_behind text (s ∷ path) = text_behind (joined text (step_text s)) path
+text_behind text (s ∷ path) = text_behind (further text s) path
 
 abbrev pub path_text : Path → List ℕ
 path_text path = text_behind [] path
@@ -70,5 +85,5 @@ abbrev pub items_told : Side → List ℕ → Forest → Forest → List Members
 items_told side text Forest.none others = []
 items_told side text Forest.passed others = []
 items_told side text (Forest.tree s v i rest) others =
-    member_items side (joined text (step_text s)) v i (items_told side (joined text (step_text s)) i) (find s others)
+    member_items side (further text s) v i (items_told side (further text s) i) (find s others)
     ++ items_told side text rest others

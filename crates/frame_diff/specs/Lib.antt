@@ -2,6 +2,9 @@ pub mod Sides
 pub mod Forests
 pub mod Differences
 pub mod Counters
+pub mod Named
+pub mod Keys
+pub mod Labels
 pub mod Members
 pub mod Beside
 pub mod Items
@@ -13,6 +16,7 @@ pub mod Repeated
 pub mod Rows
 pub mod Inside
 pub mod Groups
+pub mod Keyed
 pub mod Arrays
 pub mod Nests
 pub mod Messages

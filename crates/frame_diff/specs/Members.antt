@@ -1,7 +1,7 @@
 -- The members of what is shown of a message, by the rows of its frames: the step to each, its value as it is shown, and
 -- those inside it. What a state clears is no member, where states are compared.
 use Rattle.std.specs.Prelude.{ℕ, zero, suc, ◌+◌, ◌==◌, List, [], ◌∷◌, ◌++◌, Bool, true, false, Option, Some, None, cond}
-use Rattle.std.specs.Prelude.{◌&&◌, ◌||◌, codes, drop, map, not, slice_index}
+use Rattle.std.specs.Prelude.{◌&&◌, codes, drop, map, not, slice_index}
 use Rattle.std.specs.List.{flat_map}
 use Rattle.json.specs.Token.{Token, begin_array, begin_object, end_array, end_object, key, string}
 use Rattle.json.specs.Token.{number as number_token}
@@ -37,6 +37,10 @@ use Rattle.frame_shown.specs.declared.form.Way.TheVariants as Ways
 use Rattle.frame_diff.specs.Counters.{action_in, fields_left, is_clear, is_passed}
 use Rattle.frame_diff.specs.Forests.{Forest, Held, Member, Step, comes, entries_step, field_step, forest, left_of}
 use Rattle.frame_diff.specs.Forests.{rest_step, values_step}
+use Rattle.frame_diff.specs.Keys.{key_at, number_in}
+use Rattle.frame_diff.specs.Labels.{keyed}
+pub use Rattle.frame_diff.specs.Named.{is_unnamed}
+use Rattle.frame_diff.specs.declared.keys.Key.{Key}
 
 -- the members inside a list of attributes
 abbrev pub Inner : Type 0
@@ -93,9 +97,14 @@ abbrev pub are_plain : List (Option Held) → Bool
 are_plain [] = true
 are_plain (h ∷ hs) = not (is_nested h) && are_plain hs
 
--- such a list is one value; of any other one each has its place
-abbrev pub values_inside : List (Option Held) → Forest
-values_inside hs = cond (are_plain hs) Forest.none (places hs)
+-- such a list is one value; of any other one each stands inside
+abbrev pub values_inside : List (Option Held) → Forest → Forest
+values_inside hs inside = cond (are_plain hs) Forest.none inside
+
+-- by the key of the list, if it has one, and the number that each says; else by its place
+abbrev pub inside_of : Option Key → List (Option ℕ) → List (Option Held) → Forest
+inside_of None ns hs = places hs
+inside_of (Some kind) ns hs = keyed kind ns hs
 
 -- ** those of a payload, by its row and by what a state clears of it; a list of values is a leaf
 
@@ -164,10 +173,6 @@ held_inside inner cx action way p = cond (is_clear action) Forest.passed (way_in
 abbrev pub held_by : Reading → Action → Way → List ℕ → Held
 held_by r action way p = (way_shown r.nest r.around way p, held_inside r.inner r.around action way p)
 
--- it has no name of its own: it is kept as it is, or a value of a list
-abbrev pub is_unnamed : Way → List ℕ → Bool
-is_unnamed way p = is_kept way p || is_each way
-
 -- an attribute that has a name
 abbrev pub named_by : Reading → Action → Known → Frame → List Member
 named_by r action row f =
@@ -187,6 +192,7 @@ alone (Step.name name, held) =
 alone (Step.array name, held) = None
 alone (Step.part sort text, held) = None
 alone (Step.place n, held) = None
+alone (Step.label name label, held) = None
 alone (Step.repeated, held) = None
 alone (Step.other, held) = None
 
@@ -223,8 +229,12 @@ abbrev pub list_at : Step → List (Option Held) → List Member
 list_at s hs = unless_none s (list_of (flat_map value_in hs)) (places hs)
 
 -- one list of values, at a step
-abbrev pub group_of : Step → List (Option Held) → Member
-group_of s hs = (s, (list_of (flat_map value_in hs), values_inside hs))
+abbrev pub group_of : Step → List (Option Held) → Forest → Member
+group_of s hs inside = (s, (list_of (flat_map value_in hs), values_inside hs inside))
+
+-- the number of each value of a list, by the attribute that it is of
+abbrev pub numbers_by : (Frame → Option ℕ) → (Frame → List (Option Held)) → List Frame → List (Option ℕ)
+numbers_by number_of values fs = flat_map (λ f. map (λ h. number_of f) (values f)) fs
 
 -- ** attributes that are the values of lists
 
@@ -239,13 +249,19 @@ value_with r list n f = cond (number f == n)
 abbrev pub values_with : Reading → Shape → ℕ → List Frame → List (Option Held)
 values_with r list n fs = flat_map (value_with r list n) fs
 
+-- and what stands inside it
+abbrev pub inside_with : Reading → Shape → ℕ → List Frame → Forest
+inside_with r list n fs = let kind = key_at (Some n) list in
+    inside_of kind (numbers_by (number_in r.around kind list) (value_with r list n) fs) (values_with r list n fs)
+
 -- a list under its name, where it has a value
-abbrev pub array_at : List ℕ → List (Option Held) → List Member
-array_at name [] = []
-array_at name (h ∷ hs) = group_of (Step.array name) (h ∷ hs) ∷ []
+abbrev pub array_at : List ℕ → List (Option Held) → Forest → List Member
+array_at name [] inside = []
+array_at name (h ∷ hs) inside = group_of (Step.array name) (h ∷ hs) inside ∷ []
 
 abbrev pub arrays_of : Reading → Shape → Lists → List Frame → List Member
-arrays_of r list lists fs = flat_map (λ l. array_at l.1 (values_with r list l.0 fs)) lists
+arrays_of r list lists fs =
+    flat_map (λ l. array_at l.1 (values_with r list l.0 fs) (inside_with r list l.0 fs)) lists
 
 abbrev pub arrays_in : Reading → Shape → List Frame → List Member
 arrays_in r list fs = arrays_of r list (lists_in r.around list) fs
@@ -261,7 +277,8 @@ members_in r list fs =
 -- those that have a name in one list
 abbrev pub listed_in : Reading → Group → Shape → List Frame → List Member
 listed_in r group list fs =
-    group_of (values_step (group_name group)) (map (λ (m : Member). Some m.1) (named_in r list fs))
+    let hs = map (λ (m : Member). Some m.1) (named_in r list fs) in
+    group_of (values_step (group_name group)) hs (places hs)
     ∷ list_at (rest_step (codes "other")) (kept_in r list fs)
 
 -- the objects in the attributes of number 1
@@ -271,13 +288,21 @@ entry_of r list p = (
   left_of (is_some (frames_in (items p))) (members_in r list (frames_in (items p))),
 )
 
+abbrev pub entry_with : Reading → Shape → Frame → List (Option Held)
+entry_with r list f = cond (number f == 1) (Some (entry_of r list f.payload) ∷ []) []
+
 abbrev pub entries_in : Reading → Shape → List Frame → List (Option Held)
-entries_in r list fs = flat_map (λ f. cond (number f == 1) (Some (entry_of r list f.payload) ∷ []) []) fs
+entries_in r list fs = flat_map (entry_with r list) fs
+
+abbrev pub entries_inside : Reading → Group → List Frame → Forest
+entries_inside r group fs = let list = Shapes.Entries group in let kind = key_at None list in
+    inside_of kind (numbers_by (number_in r.around kind list) (entry_with r (entry_list group)) fs)
+    (entries_in r (entry_list group) fs)
 
 abbrev pub list_members : Reading → Shape → List Frame → List Member
 list_members r (Shapes.Listed group table) fs = listed_in r group (Shapes.Listed group table) fs
 list_members r (Shapes.Entries group) fs =
-    group_of (entries_step (group_name group)) (entries_in r (entry_list group) fs) ∷ []
+    group_of (entries_step (group_name group)) (entries_in r (entry_list group) fs) (entries_inside r group fs) ∷ []
 list_members r (Shapes.Message family) fs = members_in r (Shapes.Message family) fs
 list_members r (Shapes.Own table) fs = members_in r (Shapes.Own table) fs
 list_members r (Shapes.Of place) fs = members_in r (Shapes.Of place) fs

@@ -16,7 +16,7 @@ use Rattle.frame_shown.specs.declared.form.Way.{Way}
 use Rattle.frame_diff.specs.Beside.{held_of}
 use Rattle.frame_diff.specs.Counters.{action_in}
 use Rattle.frame_diff.specs.Forests.{AreApart, Forest, Held, Member, Step, comes, find, is_text}
-use Rattle.frame_diff.specs.Items.{items_told, joined, member_items, step_text}
+use Rattle.frame_diff.specs.Items.{further, items_told, member_items}
 use Rattle.frame_diff.specs.Members.{Inner, Reading, held_by, is_unnamed, named_in}
 use Rattle.frame_diff.specs.Shown.{HasNamesApart}
 use Rattle.frame_diff.specs.declared.side.Side.{Side}
@@ -159,7 +159,7 @@ held_items side text held beside = member_items side text held.0 held.1 (items_t
 -- of a member: nothing, where another one of its step comes behind it
 abbrev pub last_items : Side → List ℕ → List Member → Member → Option Held → List Members
 last_items side text behind m beside =
-    cond (comes m.0 behind) [] (held_items side (joined text (step_text m.0)) m.1 beside)
+    cond (comes m.0 behind) [] (held_items side (further text m.0) m.1 beside)
 
 -- nothing, where it has no name
 abbrev pub row_items : Side → List ℕ → Forest → List Member → List ℕ → Way → List ℕ → Held → List Members

@@ -1,28 +1,33 @@
 //! What a list of values tells beside another one, place by place.
 
-ghost use Rattle.std.specs.Prelude.{◌≡◌, ◌<◌, ◌+◌, ◌^◌, Bool, IfSome, OnOk, Some, decimal, false, not};
-ghost use Rattle.std.specs.Prelude.{option_map, true};
+ghost use Rattle.std.specs.Prelude.{◌≡◌, ◌<◌, ◌+◌, ◌^◌, ℕ, Bool, IfSome, None, OnOk, Some, decimal, false, not};
+ghost use Rattle.std.specs.Prelude.{map, option_map, true};
 ghost use Rattle.shown.specs.Drafts.{with_members};
 ghost use Rattle.frame_shown.specs.Items.{objects};
 ghost use Rattle.frame_shown.specs.Values.{Nesting};
 ghost use Rattle.frame_shown.specs.declared.form.Around.{Around as Beside};
 ghost use Rattle.frame_shown.specs.declared.form.List.{List as Shape};
 ghost use Rattle.frame_diff.specs.Differences.{inside_in, leaf_in};
-ghost use Rattle.frame_diff.specs.Forests.{find};
+ghost use Rattle.frame_diff.specs.Forests.{Step, find};
 ghost use Rattle.frame_diff.specs.Groups.{all_of, flat_shown, is_valued, picked_by, first_by, first_of};
-ghost use Rattle.frame_diff.specs.Groups.{group_at, group_held, group_step, is_entries};
+ghost use Rattle.frame_diff.specs.Groups.{group_at, group_held, group_inside, group_step, is_entries};
 ghost use Rattle.frame_diff.specs.Groups.{IsFlat, IsSameEntry, is_group, is_same_group, list_held};
 ghost use Rattle.frame_diff.specs.Groups.{next_place};
 ghost use Rattle.frame_diff.specs.Groups.{picked, place_items, rest_by, rest_of, value_at, values_by};
 ghost use Rattle.frame_diff.specs.Inside.{above, inside_list};
 ghost use Rattle.frame_diff.specs.Items.{items_told, joined, leaf_items, step_text};
+ghost use Rattle.frame_diff.specs.Keyed.{FindsAt, StandsFor, picked_numbers};
+ghost use Rattle.frame_diff.specs.Keys.{key_at, number_in};
 ghost use Rattle.frame_diff.specs.Members.{are_plain, places, value_with};
 ghost use Rattle.frame_diff.specs.Values.{value_shown};
 ghost use Rattle.frame_diff.specs.Walked.{AreBeside, HasNames, Holding, Showing, StandBeside, held_items};
 ghost use Rattle.frame_diff.specs.Walked.{reading_at};
+ghost use Rattle.frame_diff.specs.declared.keys.Key.{Key as Number};
 ghost use Rattle.frame_diff.specs.declared.walk.Attribute.{Attribute as One};
 ghost use Rattle.frame_diff.specs.declared.walk.Attributes.{Attributes as Lists};
 
+use crate::keyed::{keyed_beside, tell_keyed};
+use crate::keys::{Key, key_in};
 use crate::leaf::{Texts, Value, is_same, tell_leaf};
 use crate::list::behind;
 use crate::lists::{is_without, none_of, tell_object};
@@ -43,6 +48,9 @@ fn named<'a>(is_state: bool, list: Attributes<'a>, frame: &NlaBuffer<'a>) -> Opt
     requires { is_entries list.list ≡ false }
     ensures values { (nest : Showing) (inner : Holding) → picked nest inner is_state result
         ≡ values_by (reading_at nest inner is_state list.entry.around.now) list.entry.list frame.now }
+    ensures numbers { (nest : Showing) (inner : Holding) (key : Number) → picked_numbers key result
+        ≡ map (λ h. number_in list.entry.around.now (Some key) list.entry.list frame.now)
+        (values_by (reading_at nest inner is_state list.entry.around.now) list.entry.list frame.now) }
     ensures list { IfSome result (λ a. a.list ≡ list.entry.list) }
     ensures around { IfSome result (λ a. a.around.now ≡ list.entry.around.now) }
 {
@@ -65,6 +73,9 @@ fn entry<'a>(is_state: bool, list: Attributes<'a>, frame: &NlaBuffer<'a>) -> Opt
     requires { is_entries list.list ≡ true }
     ensures values { (nest : Showing) (inner : Holding) → picked nest inner is_state result
         ≡ values_by (reading_at nest inner is_state list.entry.around.now) list.entry.list frame.now }
+    ensures numbers { (nest : Showing) (inner : Holding) (key : Number) → picked_numbers key result
+        ≡ map (λ h. number_in list.entry.around.now (Some key) list.entry.list frame.now)
+        (values_by (reading_at nest inner is_state list.entry.around.now) list.entry.list frame.now) }
     ensures list { IfSome result (λ a. a.list ≡ list.entry.list) }
     ensures around { IfSome result (λ a. a.around.now ≡ list.entry.around.now) }
 {
@@ -91,6 +102,10 @@ fn value_of<'a>(
     ensures values { (nest : Showing) (inner : Holding) → picked nest inner is_state result
         ≡ value_with (reading_at nest inner is_state list.entry.around.now) list.entry.list number
         frame.now }
+    ensures numbers { (nest : Showing) (inner : Holding) (key : Number) → picked_numbers key result
+        ≡ map (λ h. number_in list.entry.around.now (Some key) list.entry.list frame.now)
+        (value_with (reading_at nest inner is_state list.entry.around.now) list.entry.list number
+        frame.now) }
     ensures list { IfSome result (λ a. a.list ≡ list.entry.list) }
     ensures around { IfSome result (λ a. a.around.now ≡ list.entry.around.now) }
 {
@@ -128,6 +143,9 @@ fn pick_any<'a>(
 ) -> Option<Attribute<'a>>
     ensures values { (nest : Showing) (inner : Holding) → picked nest inner is_state result
         ≡ values_by (reading_at nest inner is_state list.entry.around.now) list.entry.list frame.now }
+    ensures numbers { (nest : Showing) (inner : Holding) (key : Number) → picked_numbers key result
+        ≡ map (λ h. number_in list.entry.around.now (Some key) list.entry.list frame.now)
+        (values_by (reading_at nest inner is_state list.entry.around.now) list.entry.list frame.now) }
     ensures list { IfSome result (λ a. a.list ≡ list.entry.list) }
     ensures around { IfSome result (λ a. a.around.now ≡ list.entry.around.now) }
 {
@@ -139,10 +157,18 @@ fn pick_any<'a>(
 }
 
 /// An attribute of a list, if it is one of its values.
-fn pick<'a>(is_state: bool, list: Attributes<'a>, frame: &NlaBuffer<'a>) -> Option<Attribute<'a>>
+pub(crate) fn pick<'a>(
+    is_state: bool,
+    list: Attributes<'a>,
+    frame: &NlaBuffer<'a>,
+) -> Option<Attribute<'a>>
     ensures values { (nest : Showing) (inner : Holding) → picked nest inner is_state result
         ≡ picked_by (reading_at nest inner is_state list.entry.around.now) list.entry.number
         list.entry.list frame.now }
+    ensures numbers { (nest : Showing) (inner : Holding) (key : Number) → picked_numbers key result
+        ≡ map (λ h. number_in list.entry.around.now (Some key) list.entry.list frame.now)
+        (picked_by (reading_at nest inner is_state list.entry.around.now) list.entry.number
+        list.entry.list frame.now) }
     ensures list { IfSome result (λ a. a.list ≡ list.entry.list) }
     ensures around { IfSome result (λ a. a.around.now ≡ list.entry.around.now) }
 {
@@ -618,8 +644,8 @@ fn tell_flat<W: Walk>(
     }
 }
 
-/// Another list of values that have places, and whether it is known to be shown by the same; one without values where
-/// there is none.
+/// Another list of values that have labels or places, and whether it is known to be shown by the same; one without
+/// values where there is none.
 fn values_beside<'a, W: Walk>(
     pass: Pass,
     own: Attributes<'a>,
@@ -628,7 +654,7 @@ fn values_beside<'a, W: Walk>(
     requires names { HasNames own.around.now }
     requires same { IfSome beside (λ a. is_entries a.list ≡ is_entries own.list) }
     requires alike { pass.is_alike ≡ true → AreBeside own beside }
-    ensures places { places (group_at W.nest W.inner pass.is_state result.0)
+    ensures inside { group_inside W.nest W.inner pass.is_state result.0
         ≡ inside_in (option_map (group_held W.nest W.inner pass.is_state) beside.entry) }
     ensures same { is_entries result.0.list ≡ is_entries own.entry.list }
     ensures alike { result.1 ≡ true → AreBeside own.entry (Some result.0) }
@@ -643,6 +669,64 @@ fn values_beside<'a, W: Walk>(
         }
         None => (none_of(own), true),
     }
+}
+
+/// Another list whose values have places; a list without values where they have labels.
+fn placed_beside<'a>(own: Attributes<'a>, others: Attributes<'a>) -> Attributes<'a>
+    requires own { key_at own.number own.list ≡ None }
+    ensures key { key_at result.number result.list ≡ None }
+    ensures found { FindsAt Step.place others.entry result }
+    ensures stands { StandsFor own.entry others.entry result }
+{
+    match key_in(others) {
+        Some(_) => none_of(own),
+        None => others,
+    }
+}
+
+/// Tells of the values of a list whose values have places.
+fn tell_by_place<W: Walk, V: Values>(
+    texts: &mut Texts,
+    pass: Pass,
+    page: &mut Page,
+    path: &str,
+    own: Attributes<'_>,
+    others: Attributes<'_>,
+) -> Result<(), AllocError>
+    requires fits { V.fits own.list }
+    requires own { key_at own.number own.list ≡ None }
+    requires names { HasNames own.around.now }
+    requires entries { is_entries others.list ≡ is_entries own.list }
+    requires alike { pass.is_alike ≡ true → AreBeside own (Some others) }
+    ensures { OnOk result (page.new ≡ with_members (objects (items_told pass.side path.now
+        (group_inside W.nest W.inner pass.is_state own.entry)
+        (group_inside W.nest W.inner pass.is_state others.entry))) page.old) }
+{
+    let others = placed_beside(own, others);
+    tell_places::<W, V>(texts, pass, page, path, own, others)
+}
+
+/// Tells of the values of a list that have a key.
+fn tell_by_key<W: Walk, V: Values>(
+    texts: &mut Texts,
+    pass: Pass,
+    page: &mut Page,
+    path: &str,
+    key: Key,
+    own: Attributes<'_>,
+    others: Attributes<'_>,
+) -> Result<(), AllocError>
+    requires fits { V.fits own.list }
+    requires own { key_at own.number own.list ≡ Some key }
+    requires names { HasNames own.around.now }
+    requires entries { is_entries others.list ≡ is_entries own.list }
+    requires alike { pass.is_alike ≡ true → AreBeside own (Some others) }
+    ensures { OnOk result (page.new ≡ with_members (objects (items_told pass.side path.now
+        (group_inside W.nest W.inner pass.is_state own.entry)
+        (group_inside W.nest W.inner pass.is_state others.entry))) page.old) }
+{
+    let others = keyed_beside(key, own, others);
+    tell_keyed::<W, V>(texts, pass, page, path, key, own, others)
 }
 
 /// Tells of a list of values beside another one, if there is one.
@@ -668,7 +752,11 @@ pub(crate) fn tell_values<W: Walk, V: Values>(
         return tell_flat::<W>(texts, pass, page, path, own, beside);
     }
     let (others, is_alike) = values_beside::<W>(pass, own, beside);
-    tell_places::<W, V>(texts, Pass { is_alike, ..pass }, page, path, own, others)
+    let pass = Pass { is_alike, ..pass };
+    match key_in(own) {
+        Some(key) => tell_by_key::<W, V>(texts, pass, page, path, key, own, others),
+        None => tell_by_place::<W, V>(texts, pass, page, path, own, others),
+    }
 }
 
 /// Whether two lists are lists of values under one name.

@@ -30,6 +30,7 @@ pub(crate) fn is_unnamed(way: Way, payload: &[u8]) -> bool
 }
 
 /// The name of an attribute, if it has one of its own.
+#[inline(always)]
 pub(crate) fn name_of(
     cx: &Around<'_>,
     list: List,
@@ -58,7 +59,12 @@ pub(crate) fn is_named(cx: &Around<'_>, list: List, name: &str, frame: &NlaBuffe
 }
 
 /// The last attribute that is told under this name.
-fn find_last<'a>(cx: &Around<'_>, list: List, name: &str, bytes: &'a [u8]) -> Option<NlaBuffer<'a>>
+pub(crate) fn find_last<'a>(
+    cx: &Around<'_>,
+    list: List,
+    name: &str,
+    bytes: &'a [u8],
+) -> Option<NlaBuffer<'a>>
     ensures { result
         ≡ last_named cx.now list name.now None (frames_in (items bytes.now)) }
 {

@@ -1,8 +1,10 @@
 //! The texts of paths.
 
-ghost use Rattle.std.specs.Prelude.{◌≡◌, IfOk, decimal, string_bytes};
+ghost use Rattle.std.specs.Prelude.{◌≡◌, ◌++◌, IfOk, OnOk, decimal, string_bytes};
 ghost use Rattle.frame_diff.specs.Items.{joined};
+ghost use Rattle.frame_diff.specs.Labels.{again_text, label_text, number_text};
 
+use crate::labels::Label;
 use itoa::Buffer;
 use std::alloc::{AllocError, Global};
 
@@ -25,4 +27,50 @@ pub(crate) fn join_place(alloc: Global, text: &str, place: usize) -> Result<Stri
 {
     let mut digits = Buffer::new();
     join(alloc, text, digits.format(place))
+}
+
+/// Adds the number of a label, if it has one.
+fn push_number(path: &mut String, number: Option<u64>) -> Result<(), AllocError>
+    ensures { OnOk result (string_bytes path.new ≡ string_bytes path.old ++ number_text number) }
+{
+    let Some(number) = number else {
+        return Ok(());
+    };
+    let mut digits = Buffer::new();
+    path.push('=')?;
+    path.push_str(digits.format(number))?;
+    Ok(())
+}
+
+/// Adds how many with the number of a label stand before it, unless it has one and none does.
+fn push_again(path: &mut String, label: Label) -> Result<(), AllocError>
+    ensures { OnOk result (string_bytes path.new
+        ≡ string_bytes path.old ++ again_text label.number label.again) }
+{
+    if label.number.is_some() && label.again == 0 {
+        return Ok(());
+    }
+    let mut digits = Buffer::new();
+    path.push('#')?;
+    path.push_str(digits.format(label.again))?;
+    Ok(())
+}
+
+/// The text of a path that goes on at a value of a list, by its label.
+pub(crate) fn join_label(
+    alloc: Global,
+    text: &str,
+    name: &str,
+    label: Label,
+) -> Result<String, AllocError>
+    ensures { IfOk result (λ path. string_bytes path ≡ text.now ++ label_text name.now label) }
+{
+    let mut path = String::with_capacity(alloc, text.len() + 32)?;
+    path.push_str(text)?;
+    path.push('[')?;
+    path.push_str(name)?;
+    push_number(&mut path, label.number)?;
+    push_again(&mut path, label)?;
+    path.push(']')?;
+    Ok(path)
 }

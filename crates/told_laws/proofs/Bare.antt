@@ -1,12 +1,16 @@
 -- Members without the values of those that hold others: they have the same leaves.
-use Rattle.std.proofs.Common.{◌≡◌, ℕ, ◌+◌, Bool, true, false, List, [], ◌∷◌, ◌++◌, map, not, refl, sym, ap, ◌∙◌}
+use Rattle.std.proofs.Common.{◌≡◌, ℕ, ◌+◌, Bool, true, false, List, [], ◌∷◌, ◌++◌, length, map, not, refl, sym}
+use Rattle.std.proofs.Common.{ap, ◌∙◌}
 use Rattle.std.specs.Prelude.{◌&&◌, Option, Some, None, cond}
 use Rattle.std.specs.List.{flat_map}
 use Rattle.json.specs.Token.{Token, begin_object}
 use Rattle.shown.specs.Drafts.{list_of}
 use Rattle.frame_diff.specs.Forests.{Forest, Held, Member, Step, comes, forest, is_step, leaves, leaves_at, left_of}
-use Rattle.frame_diff.specs.Members.{alone, earlier, group_of, is_nest, list_at, placed, places}
+use Rattle.frame_diff.specs.Labels.{count, label_step, labelled, labels_behind, labels_of}
+use Rattle.frame_diff.specs.Members.{alone, earlier, group_of, inside_of, is_nest, list_at, placed, places}
 use Rattle.frame_diff.specs.Members.{are_plain, unless_none, value_in, values_inside}
+use Rattle.frame_diff.specs.declared.keys.Key.{Key}
+use Rattle.frame_diff.specs.declared.labels.Label.{Label}
 
 -- the value of an object or a list, if it holds no members
 abbrev pub nest_value : List Token → Forest → List Token
@@ -124,6 +128,26 @@ placed_bare n (Some held ∷ hs) =
 places_bare : (hs : List (Option Held)) → bare (places hs) ≡ places (bare_opts hs)
 places_bare hs = forest_bare (placed 0 hs) ∙ ap forest (placed_bare 0 hs)
 
+labelled_bare : (key : Key) (ls : List Label) (hs : List (Option Held))
+    → bare_all (labelled key ls hs) ≡ labelled key ls (bare_opts hs)
+labelled_bare key [] hs = refl
+labelled_bare key (l ∷ ls) [] = refl
+labelled_bare key (l ∷ ls) (None ∷ hs) = labelled_bare key ls hs
+labelled_bare key (l ∷ ls) (Some held ∷ hs) =
+    ap (λ ms. (label_step key l, bare_held held) ∷ ms) (labelled_bare key ls hs)
+
+-- by their numbers, or by their places
+of_bare : (key : Option Key) (ns : List (Option ℕ)) (hs : List (Option Held))
+    → bare (inside_of key ns hs) ≡ inside_of key ns (bare_opts hs)
+of_bare None ns hs = places_bare hs
+of_bare (Some key) ns hs =
+    forest_bare (labelled key (labels_of ns) hs) ∙ ap forest (labelled_bare key (labels_of ns) hs)
+
+pub of_same : (key : Option Key) (ns ms : List (Option ℕ)) (hs js : List (Option Held)) → ns ≡ ms
+    → bare_opts hs ≡ bare_opts js → bare (inside_of key ns hs) ≡ bare (inside_of key ms js)
+of_same key ns ms hs js numbers same =
+    of_bare key ns hs ∙ (λ k. inside_of key (numbers k) (same k)) ∙ sym (of_bare key ms js)
+
 pub unless_bare : (s : Step) (v : List Token) (f : Forest) → is_nest v ≡ true
     → bare_all (unless_none s v f) ≡ unless_none s (begin_object ∷ []) (bare f)
 unless_bare s v Forest.none nest = refl
@@ -149,6 +173,7 @@ alone_bare (Step.name name, held) =
 alone_bare (Step.array name, held) = None
 alone_bare (Step.part sort text, held) = None
 alone_bare (Step.place n, held) = None
+alone_bare (Step.label name label, held) = None
 alone_bare (Step.repeated, held) = None
 alone_bare (Step.other, held) = None
 
@@ -157,6 +182,7 @@ one_alone (Step.name name, held) = refl
 one_alone (Step.array name, held) = refl
 one_alone (Step.part sort text, held) = refl
 one_alone (Step.place n, held) = refl
+one_alone (Step.label name label, held) = refl
 one_alone (Step.repeated, held) = refl
 one_alone (Step.other, held) = refl
 
@@ -230,50 +256,73 @@ plain_bare [] = refl
 plain_bare (None ∷ hs) = plain_bare hs
 plain_bare (Some held ∷ hs) = λ k. not (nest_bare held.0 held.1 k) && plain_bare hs k
 
-inside_bare : (hs : List (Option Held)) → bare (values_inside hs) ≡ values_inside (bare_opts hs)
-inside_bare hs = by (are_plain hs) ∙ ap (λ b. cond b Forest.none (places (bare_opts hs))) (sym (plain_bare hs))
+inside_bare : (hs : List (Option Held)) (f : Forest)
+    → bare (values_inside hs f) ≡ values_inside (bare_opts hs) (bare f)
+inside_bare hs f = by (are_plain hs) ∙ ap (λ b. cond b Forest.none (bare f)) (sym (plain_bare hs))
   where
-    by : (b : Bool) → bare (cond b Forest.none (places hs)) ≡ cond b Forest.none (places (bare_opts hs))
+    by : (b : Bool) → bare (cond b Forest.none f) ≡ cond b Forest.none (bare f)
     by true = refl
-    by false = places_bare hs
+    by false = refl
 
-placed_some : (n : ℕ) (hs : List (Option Held)) → are_plain hs ≡ false → is_none (forest (placed n hs)) ≡ false
+-- of values of which one is an object or a list there are some inside
+abbrev pub HoldsSome : List (Option Held) → Forest → Type 0
+HoldsSome hs f = are_plain hs ≡ false → is_none f ≡ false
+
+pub placed_some : (n : ℕ) (hs : List (Option Held)) → are_plain hs ≡ false → is_none (forest (placed n hs)) ≡ false
 placed_some n [] some = absurd cc
 placed_some n (None ∷ hs) some = placed_some (n + 1) hs some
 placed_some n (Some held ∷ hs) some = some_there (Step.place n, held) (placed (n + 1) hs)
 
-inside_is : (hs : List (Option Held)) → is_none (values_inside hs) ≡ are_plain hs
-inside_is hs = by (are_plain hs) refl
+labelled_some : (key : Key) (before ns : List (Option ℕ)) (hs : List (Option Held)) → length ns ≡ length hs
+    → are_plain hs ≡ false → is_none (forest (labelled key (labels_behind before ns) hs)) ≡ false
+labelled_some key before ns [] many some = absurd cc
+labelled_some key before [] (h ∷ hs) many some = absurd cc
+labelled_some key before (n ∷ ns) (None ∷ hs) many some =
+    let rest : length ns ≡ length hs = cc in labelled_some key (n ∷ before) ns hs rest some
+labelled_some key before (n ∷ ns) (Some held ∷ hs) many some =
+    some_there (label_step key (record { number = n; again = count n before }), held)
+    (labelled key (labels_behind (n ∷ before) ns) hs)
+
+pub of_some : (key : Option Key) (ns : List (Option ℕ)) (hs : List (Option Held)) → length ns ≡ length hs
+    → HoldsSome hs (inside_of key ns hs)
+of_some None ns hs many some = placed_some 0 hs some
+of_some (Some key) ns hs many some = labelled_some key [] ns hs many some
+
+inside_is : (hs : List (Option Held)) (f : Forest) → HoldsSome hs f → is_none (values_inside hs f) ≡ are_plain hs
+inside_is hs f there = by (are_plain hs) refl
   where
-    by : (b : Bool) → are_plain hs ≡ b → is_none (cond b Forest.none (places hs)) ≡ b
+    by : (b : Bool) → are_plain hs ≡ b → is_none (cond b Forest.none f) ≡ b
     by true is = refl
-    by false is = placed_some 0 hs is
+    by false is = there is
 
-abbrev pub list_value : List (Option Held) → List Token
-list_value hs = nest_value (list_of (values hs)) (values_inside hs)
+abbrev pub list_value : List (Option Held) → Forest → List Token
+list_value hs f = nest_value (list_of (values hs)) (values_inside hs f)
 
-list_value_bare : (hs : List (Option Held)) → list_value hs ≡ list_value (bare_opts hs)
-list_value_bare hs =
-    nest_by (list_of (values hs)) (values_inside hs)
-    ∙ by (is_none (values_inside hs)) refl
+list_value_bare : (hs : List (Option Held)) (f : Forest) → HoldsSome hs f
+    → list_value hs f ≡ list_value (bare_opts hs) (bare f)
+list_value_bare hs f there =
+    nest_by (list_of (values hs)) (values_inside hs f)
+    ∙ by (is_none (values_inside hs f)) refl
     ∙ ap (λ b. cond b (list_of (values (bare_opts hs))) (begin_object ∷ []))
-    (sym (ap is_none (sym (inside_bare hs)) ∙ none_bare (values_inside hs)))
-    ∙ sym (nest_by (list_of (values (bare_opts hs))) (values_inside (bare_opts hs)))
+    (sym (ap is_none (sym (inside_bare hs f)) ∙ none_bare (values_inside hs f)))
+    ∙ sym (nest_by (list_of (values (bare_opts hs))) (values_inside (bare_opts hs) (bare f)))
   where
-    by : (b : Bool) → is_none (values_inside hs) ≡ b
+    by : (b : Bool) → is_none (values_inside hs f) ≡ b
         → cond b (list_of (values hs)) (begin_object ∷ [])
         ≡ cond b (list_of (values (bare_opts hs))) (begin_object ∷ [])
-    by true none = ap list_of (plain_values hs (sym (inside_is hs) ∙ none))
+    by true none = ap list_of (plain_values hs (sym (inside_is hs f there) ∙ none))
     by false some = refl
 
-group_bare : (s : Step) (hs : List (Option Held))
-    → bare_one (group_of s hs) ≡ (s, (list_value (bare_opts hs), values_inside (bare_opts hs)))
-group_bare s hs = λ k. (s, (list_value_bare hs k, inside_bare hs k))
+group_bare : (s : Step) (hs : List (Option Held)) (f : Forest) → HoldsSome hs f → bare_one (group_of s hs f)
+    ≡ (s, (list_value (bare_opts hs) (bare f), values_inside (bare_opts hs) (bare f)))
+group_bare s hs f there = λ k. (s, (list_value_bare hs f there k, inside_bare hs f k))
 
-pub group_same : (s : Step) (hs js : List (Option Held)) → bare_opts hs ≡ bare_opts js
-    → bare_one (group_of s hs) ≡ bare_one (group_of s js)
-group_same s hs js same =
-    group_bare s hs ∙ ap (λ os. (s, (list_value os, values_inside os))) same ∙ sym (group_bare s js)
+pub group_same : (s : Step) (hs js : List (Option Held)) (f g : Forest) → HoldsSome hs f → HoldsSome js g
+    → bare_opts hs ≡ bare_opts js → bare f ≡ bare g → bare_one (group_of s hs f) ≡ bare_one (group_of s js g)
+group_same s hs js f g there here same inside =
+    group_bare s hs f there
+    ∙ (λ k. (s, (list_value (same k) (inside k), values_inside (same k) (inside k))))
+    ∙ sym (group_bare s js g here)
 
 -- ** an object, and the members inside it
 

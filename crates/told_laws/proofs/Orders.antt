@@ -1,8 +1,11 @@
 -- No leaf of a state depends on the order of the counters of IPv6.
-use Rattle.std.proofs.Common.{◌≡◌, ◌==◌, ℕ, zero, suc, Bool, true, false, List, [], ◌∷◌, ◌++◌, map, refl, sym, ap, ◌∙◌}
-use Rattle.std.specs.Prelude.{Option, Some, codes, cond, slice_index}
-use Rattle.std.specs.List.{flat_map}
+use Rattle.std.proofs.Common.{◌≡◌, ◌==◌, ℕ, zero, suc, ◌+◌, Bool, true, false, List, [], ◌∷◌, ◌++◌, map, refl, sym, ap}
+use Rattle.std.proofs.Common.{◌∙◌, length, length-append}
+use Rattle.std.specs.Int.{w32}
+use Rattle.std.specs.Prelude.{Option, None, Some, ◌&&◌, codes, cond, not, slice_index}
+use Rattle.std.specs.List.{flat_map, list_any}
 use Rattle.json.specs.Token.{begin_object}
+use Rattle.nla_wire.specs.Fields.{number_at}
 use Rattle.nla_wire.specs.Frames.{Frame, number}
 use Rattle.nla_wire.specs.Items.{items}
 use Rattle.link_info.specs.Meanings.{Meaning, Raw, Present, Number, Signed, Words, Hardware, Four, Six}
@@ -31,17 +34,23 @@ use Rattle.frame_shown.specs.declared.form.Way.TheVariants as Ways
 use Rattle.frame_diff.specs.Counters.{action_in, is_clear}
 use Rattle.frame_diff.specs.Forests.{Forest, Held, Member, Step, forest, leaves, rest_step, entries_step}
 use Rattle.frame_diff.specs.Forests.{values_step}
-use Rattle.frame_diff.specs.Members.{Inner, Parts, Reading, attributes_in, earlier, entries_in, entry_of, form_inside}
+use Rattle.frame_diff.specs.Keys.{bounded, field_number, frame_number, function_in, is_function, is_record, key_at}
+use Rattle.frame_diff.specs.Keys.{key_name, meaning_number, named_number, number_in}
+use Rattle.frame_diff.specs.Members.{Inner, Parts, Reading, attributes_in, earlier, entries_in, entries_inside}
+use Rattle.frame_diff.specs.Members.{entry_of}
+use Rattle.frame_diff.specs.Members.{entry_with, form_inside, group_of, inside_of, inside_with, numbers_by, places}
 use Rattle.frame_diff.specs.Members.{is_unnamed, array_at, arrays_in, arrays_of, value_with, values_with}
 use Rattle.frame_diff.specs.Members.{frame_member, held_by, inner_by, is_nest, is_some, kept_in}
 use Rattle.frame_diff.specs.Members.{list_at, listed_in}
 use Rattle.frame_diff.specs.Members.{list_members, meaning_inside, members_in, message_forest, message_members}
 use Rattle.frame_diff.specs.Members.{way_inside}
+use Rattle.frame_diff.specs.Named.{is_named, last_named}
 use Rattle.frame_diff.specs.Members.{named, named_by, named_in, reading, refused_in, refused_step, unless_none}
 use Rattle.frame_diff.specs.Messages.{with_order}
-use Rattle.told_laws.proofs.Bare.{bare_all, bare_append, bare_held, bare_opts, earlier_same}
+use Rattle.frame_diff.specs.declared.keys.Key.{Key}
+use Rattle.told_laws.proofs.Bare.{HoldsSome, bare, bare_all, bare_append, bare_held, bare_one, bare_opts, earlier_same}
 use Rattle.told_laws.proofs.Bare.{forest_bare, group_same, leaves_bare, left_same, list_same, opts_append}
-use Rattle.told_laws.proofs.Bare.{passed_same, unless_bare}
+use Rattle.told_laws.proofs.Bare.{of_same, of_some, passed_same, placed_some, unless_bare}
 use Rattle.told_laws.proofs.Passed.{is_form, is_shape, is_way, row_way}
 
 -- ** lists that go over frames
@@ -66,6 +75,31 @@ opts_of : (ms : List Member)
     → bare_opts (map (λ (m : Member). Some m.1) ms) ≡ map (λ (m : Member). Some m.1) (bare_all ms)
 opts_of [] = refl
 opts_of (m ∷ ms) = ap (λ hs. Some (bare_held m.1) ∷ hs) (opts_of ms)
+
+-- a number for each value
+const_of : (n : Option ℕ) (hs : List (Option Held)) → map (λ h. n) (bare_opts hs) ≡ map (λ h. n) hs
+const_of n [] = refl
+const_of n (h ∷ hs) = ap (λ ns. n ∷ ns) (const_of n hs)
+
+numbers_same : (num other : Frame → Option ℕ) (F G : Frame → List (Option Held)) (fs : List Frame)
+    → ((f : Frame) → num f ≡ other f) → ((f : Frame) → bare_opts (F f) ≡ bare_opts (G f))
+    → numbers_by num F fs ≡ numbers_by other G fs
+numbers_same num other F G [] one same = refl
+numbers_same num other F G (f ∷ fs) one same = λ k. (sym (const_of (num f) (F f))
+    ∙ (λ j. map (λ h. one f j) (same f j))
+    ∙ const_of (other f) (G f)) k ++ numbers_same num other F G fs one same k
+
+const_many : (n : Option ℕ) (hs : List (Option Held)) → length (map (λ h. n) hs) ≡ length hs
+const_many n [] = refl
+const_many n (h ∷ hs) = ap (λ m. suc m) (const_many n hs)
+
+numbers_many : (num : Frame → Option ℕ) (F : Frame → List (Option Held)) (fs : List Frame)
+    → length (numbers_by num F fs) ≡ length (flat_map F fs)
+numbers_many num F [] = refl
+numbers_many num F (f ∷ fs) =
+    length-append (map (λ h. num f) (F f)) (numbers_by num F fs)
+    ∙ (λ k. const_many (num f) (F f) k + numbers_many num F fs k)
+    ∙ sym (length-append (F f) (flat_map F fs))
 
 -- ** what a list is shown as
 
@@ -221,20 +255,89 @@ module _ (cx : Around) (order : Order) (nest other : Nesting) (inner theirs : In
         by row action way true false = refl
         by row action way false c = refl
 
-    array_same : (name : List ℕ) (hs js : List (Option Held)) → bare_opts hs ≡ bare_opts js
-        → bare_all (array_at name hs) ≡ bare_all (array_at name js)
-    array_same name [] [] same = refl
-    array_same name [] (j ∷ js) same = absurd cc
-    array_same name (h ∷ hs) [] same = absurd cc
-    array_same name (h ∷ hs) (j ∷ js) same =
-        ap (λ m. m ∷ []) (group_same (Step.array name) (h ∷ hs) (j ∷ js) same)
+    -- the numbers are of rows, and no row depends on the order
+    last_same : (list : Shape) (name : List ℕ) (before : Option Frame) (fs : List Frame)
+        → last_named cx list name before fs ≡ last_named (with_order cx order) list name before fs
+    last_same list name before [] = refl
+    last_same list name before (f ∷ fs) = last_same list name (cond (is_named cx list name f) (Some f) before) fs
+
+    found_same : (list : Shape) (f : Option Frame)
+        → frame_number cx list f ≡ frame_number (with_order cx order) list f
+    found_same list None = refl
+    found_same list (Some f) = refl
+
+    name_number_same : (list : Shape) (name p : List ℕ)
+        → named_number cx list name p ≡ named_number (with_order cx order) list name p
+    name_number_same list name p =
+        let fs = frames_in (items p) in
+        found_same list (last_named cx list name None fs)
+        ∙ ap (frame_number (with_order cx order) list) (last_same list name None fs)
+
+    meaning_number_same : (name : List ℕ) (m : Meaning)
+        → meaning_number cx name m ≡ meaning_number (with_order cx order) name m
+    meaning_number_same name (Nested place p) = name_number_same (Shapes.Of place) name p
+    meaning_number_same name m = refl
+
+    field_number_same : (name : List ℕ) (way : Way) (p : List ℕ)
+        → field_number cx name way p ≡ field_number (with_order cx order) name way p
+    field_number_same name (Ways.By style) p = meaning_number_same name (read_as style p)
+    field_number_same name (Ways.Own form) p = refl
+
+    function_same : (list : Shape) (fs : List Frame)
+        → function_in cx list fs ≡ function_in (with_order cx order) list fs
+    function_same list [] = refl
+    function_same list (f ∷ fs) = ap (λ n.
+        cond (is_record (row_in cx list (number f)).1 && not (list_any (λ g. number g == number f) fs))
+        (Some (number_at w32 f.payload 0)) n) (function_same list fs)
+
+    number_same : (key : Option Key) (list : Shape) (f : Frame)
+        → number_in cx key list f ≡ number_in (with_order cx order) key list f
+    number_same None list f = refl
+    number_same (Some key) (Shapes.Entries group) f = λ k. bounded (cond (is_function (entry_list group))
+        (function_same (entry_list group) (frames_in (items f.payload)) k)
+        (name_number_same (entry_list group) (key_name key) f.payload k))
+    number_same (Some key) list f =
+        ap bounded (field_number_same (key_name key) (row_in cx list (number f)).1 f.payload)
+
+    -- what stands inside a list, by its values
+    inside_same : (key : Option Key) (list : Shape) (F G : Frame → List (Option Held)) (fs : List Frame)
+        → ((f : Frame) → bare_opts (F f) ≡ bare_opts (G f))
+        → bare (inside_of key (numbers_by (number_in cx key list) F fs) (flat_map F fs))
+        ≡ bare (inside_of key (numbers_by (number_in (with_order cx order) key list) G fs) (flat_map G fs))
+    inside_same key list F G fs same =
+        of_same key (numbers_by (number_in cx key list) F fs)
+        (numbers_by (number_in (with_order cx order) key list) G fs) (flat_map F fs) (flat_map G fs)
+        (numbers_same (number_in cx key list) (number_in (with_order cx order) key list) F G fs
+        (number_same key list) same)
+        (opts_flat F G fs same)
+
+    inside_some : (cx : Around) (key : Option Key) (list : Shape) (F : Frame → List (Option Held)) (fs : List Frame)
+        → HoldsSome (flat_map F fs) (inside_of key (numbers_by (number_in cx key list) F fs) (flat_map F fs))
+    inside_some cx key list F fs =
+        of_some key (numbers_by (number_in cx key list) F fs) (flat_map F fs)
+        (numbers_many (number_in cx key list) F fs)
+
+    array_same : (name : List ℕ) (hs js : List (Option Held)) (f g : Forest) → HoldsSome hs f → HoldsSome js g
+        → bare_opts hs ≡ bare_opts js → bare f ≡ bare g
+        → bare_all (array_at name hs f) ≡ bare_all (array_at name js g)
+    array_same name [] [] f g there here same inside = refl
+    array_same name [] (j ∷ js) f g there here same inside = absurd cc
+    array_same name (h ∷ hs) [] f g there here same inside = absurd cc
+    array_same name (h ∷ hs) (j ∷ js) f g there here same inside =
+        ap (λ m. m ∷ []) (group_same (Step.array name) (h ∷ hs) (j ∷ js) f g there here same inside)
 
     arrays_same : (list : Shape) (lists : Lists) (fs : List Frame) → is_shape list ≡ true
         → bare_all (arrays_of r list lists fs) ≡ bare_all (arrays_of s list lists fs)
     arrays_same list lists fs h =
-        bare_flat (λ l. array_at l.1 (values_with r list l.0 fs)) (λ l. array_at l.1 (values_with s list l.0 fs)) lists
+        bare_flat (λ l. array_at l.1 (values_with r list l.0 fs) (inside_with r list l.0 fs))
+        (λ l. array_at l.1 (values_with s list l.0 fs) (inside_with s list l.0 fs)) lists
         (λ l. array_same l.1 (values_with r list l.0 fs) (values_with s list l.0 fs)
-        (opts_flat (value_with r list l.0) (value_with s list l.0) fs (λ f. value_same list l.0 f h)))
+        (inside_with r list l.0 fs) (inside_with s list l.0 fs)
+        (inside_some cx (key_at (Some l.0) list) list (value_with r list l.0) fs)
+        (inside_some (with_order cx order) (key_at (Some l.0) list) list (value_with s list l.0) fs)
+        (opts_flat (value_with r list l.0) (value_with s list l.0) fs (λ f. value_same list l.0 f h))
+        (inside_same (key_at (Some l.0) list) list (value_with r list l.0) (value_with s list l.0) fs
+        (λ f. value_same list l.0 f h)))
 
     members_same : (list : Shape) (fs : List Frame) → is_shape list ≡ true
         → bare_all (members_in r list fs) ≡ bare_all (members_in s list fs)
@@ -265,8 +368,11 @@ module _ (cx : Around) (order : Order) (nest other : Nesting) (inner theirs : In
     listed_same group list fs h =
         let own = named_in r list fs in
         let ones = named_in s list fs in
-        (λ k. group_same (values_step (group_name group)) (map (λ (m : Member). Some m.1) own)
-        (map (λ (m : Member). Some m.1) ones) (opts_same own ones (named_same list fs h)) k
+        let hs = map (λ (m : Member). Some m.1) own in
+        let js = map (λ (m : Member). Some m.1) ones in
+        let same = opts_same own ones (named_same list fs h) in
+        (λ k. group_same (values_step (group_name group)) hs js (places hs) (places js) (placed_some 0 hs)
+        (placed_some 0 js) same (of_same None [] [] hs js refl same) k
         ∷ bare_all (list_at (rest_step (codes "other")) (kept_in r list fs)))
 
     -- objects in a list
@@ -287,16 +393,30 @@ module _ (cx : Around) (order : Order) (nest other : Nesting) (inner theirs : In
             (map (frame_item other (with_order cx order) list) fs)))
             (sym none)
 
-    entries_same : (list : Shape) (fs : List Frame) → is_shape list ≡ true
-        → bare_opts (entries_in r list fs) ≡ bare_opts (entries_in s list fs)
-    entries_same list fs h =
-        opts_flat (λ f. cond (number f == 1) (Some (entry_of r list f.payload) ∷ []) [])
-        (λ f. cond (number f == 1) (Some (entry_of s list f.payload) ∷ []) []) fs (λ f. by f (number f == 1))
+    one_same : (list : Shape) (f : Frame) → is_shape list ≡ true
+        → bare_opts (entry_with r list f) ≡ bare_opts (entry_with s list f)
+    one_same list f h = by (number f == 1)
       where
-        by : (f : Frame) (b : Bool) → bare_opts (cond b (Some (entry_of r list f.payload) ∷ []) [])
+        by : (b : Bool) → bare_opts (cond b (Some (entry_of r list f.payload) ∷ []) [])
             ≡ bare_opts (cond b (Some (entry_of s list f.payload) ∷ []) [])
-        by f true = ap (λ held. Some held ∷ []) (entry_same list f.payload h)
-        by f false = refl
+        by true = ap (λ held. Some held ∷ []) (entry_same list f.payload h)
+        by false = refl
+
+    entries_same : (group : Group) (fs : List Frame) → is_shape (entry_list group) ≡ true
+        → bare_one (group_of (entries_step (group_name group)) (entries_in r (entry_list group) fs)
+        (entries_inside r group fs))
+        ≡ bare_one (group_of (entries_step (group_name group)) (entries_in s (entry_list group) fs)
+        (entries_inside s group fs))
+    entries_same group fs h =
+        let list = entry_list group in
+        let key = key_at None (Shapes.Entries group) in
+        group_same (entries_step (group_name group)) (entries_in r list fs) (entries_in s list fs)
+        (entries_inside r group fs) (entries_inside s group fs)
+        (inside_some cx key (Shapes.Entries group) (entry_with r list) fs)
+        (inside_some (with_order cx order) key (Shapes.Entries group) (entry_with s list) fs)
+        (opts_flat (entry_with r list) (entry_with s list) fs (λ f. one_same list f h))
+        (inside_same key (Shapes.Entries group) (entry_with r list) (entry_with s list) fs
+        (λ f. one_same list f h))
 
     entry_shape : (group : Group) → is_shape (entry_list group) ≡ true
     entry_shape Groups.AltIfname = refl
@@ -306,9 +426,7 @@ module _ (cx : Around) (order : Order) (nest other : Nesting) (inner theirs : In
     lists_same : (list : Shape) (fs : List Frame) → is_shape list ≡ true
         → bare_all (list_members r list fs) ≡ bare_all (list_members s list fs)
     lists_same (Shapes.Listed group table) fs h = listed_same group (Shapes.Listed group table) fs h
-    lists_same (Shapes.Entries group) fs h = ap (λ m. m ∷ []) (group_same (entries_step (group_name group))
-        (entries_in r (entry_list group) fs) (entries_in s (entry_list group) fs)
-        (entries_same (entry_list group) fs (entry_shape group)))
+    lists_same (Shapes.Entries group) fs h = ap (λ m. m ∷ []) (entries_same group fs (entry_shape group))
     lists_same list fs h = members_same list fs h
 
     -- one level up

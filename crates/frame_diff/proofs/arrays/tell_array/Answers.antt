@@ -10,7 +10,7 @@ use Rattle.frame_diff.specs.Arrays.{arrays_at, has_values}
 use Rattle.frame_diff.specs.Forests.{Step, find, forest}
 use Rattle.frame_diff.specs.Groups.{group_by, group_held, is_entries}
 use Rattle.frame_diff.specs.Items.{items_told, joined}
-use Rattle.frame_diff.specs.Members.{arrays_of, values_with}
+use Rattle.frame_diff.specs.Members.{arrays_of, inside_with, values_with}
 use Rattle.frame_diff.specs.Walked.{HasNames, held_items, reading_at}
 use Rattle.frame_diff.specs.declared.walk.Attributes.{Attributes}
 use Rattle.frame_diff.proofs.ArraysTold.{empty, nothing_told, row_told, same_kind, stand_beside, unlisted}
@@ -62,7 +62,7 @@ returns g c =
     let listed : is_listed row.2 ≡ true = cc (c.is_listed.ensures, c.if-not-is_listed.false) in
     let some : has_values own.around.now own.list fs row.0 ≡ true =
     cc (c.has_values.ensures, c.if-not-has_values.false) in
-    let held = group_by (values_with r own.list row.0 fs) in
+    let held = group_by (values_with r own.list row.0 fs) (inside_with r own.list row.0 fs) in
     let path : c.as_str.result.now ≡ joined text row.1.now = search rules in
     let picked : group_held nest inner is_state c.of_number.result ≡ held =
     ap (group_held nest inner is_state) c.of_number.ensures in

@@ -17,3 +17,13 @@ returns-else-is_same_group-clause-held c nest inner is_state =
     (frames_in (items other.bytes.now)) c.requires
     ∙ ap (λ b. cond b (Some held) None) (sym c.is_same_group.ensures ∙ c.if-is_same_group.false))
     ∙ ap (λ b. find (group_step c.args.own) (inside_list (above nest inner) is_state b)) (sym c.in-Some.is)
+
+pub returns-then-is_same_group-clause-held : goal.returns-then-is_same_group-clause-held
+returns-then-is_same_group-clause-held c nest inner is_state =
+    let other = c.in-Some.other in
+    let held : Held = group_held nest inner is_state (all_of other) in
+    ap (λ a. Some (group_held nest inner is_state a)) c.all_of.ensures
+    ∙ sym (group_beside (reading_at nest inner is_state other.around.now) c.args.own other.list
+    (frames_in (items other.bytes.now)) c.requires
+    ∙ ap (λ b. cond b (Some held) None) (sym c.is_same_group.ensures ∙ c.if-is_same_group.true))
+    ∙ ap (λ b. find (group_step c.args.own) (inside_list (above nest inner) is_state b)) (sym c.in-Some.is)

@@ -1,0 +1,12 @@
+use Rattle.std.proofs.Common.{◌≤◌, length}
+use Rattle.frame_diff.proofs.Labelled.{HasPlaces}
+use Rattle.frame_diff.proofs.keyed.places_of.Given as goal
+
+abbrev pub invariant-loop-place : goal.invariant-loop-place
+invariant-loop-place l = record {
+  here : l.place ≤ length l.values;
+  found : HasPlaces l.places l.values l.place;
+}
+
+abbrev pub decreases-loop-place : goal.decreases-loop-place
+decreases-loop-place l = l.place

@@ -1,0 +1,29 @@
+use Rattle.std.proofs.Common.{Some, sym}
+use Rattle.std.proofs.lemmas.Result.{on_ok_weaker}
+use Rattle.nla_wire.specs.Items.{items}
+use Rattle.link_info.specs.Tables.{frames_in}
+use Rattle.frame_diff.specs.Forests.{find}
+use Rattle.frame_diff.specs.Groups.{all_of, group_held, group_step}
+use Rattle.frame_diff.specs.Inside.{above, inside_list}
+use Rattle.frame_diff.specs.Items.{items_told, joined, step_text}
+use Rattle.frame_diff.specs.Walked.{held_items, reading_at}
+use Rattle.frame_diff.proofs.Grouped.{entries_told}
+use Rattle.frame_diff.proofs.Inside.{same_written}
+use Rattle.frame_diff.proofs.lists.tell_entries.Goals as goal
+
+pub returns : goal.returns
+returns g c =
+    let nest = g.W.Depth.nest in
+    let inner = g.W.Walk.inner in
+    let is_state = c.args.pass.is_state in
+    let side = c.args.pass.side in
+    let text = c.args.path.now in
+    let own = c.args.own in
+    let beside = inside_list (above nest inner) is_state c.args.beside in
+    on_ok_weaker c.tell_group.result (same_written
+    (held_items side (joined text (step_text (group_step own.list))) (group_held nest inner is_state (all_of own))
+    (find (group_step own.list) beside))
+    (items_told side text (inside_list (above nest inner) is_state (Some own)) beside)
+    c.args.page.now c.tell_group.new.page
+    (sym (entries_told side text (reading_at nest inner is_state own.around.now) own.list
+    (frames_in (items own.bytes.now)) beside c.requires.entries))) c.tell_group.ensures

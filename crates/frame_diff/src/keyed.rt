@@ -1,0 +1,297 @@
+//! What lists tell whose values are told apart by a number that each says.
+
+ghost use Rattle.std.specs.Prelude.{◌≡◌, ◌<◌, ◌^◌, ◌+◌, ◌++◌, ℕ, Bool, IfOk, IfSome, List as Seq, None, OnOk};
+ghost use Rattle.std.specs.Prelude.{Option as Maybe, Some, option_map, true};
+ghost use Rattle.shown.specs.Drafts.{with_members};
+ghost use Rattle.frame_shown.specs.Items.{objects};
+ghost use Rattle.frame_diff.specs.Groups.{group_inside, is_entries, numbers_at, picked, value_at};
+ghost use Rattle.frame_diff.specs.Items.{further, items_told};
+ghost use Rattle.frame_diff.specs.Keyed.{AreIn, AreLabelled, FindsAt, IsIn, StandsFor, helds_now, labels_now};
+ghost use Rattle.frame_diff.specs.Keyed.{numbers_now, picked_numbers, value_of};
+ghost use Rattle.frame_diff.specs.Keys.{key_at};
+ghost use Rattle.frame_diff.specs.Labels.{IsIndex, are_ascending, count, count_in, first_labels, label_step};
+ghost use Rattle.frame_diff.specs.Labels.{labels_by, labels_of, place_of};
+ghost use Rattle.frame_diff.specs.Walked.{AreBeside, HasNames, Holding, Showing, StandBeside, held_items};
+ghost use Rattle.frame_diff.specs.declared.labels.Label.{Label as Mark};
+ghost use Rattle.frame_diff.specs.declared.walk.Attributes.{Attributes as Lists};
+
+use crate::groups::{Values, pick};
+use crate::keys::{Key, is_key, key_in, number_of};
+use crate::labels::{Counts, Label, Places, count, is_above};
+use crate::leaf::Texts;
+use crate::lists::none_of;
+use crate::path::join_label;
+use crate::walk::{Attribute, Attributes, Pass, Walk};
+use nla_wire::NlasIterator;
+use shown::Page;
+use std::alloc::{AllocError, Global};
+
+/// A value of a list, with its label.
+#[derive(Clone, Copy, Drop)]
+pub struct Labelled<'a> {
+    /// The label.
+    pub label: Label,
+    /// The value.
+    pub value: Attribute<'a>,
+}
+
+/// Another list with this key; a list without values where it has none, or another one.
+pub(crate) fn keyed_beside<'a>(
+    key: Key,
+    own: Attributes<'a>,
+    others: Attributes<'a>,
+) -> Attributes<'a>
+    requires own { key_at own.number own.list ≡ Some key }
+    ensures key { key_at result.number result.list ≡ Some key }
+    ensures found { FindsAt (label_step key) others.entry result }
+    ensures stands { StandsFor own.entry others.entry result }
+{
+    if is_key(key, key_in(others)) {
+        others
+    } else {
+        none_of(own)
+    }
+}
+
+/// Adds a value, if there is one, as if none before it had its number.
+fn push_first<'a>(
+    values: &mut Vec<Labelled<'a>>,
+    key: Key,
+    value: Option<Attribute<'a>>,
+) -> Result<(), AllocError>
+    ensures labels { OnOk result (labels_now values.new.items
+        ≡ labels_now values.old.items ++ first_labels (picked_numbers key value.entry)) }
+    ensures values { OnOk result ((nest : Showing) (inner : Holding) (is_state : Bool)
+        → helds_now nest inner is_state values.new.items
+        ≡ helds_now nest inner is_state values.old.items ++ picked nest inner is_state value.entry) }
+    ensures list { OnOk result ((list : Lists) → AreIn list values.old.items
+        → IfSome value.entry (IsIn list) → AreIn list values.new.items) }
+{
+    let Some(value) = value else {
+        return Ok(());
+    };
+    let number = number_of(key, value);
+    let label = Label { number, again: 0 };
+    values.push(Labelled { label, value })?;
+    Ok(())
+}
+
+/// The values of a list, each with its label, as if no two had one number.
+fn first_values<'a>(
+    alloc: Global,
+    is_state: bool,
+    key: Key,
+    list: Attributes<'a>,
+) -> Result<Vec<Labelled<'a>>, AllocError>
+    requires { key_at list.number list.list ≡ Some key }
+    ensures { IfOk result (λ values. AreLabelled is_state list.entry first_labels values.items) }
+{
+    let mut values = Vec::new(alloc);
+    for item in NlasIterator::new(list.bytes) {
+        let Ok(frame) = item else {
+            break;
+        };
+        push_first(&mut values, key, pick(is_state, list, &frame))?;
+    }
+    Ok(values)
+}
+
+/// Adds a value, if there is one, of whose number those before it are counted.
+fn push_counted<'a>(
+    counts: &mut Counts,
+    values: &mut Vec<Labelled<'a>>,
+    key: Key,
+    value: Option<Attribute<'a>>,
+) -> Result<(), AllocError>
+    requires { (n : Maybe ℕ) → count_in counts.now n + 1 < 2 ^ 64 }
+    ensures labels { OnOk result (labels_now values.new.items
+        ≡ labels_now values.old.items ++ labels_by counts.old (picked_numbers key value.entry)) }
+    ensures values { OnOk result ((nest : Showing) (inner : Holding) (is_state : Bool)
+        → helds_now nest inner is_state values.new.items
+        ≡ helds_now nest inner is_state values.old.items ++ picked nest inner is_state value.entry) }
+    ensures list { OnOk result ((list : Lists) → AreIn list values.old.items
+        → IfSome value.entry (IsIn list) → AreIn list values.new.items) }
+    ensures counts { OnOk result ((n : Maybe ℕ) → count_in counts.new n
+        ≡ count n (picked_numbers key value.entry) + count_in counts.old n) }
+{
+    let Some(value) = value else {
+        return Ok(());
+    };
+    let number = number_of(key, value);
+    let again = count(counts, number)?;
+    let label = Label { number, again };
+    values.push(Labelled { label, value })?;
+    Ok(())
+}
+
+/// The values of a list, each with its label.
+fn counted_values<'a>(
+    alloc: Global,
+    is_state: bool,
+    key: Key,
+    list: Attributes<'a>,
+) -> Result<Vec<Labelled<'a>>, AllocError>
+    requires { key_at list.number list.list ≡ Some key }
+    ensures { IfOk result (λ values. AreLabelled is_state list.entry labels_of values.items) }
+{
+    let mut counts = Counts::new(alloc);
+    let mut values = Vec::new(alloc);
+    for item in NlasIterator::new(list.bytes) {
+        let Ok(frame) = item else {
+            break;
+        };
+        push_counted(&mut counts, &mut values, key, pick(is_state, list, &frame))?;
+    }
+    Ok(values)
+}
+
+/// Whether the numbers of all values ascend.
+fn are_ascending(values: &[Labelled<'_>]) -> bool
+    ensures { are_ascending None (numbers_now values.now) ≡ result }
+{
+    let mut before = None;
+    for one in values {
+        let number = one.label.number;
+        if !is_above(before, number) {
+            return false;
+        }
+        before = number;
+    }
+    true
+}
+
+/// The values of a list, each with its label. Where their numbers ascend, none is counted.
+fn values_in<'a>(
+    alloc: Global,
+    is_state: bool,
+    key: Key,
+    list: Attributes<'a>,
+) -> Result<Vec<Labelled<'a>>, AllocError>
+    requires { key_at list.number list.list ≡ Some key }
+    ensures { IfOk result (λ values. AreLabelled is_state list.entry labels_of values.items) }
+{
+    let values = first_values(alloc, is_state, key, list)?;
+    if are_ascending(values.as_slice()) {
+        return Ok(values);
+    }
+    counted_values(alloc, is_state, key, list)
+}
+
+/// Whether two lists have the same labels, in the same order.
+fn are_same(own: &[Labelled<'_>], others: &[Labelled<'_>]) -> bool
+    ensures { result ≡ true → labels_now own.now ≡ labels_now others.now }
+{
+    if own.len() != others.len() {
+        return false;
+    }
+    let mut place = 0;
+    for one in own {
+        if one.label != others[place].label {
+            return false;
+        }
+        place += 1;
+    }
+    true
+}
+
+/// Where each of these labels stands: the first of those that are the same.
+fn places_of(alloc: Global, values: &[Labelled<'_>]) -> Result<Places, AllocError>
+    ensures { IfOk result (λ places. (own : Seq Mark) → IsIndex (Some places) own (labels_now values.now)) }
+{
+    let mut places = Places::new(alloc);
+    let mut place = values.len();
+    while place > 0 {
+        place -= 1;
+        places.insert(values[place].label, place)?;
+    }
+    Ok(places)
+}
+
+/// Where each of the other labels stands, unless both lists have the same ones in the same order.
+fn places_unless_same(
+    alloc: Global,
+    own: &[Labelled<'_>],
+    others: &[Labelled<'_>],
+) -> Result<Option<Places>, AllocError>
+    ensures { IfOk result (λ places. IsIndex places (labels_now own.now) (labels_now others.now)) }
+{
+    if are_same(own, others) {
+        return Ok(None);
+    }
+    let places = places_of(alloc, others)?;
+    Ok(Some(places))
+}
+
+/// The other value with the label of one at a place, if there is one.
+fn value_beside<'a>(
+    places: &Option<Places>,
+    label: Label,
+    place: usize,
+    others: &[Labelled<'a>],
+) -> Option<Attribute<'a>>
+    ensures value { (own : Seq Mark) → place_of label own ≡ Some place
+        → IsIndex places.now own (labels_now others.now) → result ≡ value_of label others.now }
+    ensures list { (list : Lists) → AreIn list others.now → IfSome result (IsIn list) }
+{
+    let there = match places {
+        Some(places) => *places.get(&label)?,
+        None => place,
+    };
+    let other = others.get(there)?;
+    Some(other.value)
+}
+
+/// Tells of a value beside the one with its label.
+fn tell_labelled<W: Walk, V: Values>(
+    texts: &mut Texts,
+    pass: Pass,
+    page: &mut Page,
+    path: &str,
+    key: Key,
+    own: Labelled<'_>,
+    beside: Option<Attribute<'_>>,
+) -> Result<(), AllocError>
+    requires fits { V.fits own.value.list }
+    requires names { HasNames own.value.around.now }
+    requires entries { IfSome beside (λ a. is_entries a.list ≡ is_entries own.value.list) }
+    requires alike { pass.is_alike ≡ true → StandBeside own.value beside }
+    ensures { OnOk result (page.new
+        ≡ with_members (objects (held_items pass.side (further path.now (label_step key own.entry.label))
+        (value_at W.nest W.inner pass.is_state own.entry.value)
+        (option_map (value_at W.nest W.inner pass.is_state) beside.entry))) page.old) }
+{
+    let text = join_label(texts.alloc, path, key.name(), own.label)?;
+    V::tell_one::<W>(texts, pass, page, text.as_str(), own.value, beside)
+}
+
+/// Tells of the values of a list, each beside the one with its label in another list with the same key.
+pub(crate) fn tell_keyed<W: Walk, V: Values>(
+    texts: &mut Texts,
+    pass: Pass,
+    page: &mut Page,
+    path: &str,
+    key: Key,
+    own: Attributes<'_>,
+    others: Attributes<'_>,
+) -> Result<(), AllocError>
+    requires own { key_at own.number own.list ≡ Some key }
+    requires others { key_at others.number others.list ≡ Some key }
+    requires fits { V.fits own.list }
+    requires names { HasNames own.around.now }
+    requires entries { is_entries others.list ≡ is_entries own.list }
+    requires alike { pass.is_alike ≡ true → AreBeside own (Some others) }
+    ensures { OnOk result (page.new ≡ with_members (objects (items_told pass.side path.now
+        (group_inside W.nest W.inner pass.is_state own.entry)
+        (group_inside W.nest W.inner pass.is_state others.entry))) page.old) }
+{
+    let values = values_in(texts.alloc, pass.is_state, key, own)?;
+    let theirs = values_in(texts.alloc, pass.is_state, key, others)?;
+    let places = places_unless_same(texts.alloc, values.as_slice(), theirs.as_slice())?;
+    let mut place = 0;
+    for one in values.as_slice() {
+        let beside = value_beside(&places, one.label, place, theirs.as_slice());
+        tell_labelled::<W, V>(texts, pass, page, path, key, *one, beside)?;
+        place += 1;
+    }
+    Ok(())
+}
