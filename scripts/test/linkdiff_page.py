@@ -42,7 +42,12 @@ ATTRIBUTES = {"name": lambda it: attribute(3, it.encode() + b"\0"),
               "kind": lambda it: attribute(18, attribute(1, it.encode() + b"\0")),
               "carrier": lambda it: attribute(35, struct.pack("<I", int(it))),
               "ipv6": lambda it: attribute(12, attribute(3, struct.pack(f"<{it}Q", *range(int(it))))),
-              "alias": lambda it: attribute(20, bytes.fromhex(it))}
+              "alias": lambda it: attribute(20, bytes.fromhex(it)),
+              "trees": lambda it: attribute(26, attribute(6, b"".join(map(tree, it.split(",")))))}
+
+
+def tree(it):
+    return attribute(1, b"odd" if it == "odd" else attribute(1, struct.pack("<H", int(it))))
 
 
 def fails(what):

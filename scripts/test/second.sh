@@ -1,8 +1,9 @@
 #!/usr/bin/env bash
 # Compares the programs in a folder, the library for C and python/ with the second reader of tests/second, line by line,
-# and what linkshow shows of lists with what lists.c says; and holds linkdiff to the laws of docs/LINKDIFF.md: second.sh
-# FOLDER [LIBRARY [SET]]. SET is `all`, with 4,000 streams for linkdiff, or `wide` for 5,000,000 lines more, and 100,000
-# streams. Without LIBRARY it compares linkwire, linkstate and linkshow alone. JOBS is how many processes it takes.
+# and what linkshow shows of lists with what lists.c says; and holds linkdiff to the laws of docs/LINKDIFF.md, and where
+# values of lists say a number to its rules: second.sh FOLDER [LIBRARY [SET]]. SET is `all`, with 4,000 streams and
+# 20,000 pairs for linkdiff, or `wide` for 5,000,000 lines more, 100,000 streams and 200,000 pairs. Without LIBRARY it
+# compares linkwire, linkstate and linkshow alone. JOBS is how many processes it takes.
 . "$(dirname "$0")/../common.sh"
 cd "$top"
 programs=$1 library=${2:-} set=${3:-all} words=()
@@ -40,5 +41,7 @@ if [ "$set" = all ]; then
         done
     done
 fi
-[ -z "$library" ] ||
+if [ -n "$library" ]; then
     python3 tests/second/laws.py --streams "$([ "$set" = all ] && echo 4000 || echo 100000)" "$programs"
+    python3 tests/second/keyed.py --pairs "$([ "$set" = all ] && echo 20000 || echo 200000)" "$programs"
+fi

@@ -79,6 +79,38 @@ def functions(count):
     return attribute(22, b"".join(attribute(1, attribute(4, struct.pack("<II", at, 1))) for at in range(count)))
 
 
+def told_whole(path, label, *names):
+    """The paths of a value of a list that came or went."""
+    return "".join(f" {path}[{label}].{name}" for name in names)
+
+
+def vlan(number):
+    return told_whole("af-spec.vlan-info", f"vid={number}", "flags", "vid")
+
+
+def tunnel(*numbers):
+    return attribute(3, b"".join(attribute(2, struct.pack("<H", it)) for it in numbers))
+
+
+def trees(*numbers):
+    return b"".join(attribute(1, attribute(1, struct.pack("<H", it))) for it in numbers)
+
+
+def mappings(*pairs):
+    return b"".join(attribute(1, struct.pack("<II", *it)) for it in pairs)
+
+
+def function(*records):
+    """A function of settings: of each the attribute, the number of the function, and the setting."""
+    return attribute(1, b"".join(attribute(kind, struct.pack("<II", vf, it)) for kind, vf, it in records))
+
+
+def ports(*numbers):
+    """The ports of these functions, each with a request; of None the one that says no function."""
+    return b"".join(attribute(1, (b"" if it is None else attribute(1, struct.pack("<I", it))) + attribute(6, b"\1"))
+                    for it in numbers)
+
+
 NAME = attribute(3, b"e5\0")
 # counters of IPv6 and of ICMPv6: of an older kernel, and none
 SHORT = protinfo(counted(36, *range(1, 36)), attribute(6, struct.pack("<6Q", 6, *range(1, 6))))
@@ -101,7 +133,7 @@ STREAMS = [
      [link(attribute(4, b"a"), LATIN_1, attribute(4, b"b")), link(attribute(4, b"b"), LATIN_1)],
      ["new 5", "changed 5 refused.repeated.0.ifla_mtu"]),
     ("many virtual functions that come", [], [link(functions(70)), link(functions(90))],
-     ["new 5", "changed 5" + "".join(f" vfinfo-list.info.{at}.spoofchk.vf vfinfo-list.info.{at}.spoofchk.setting"
+     ["new 5", "changed 5" + "".join(told_whole("vfinfo-list.info", f"vf={at}", "spoofchk.vf", "spoofchk.setting")
                                      for at in range(70, 90))]),
     ("of kinds that come again in one list the last counts", [],
      [link(kind("veth", "bridge")), link(kind("veth", "vxlan")), link(kind("bridge", "vxlan"))],
@@ -149,24 +181,67 @@ STREAMS = [
       link(protinfo(counted(), counted(1, 1)), family=10), link(family=10)],
      ["new 5", *["changed 5 ifname mtu", "changed 5 mtu ifname"] * 2, "changed 5 ifname mtu", "changed 5 mtu",
       "changed 5 state"]),
-    ("a value of a list is told at its place, also where there is one", [],
-     [link(vlans(1), family=7), link(vlans(2), family=7), link(vlans(2, 3), family=7), link(vlans(2), family=7)],
-     ["new 5", "changed 5 af-spec.vlan-info.0.vid",
-      *["changed 5 af-spec.vlan-info.1.flags af-spec.vlan-info.1.vid"] * 2]),
+    ("a value of a list is told by its number, also where there is one", [],
+     [link(vlans(1), family=7), link(vlans(2), family=7), link(vlans(2, 3), family=7), link(vlans(3), family=7)],
+     ["new 5", "changed 5" + vlan(1) + vlan(2), "changed 5" + vlan(3), "changed 5" + vlan(2)]),
+    ("a value in front of others is told alone", [],
+     [link(vlans(10, 20), family=7), link(vlans(5, 10, 20), family=7), link(vlans(5, 10, 15, 20), family=7)],
+     ["new 5", "changed 5" + vlan(5), "changed 5" + vlan(15)]),
+    ("an order is no change of a value", [], [link(vlans(1, 2), family=7), link(vlans(2, 1), family=7)],
+     ["new 5", "changed 5 state"]),
+    ("values of one number are counted", [],
+     [link(vlans(1, 2), family=7), link(vlans(1, 1, 2), family=7), link(vlans(1, 2, 1, 1), family=7),
+      link(vlans(2, 1), family=7)],
+     ["new 5", "changed 5" + vlan("1#1"), "changed 5" + vlan("1#2"), "changed 5" + vlan("1#1") + vlan("1#2")]),
+    ("lists in two attributes of one name", [],
+     [link(vlans(1), vlans(1, 2), family=7), link(vlans(1, 2), vlans(1, 2), family=7)],
+     ["new 5", "changed 5" + told_whole("repeated.0.af-spec.vlan-info", "vid=2", "flags", "vid")]),
     ("a damaged element beside whole ones changes, goes, comes, and is a whole one", [],
      [link(vlans(*values), family=7) for values in ((1, b"ab"), (1, b"abc"), (1,), (1, b"ab"), (1, 2), (b"ab", 2))],
-     ["new 5", *["changed 5 af-spec.vlan-info.1"] * 3,
-      "changed 5 af-spec.vlan-info.1 af-spec.vlan-info.1.flags af-spec.vlan-info.1.vid",
-      "changed 5 af-spec.vlan-info.0.flags af-spec.vlan-info.0.vid af-spec.vlan-info.0"]),
+     ["new 5", *["changed 5 af-spec.vlan-info[vid#0]"] * 3, "changed 5 af-spec.vlan-info[vid#0]" + vlan(2),
+      "changed 5" + vlan(1) + " af-spec.vlan-info[vid#0]"]),
+    ("damaged elements are counted", [],
+     [link(vlans(*values), family=7) for values in ((b"ab", 1, b"abc"), (1, b"ab", b"abc", b""), (b"abc", 1))],
+     ["new 5", "changed 5 af-spec.vlan-info[vid#2]",
+      "changed 5 af-spec.vlan-info[vid#0] af-spec.vlan-info[vid#1] af-spec.vlan-info[vid#2]"]),
     ("damaged elements alone are one value", [],
      [link(vlans(*values), family=7) for values in ((b"ab",), (b"ab", b"abc"), (b"ab", 1), (b"abc",))],
-     ["new 5", "changed 5 af-spec.vlan-info", "changed 5 af-spec.vlan-info af-spec.vlan-info.0"
-      " af-spec.vlan-info.1.flags af-spec.vlan-info.1.vid",
-      "changed 5 af-spec.vlan-info.0 af-spec.vlan-info.1.flags af-spec.vlan-info.1.vid af-spec.vlan-info"]),
+     ["new 5", "changed 5 af-spec.vlan-info", "changed 5 af-spec.vlan-info af-spec.vlan-info[vid#0]" + vlan(1),
+      "changed 5 af-spec.vlan-info[vid#0]" + vlan(1) + " af-spec.vlan-info"]),
     ("a list stands beside attributes that come twice", [],
      [link(vlans(1, 2, more=attribute(1, b"\0\0") + attribute(1, b"\1\0")), family=7),
       link(vlans(1, 3, more=attribute(1, b"\1\0") * 2), family=7)],
-     ["new 5", "changed 5 af-spec.vlan-info.1.vid af-spec.repeated.0.mode"]),
+     ["new 5", "changed 5" + vlan(2) + " af-spec.repeated.0.mode" + vlan(3)]),
+    ("a tunnel's number is that of the last attribute of its name", [],
+     [link(attribute(26, tunnel(1) + tunnel(2)), family=7), link(attribute(26, tunnel(2, 1) + tunnel(2)), family=7)],
+     ["new 5", "changed 5 af-spec.vlan-tunnel-info[vid=1].repeated.0.vid"]),
+    ("a tunnel without a number, or with a damaged one", [],
+     [link(attribute(26, tunnel(1)), family=7), link(attribute(26, tunnel(1) + attribute(3, b"")), family=7),
+      link(attribute(26, attribute(3, attribute(2, b"odd")) + tunnel(1)), family=7)],
+     ["new 5", "changed 5 af-spec.vlan-tunnel-info[vid#0]",
+      "changed 5 af-spec.vlan-tunnel-info[vid#0] af-spec.vlan-tunnel-info[vid#0].vid"]),
+    ("spanning trees", [],
+     [link(attribute(26, attribute(6, trees(*values))), family=7) for values in ((0, 5), (0, 3, 5), (3, 0, 5))],
+     ["new 5", "changed 5 af-spec.mst.entry[msti=3].msti", "changed 5 state"]),
+    ("mappings of priorities", [],
+     [link(data(b"vlan", attribute(3, mappings((1, 4))) + attribute(4, mappings((0, 2), (1, 4))))),
+      link(data(b"vlan", attribute(3, mappings((1, 5))) + attribute(4, mappings((1, 4)))))],
+     ["new 5", "changed 5 linkinfo.data.egress-qos.mapping[from=1].to"
+      + told_whole("linkinfo.data.ingress-qos.mapping", "from=0", "from", "to")]),
+    ("a function's number is that of its first record that does not come again", [],
+     [link(attribute(22, function(*records))) for records in
+      (((4, 1, 0), (4, 2, 1), (5, 3, 0)), ((4, 2, 0), (9, 3, 0)), ((4, 2, 1), (9, 3, 0)))],
+     ["new 5", "changed 5" + told_whole("vfinfo-list.info", "vf=2", "spoofchk.setting", "link-state.vf",
+                                        "link-state.link-state", "repeated.0.spoofchk.vf",
+                                        "repeated.0.spoofchk.setting", "trust.vf", "trust.setting"),
+      "changed 5 vfinfo-list.info[vf=2].spoofchk.setting"]),
+    ("a function's VLANs have places", [],
+     [link(attribute(22, attribute(1, attribute(12, attribute(1, struct.pack("<IIIHxx", 1, it, 0, 129)))))) for it in
+      (6, 7)], ["new 5", "changed 5 vfinfo-list.info[vf#0].vlan-list.info.0.vlan"]),
+    ("ports of functions", [],
+     [link(attribute(24, ports(*values))) for values in ((2, 4), (4,), (4, None))],
+     ["new 5", "changed 5 vf-ports.port[vf=2].vf vf-ports.port[vf=2].request",
+      "changed 5 vf-ports.port[vf#0].request"]),
     ("addresses are told as one list", [],
      [link(data(b"macvlan", attribute(5, attribute(4, bytes(6))))),
       link(data(b"macvlan", attribute(5, attribute(4, bytes(6)) * 2)))],

@@ -68,11 +68,11 @@ ROWS = [
      ["veth0            port of br0: vlan -1(pvid,untagged) +1(untagged) +30(pvid)"]),
     ("a damaged VLAN is none", [], stream(IN, in_bridge(vlans((6, 1))), in_bridge((n.IFLA_AF_SPEC, [(2, b"ab")]))),
      ["veth0            port of br0: vlan -1(pvid,untagged)"]),
-    ("damaged elements of a list are texts, by their places", [],
+    ("damaged elements of a list are texts, and counted", [],
      stream([line(2, name("x"), kind("vlan", (3, [(1, b"ab"), (1, u32(3) + u32(4))])))],
             line(2, name("x"), kind("vlan", (3, [(1, b"abc"), (1, u32(3) + u32(5)), (1, b"")])))),
-     ["x                data.egress-qos.mapping.0 6162 → 616263, data.egress-qos.mapping.1.to 4 → 5, "
-      'data.egress-qos.mapping.2 none → ""']),
+     ["x                data.egress-qos.mapping[from#0] 6162 → 616263, data.egress-qos.mapping[from=3].to 4 → 5, "
+      'data.egress-qos.mapping[from#1] none → ""']),
     ("family 10 is hidden", [], stream([ETH], line(2, mtu(1500), family=10), line(2, mtu(1400), family=10)), []),
     ("family 10 with --details", ["--details"],
      stream([ETH], line(2, mtu(1500), family=10), line(2, mtu(1400), family=10)),

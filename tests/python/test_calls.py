@@ -151,17 +151,17 @@ class Calls(unittest.TestCase):
         self.assertEqual(linkwire.show(LO, kernel="running"), linkwire.show(LO, kernel="6.1.0"))
 
     def test_lists(self):
-        """An attribute that is a list is one also of one element; changes of its elements have their places."""
+        """An attribute that is a list is one also of one element; changes of a VLAN have its number."""
         spec, one, other = numbers.IFLA_AF_SPEC, (2, b"\6\0\1\0"), (2, b"\0\0\x05\0")
         alone, both = (linkwire.build([(spec, it)], index=7, family=7) for it in ([one], [one, other]))
         first = {"flags": ["pvid", "untagged"], "vid": 1}
         self.assertEqual([linkwire.show(it)["af-spec"]["vlan-info"] for it in (alone, both)],
                          [[first], [first, {"flags": [], "vid": 5}]])
         self.assertEqual(linkwire.diff(alone, both),
-                         [("af-spec.vlan-info.1.flags", None, []), ("af-spec.vlan-info.1.vid", None, 5)])
+                         [("af-spec.vlan-info[vid=5].flags", None, []), ("af-spec.vlan-info[vid=5].vid", None, 5)])
         damaged = [linkwire.build([(spec, [one, *it])], index=7, family=7) for it in ([(2, b"ab")], [(2, b"abc")], [])]
         self.assertEqual([linkwire.diff(*it) for it in zip(damaged, damaged[1:])],
-                         [[("af-spec.vlan-info.1", *it)] for it in (("6162", "616263"), ("616263", None))])
+                         [[("af-spec.vlan-info[vid#0]", *it)] for it in (("6162", "616263"), ("616263", None))])
         macs = [(18, [(1, "macvlan"), (2, [(4, bytes(6)), (5, [(4, bytes([it] * 6)) for it in some])])])
                 for some in ((1,), (1, 2))]
         data = [linkwire.show(linkwire.build([it]))["linkinfo"]["data"] for it in macs]

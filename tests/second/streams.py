@@ -53,7 +53,9 @@ def inet6(rng):
 
 def af_spec(rng, family):
     if family == 7:
-        return attribute(26, attribute(2, struct.pack("<HH", rng.randrange(2), rng.choice([10, 200]))))
+        vlans = [attribute(2, struct.pack("<HH", rng.randrange(2), rng.choice([10, 10, 20, 200])))
+                 for _ in range(rng.choice([1, 1, 2, 3]))]
+        return attribute(26, b"".join(vlans))
     return attribute(26, attribute(10, inet6(rng)) + attribute(2, attribute(1, u32(*[rng.randrange(2)] * 3))))
 
 
@@ -73,9 +75,10 @@ def stats(rng):
 
 
 def functions(rng):
-    one = attribute(1, attribute(2, u32(0, rng.choice([0, 100]), 0))
-                    + attribute(8, attribute(0, struct.pack("<Q", rng.randrange(2)))))
-    return attribute(22, one * rng.choice([1, 2]))
+    found = [attribute(1, attribute(2, u32(rng.choice([0, 0, 1]), rng.choice([0, 100]), 0))
+                       + attribute(8, attribute(0, struct.pack("<Q", rng.randrange(2)))))
+             for _ in range(rng.choice([1, 2]))]
+    return attribute(22, b"".join(found))
 
 
 SLOTS = {

@@ -9,10 +9,17 @@ import second
 
 WORD = re.compile(rb"([^= \t]+)=([^ \t]*)(?:[ \t]+|\Z)")
 NUMERAL = re.compile(rb"\+?([0-9]+)")
+# what linkshow escapes beside what JSON asks for: controls, and what ends a line or turns the direction of a text
+HIDDEN = re.compile("[\x7f-\x9f\u061c\u200e\u200f\u2028-\u202e\u2066-\u2069]")
+ENCODE = json.JSONEncoder(separators=(",", ":"), ensure_ascii=False).encode
 IFNAME, WIRELESS, LINKINFO, EVENT = 3, 11, 18, 44
 # the counters of IPv6 in IFLA_PROTINFO: their record may be shorter than its names
 IPV6 = re.compile(r"(repeated\.[0-9]+\.)?protinfo\.(repeated\.[0-9]+\.)?(icmp6-)?stats(\.|$)")
 PARTS = 7, 10
+# the lists whose values are told by a number that each of them says, with the name of that number
+FUNCTIONS = "vfinfo-list.info"
+KEYS = {"af-spec.vlan-info": "vid", "af-spec.vlan-tunnel-info": "vid", "mst.entry": "msti",
+        "egress-qos.mapping": "from", "ingress-qos.mapping": "from", FUNCTIONS: "vf", "vf-ports.port": "vf"}
 
 
 def said(program, options, text):
@@ -24,7 +31,7 @@ def said(program, options, text):
 
 
 def text_of(value):
-    return json.dumps(value, separators=(",", ":"), ensure_ascii=False).replace("\x7f", "\\u007f")
+    return HIDDEN.sub(lambda it: f"\\u{ord(it[0]):04x}", ENCODE(value))
 
 
 # ** what a message is
@@ -110,6 +117,9 @@ class Shown:
         others = dict(leaves_of(json.loads(filled)))
         self.counters = {path for path, value in self.leaves.items()
                          if path not in others or others[path] != value or IPV6.match(path)}
+        # a refused attribute in which a state clears some of the bytes is told, with the others
+        self.counters -= {path for path in self.counters
+                          if path.startswith("refused.") and self.leaves[path].strip("0")}
         # of an attribute that is kept as it is all is passed over
         kept = {path.removesuffix(".payload") for path in self.counters if path.endswith(".payload")}
         self.counters |= {path for path in self.leaves if path.rpartition(".")[0] in kept}
@@ -127,9 +137,9 @@ def leaves_of(page):
 
 
 def name_of(refusal):
-    """The kernel's name of the attribute that is refused, in small letters."""
-    path = refusal.get("in", refusal["at"])
-    return (path if isinstance(path, str) else path[0]).lower()
+    """The kernel's name of the attribute that is refused, in small letters; if a fault stands inside it, linkshow says
+    its own name of it."""
+    return f"ifla_{refusal['in'].replace('-', '_')}" if "in" in refusal else refusal["at"].lower()
 
 
 def raw(refused):
@@ -141,20 +151,44 @@ def raw(refused):
 
 
 def under(path, value, out):
-    """A list that holds an object or a list is told by place; any other one is a value."""
+    """A list that holds an object or a list is told value by value; any other one is a value."""
     parts = []
     if isinstance(value, dict):
-        parts = list(value.items())
+        parts = [(f"{path}.{name}" if path else name, it) for name, it in value.items()]
     elif any(isinstance(it, (dict, list)) for it in value):
-        parts = [(str(at), it) for at, it in enumerate(value)]
+        parts = [(path + label, it) for label, it in zip(labels(path, value), value)]
     if not parts and path:
         out.append((path, value))
-    for name, it in parts:
-        at = f"{path}.{name}" if path else name
+    for at, it in parts:
         if isinstance(it, (dict, list)):
             under(at, it, out)
         else:
             out.append((at, it))
+
+
+def labels(path, values):
+    """What stands behind the path of a list for each of its values: the number that it says, or its place."""
+    key = KEYS.get(".".join(path.split(".")[-2:]))
+    if key is None:
+        return [f".{at}" for at in range(len(values))]
+    before, out = {}, []
+    for it in values:
+        number = number_in(path, key, it)
+        again = before.get(number, 0)
+        before[number] = again + 1
+        named = key if number is None else f"{key}={number}"
+        out.append(f"[{named}#{again}]" if again or number is None else f"[{named}]")
+    return out
+
+
+def number_in(path, key, value):
+    """The number that a value says: a function says it in the first of its records."""
+    if not isinstance(value, dict):
+        return None
+    if path.endswith(FUNCTIONS):
+        value = next((it for it in value.values() if isinstance(it, dict) and key in it), {})
+    number = value.get(key)
+    return number if isinstance(number, int) else None
 
 
 def messages(linkshow, options, texts, kernels):

@@ -167,7 +167,7 @@ const TURNS: [Turn; 32] = [
         1,
         Compared::Message,
         &[
-            r#"[{"path":"vfinfo-list.info.0.broadcast","old":"ff:ff:ff:ff:ff:ff","#,
+            r#"[{"path":"vfinfo-list.info[vf=0].broadcast","old":"ff:ff:ff:ff:ff:ff","#,
             r#""new":"fe:ff:ff:ff:ff:ff"}]"#,
         ],
     ),
@@ -176,14 +176,14 @@ const TURNS: [Turn; 32] = [
         220,
         1,
         Compared::State,
-        &[r#"[{"path":"vfinfo-list.info.0.rate.vf","old":0,"new":1}]"#],
+        &[r#"[{"path":"vfinfo-list.info[vf=0].rate.vf","old":0,"new":1}]"#],
     ),
     (
         &CARD,
         264,
         1,
         Compared::State,
-        &[r#"[{"path":"vfinfo-list.info.0.link-state.link-state","old":"auto","new":"enable"}]"#],
+        &[r#"[{"path":"vfinfo-list.info[vf=0].link-state.link-state","old":"auto","new":"enable"}]"#],
     ),
     (
         &CARD,
@@ -191,7 +191,7 @@ const TURNS: [Turn; 32] = [
         1,
         Compared::State,
         &[
-            r#"[{"path":"vfinfo-list.info.1.vlan-list.info.0.vlan-proto","old":"8021ad","#,
+            r#"[{"path":"vfinfo-list.info[vf=1].vlan-list.info.0.vlan-proto","old":"8021ad","#,
             r#""new":"8021q"}]"#,
         ],
     ),
@@ -272,7 +272,7 @@ const TURNS: [Turn; 32] = [
         1,
         Compared::State,
         &[
-            r#"[{"path":"af-spec.vlan-info.0.flags","old":["pvid","untagged"],"#,
+            r#"[{"path":"af-spec.vlan-info[vid=1].flags","old":["pvid","untagged"],"#,
             r#""new":["master","pvid","untagged"]}]"#,
         ],
     ),
