@@ -151,16 +151,17 @@ int32_t linkwire_same_message(const uint8_t *a, size_t a_len, const uint8_t *b, 
  *   in the data of kind "bridge" IFLA_BR_HELLO_TIMER, IFLA_BR_TCN_TIMER, IFLA_BR_TOPOLOGY_CHANGE_TIMER,
  *   IFLA_BR_GC_TIMER, IFLA_BR_FDB_N_LEARNED, and in its IFLA_BR_MCAST_QUERIER_STATE BRIDGE_QUERIER_IP_OTHER_TIMER and
  *   BRIDGE_QUERIER_IPV6_OTHER_TIMER,
- *   in the data of kind "hsr" IFLA_HSR_SEQ_NR, of kind "can" IFLA_CAN_BERR_COUNTER (linux/can/netlink.h),
+ *   in the data of kind "hsr" IFLA_HSR_SEQ_NR, of kinds "can" and "vcan" IFLA_CAN_BERR_COUNTER
+ *   (linux/can/netlink.h),
  *   in the slave data of slave kind "bond" IFLA_BOND_SLAVE_LINK_FAILURE_COUNT,
  *   in the slave data of slave kind "bridge" IFLA_BRPORT_MESSAGE_AGE_TIMER, IFLA_BRPORT_FORWARD_DELAY_TIMER,
  *   IFLA_BRPORT_HOLD_TIMER, IFLA_BRPORT_CONFIG_PENDING, IFLA_BRPORT_TOPOLOGY_CHANGE_ACK,
  *   IFLA_BRPORT_MCAST_EHT_HOSTS_CNT and IFLA_BRPORT_MCAST_N_GROUPS, and the same in IFLA_PROTINFO in a message of
  *   AF_BRIDGE.
- * Kinds are texts with their NUL; of several in one list the first that is named here counts. A payload of another
- * length than the kernel's is zero too. All lengths, padding and flag bits stay; in undecoded data so does all that
- * follows a fault. IFLA_INET6_FLAGS stays: router solicitation moves its bits, some seconds after an interface came
- * up. */
+ * A kind is a text, which one NUL may end; of several in one list the first decides, named here or not. A payload of
+ * another length than the kernel's is zero too. All lengths, padding and flag bits stay; in undecoded data so does all
+ * that follows a fault. IFLA_INET6_FLAGS stays: router solicitation moves its bits, some seconds after an interface
+ * came up. */
 ptrdiff_t linkwire_state(const uint8_t *message, size_t len, uint8_t *out, size_t cap);
 
 /* 1 where both have the same state encoding, 0 where they have different ones; or the refusal, -1 to -7, -16, -17 or
@@ -206,14 +207,14 @@ ptrdiff_t linkwire_show(const uint8_t *message, size_t len, uint32_t order, uint
 
 /* What changed from one message to another, as linkdiff(1) tells it under "changes": a list in JSON, in UTF-8, without
  * an end of line and without a NUL, of an object for each path whose value differs, with "path", "old" and "new", of
- * which one is left out where the path came or went. An element of an array has its place there, from 0, as
- * "af-spec.vlan-info.0.vid". Where no path differs, though the messages do, the one path "state" has both encodings, in
- * hexadecimal. Attributes IFLA_EVENT of four bytes, which announcements alone have, are left out of both messages
- * first, as linkdiff(1) does. The list is written, and its length returned, as `linkwire_show` does; 0, and `out` is
- * unchanged, exactly where the state encodings of what is left are equal. With LINKWIRE_COUNTERS the canonical
- * encodings are compared, so that what moves by itself is told too; with LINKWIRE_LENIENT the lenient ones of either.
- * Both messages are shown in one order. Or -20; or the refusal, -1 to -7, -16, -17 or -18, of the first that is
- * refused, and `out` is unchanged. Takes memory. */
+ * which one is left out where the path came or went. A VLAN has its number there, as "af-spec.vlan-info[vid=200].vid":
+ * linkdiff(1) says how paths name the values of lists. Where no path differs, though the messages do, the one path
+ * "state" has both encodings, in hexadecimal. Attributes IFLA_EVENT of four bytes, which announcements alone have, are
+ * left out of both messages first, as linkdiff(1) does. The list is written, and its length returned, as
+ * `linkwire_show` does; 0, and `out` is unchanged, exactly where the state encodings of what is left are equal. With
+ * LINKWIRE_COUNTERS the canonical encodings are compared, so that what moves by itself is told too; with
+ * LINKWIRE_LENIENT the lenient ones of either. Both messages are shown in one order. Or -20; or the refusal, -1 to -7,
+ * -16, -17 or -18, of the first that is refused, and `out` is unchanged. Takes memory. */
 ptrdiff_t linkwire_diff(const uint8_t *old_message, size_t old_len, const uint8_t *new_message, size_t new_len,
                         uint32_t order, uint32_t flags, char *out, size_t cap);
 

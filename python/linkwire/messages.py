@@ -327,8 +327,8 @@ def _fill(found: Dict[str, Any], settings: List[bytes]) -> bool:
 def diff(old: Bytes, new: Bytes, kernel: Optional[str] = None, counters: bool = False,
          lenient: bool = False) -> List[Change]:
     """What changed from one message to another, as linkdiff(1) tells it; an empty list where the states are equal.
-    IFLA_EVENT, which announcements alone have, is left out of both first. Of a list of objects a path has the place of
-    an element, from 0: `af-spec.vlan-info.0.vid`.
+    IFLA_EVENT, which announcements alone have, is left out of both first. A VLAN has its number in the path,
+    `af-spec.vlan-info[vid=200].vid`; linkdiff(1) says how paths name the values of lists.
 
     kernel, lenient: as for `show`, of both messages.
     counters: compares the canonical encodings, so that what moves by itself is there too.
