@@ -183,7 +183,9 @@ const TURNS: [Turn; 32] = [
         264,
         1,
         Compared::State,
-        &[r#"[{"path":"vfinfo-list.info[vf=0].link-state.link-state","old":"auto","new":"enable"}]"#],
+        &[
+            r#"[{"path":"vfinfo-list.info[vf=0].link-state.link-state","old":"auto","new":"enable"}]"#,
+        ],
     ),
     (
         &CARD,
