@@ -223,7 +223,7 @@ linkdiff)
     pieces few few
     pieces files /dev/null --counters old new
     refuses few 1 70 few
-    refuses stored 1 390 "$input"
+    refuses stored 1 640 "$input"
     refuses streams 131 4300 "$streams"
     refuses files 1 90 /dev/null few few
     refuses kinds 1 60 kinds
