@@ -12,7 +12,7 @@ pub enum Kind {
     Bridge,
     /// `bond`: of its ports.
     Bond,
-    /// `can`.
+    /// `can` and `vcan`.
     Can,
     /// `hsr`.
     Hsr,
@@ -20,53 +20,54 @@ pub enum Kind {
     Other,
 }
 
-/// The kind with this name, which ends in one NUL.
+/// The name in a payload, which one NUL may end.
+fn name_in(payload: &[u8]) -> &[u8] {
+    match payload {
+        [name @ .., 0] => name,
+        _ => payload,
+    }
+}
+
+/// The kind with this name.
 fn device_kind(name: &[u8]) -> Kind {
-    if name == b"bridge\0".as_slice() {
+    if name == b"bridge".as_slice() {
         Kind::Bridge
-    } else if name == b"can\0".as_slice() {
+    } else if name == b"can".as_slice() || name == b"vcan".as_slice() {
         Kind::Can
-    } else if name == b"hsr\0".as_slice() {
+    } else if name == b"hsr".as_slice() {
         Kind::Hsr
     } else {
         Kind::Other
     }
 }
 
-/// The kind with this name, which ends in one NUL, where something of its ports moves.
+/// The kind with this name, where something of its ports moves.
 fn port_kind(name: &[u8]) -> Kind {
-    if name == b"bridge\0".as_slice() {
+    if name == b"bridge".as_slice() {
         Kind::Bridge
-    } else if name == b"bond\0".as_slice() {
+    } else if name == b"bond".as_slice() {
         Kind::Bond
     } else {
         Kind::Other
     }
 }
 
-impl Kind {
-    /// This kind, or else the other.
-    fn or(self, other: Kind) -> Kind {
-        match self {
-            Kind::Other => other,
-            kind => kind,
-        }
-    }
-}
-
 /// The kind of the device that attributes of these frames name, and that of the device that it is a port of: of several
-/// of one number the first one whose kind is listed.
+/// of one number the first one decides, whatever it names.
 pub(crate) fn kinds(list: &[u8]) -> (Kind, Kind) {
-    let mut kind = Kind::Other;
-    let mut slave_kind = Kind::Other;
+    let mut kind = None;
+    let mut slave_kind = None;
     for item in NlasIterator::new(list) {
-        if let Ok(frame) = item {
-            match frame.kind() {
-                IFLA_INFO_KIND => kind = kind.or(device_kind(frame.value())),
-                IFLA_INFO_SLAVE_KIND => slave_kind = slave_kind.or(port_kind(frame.value())),
-                _ => {}
-            }
+        let frame = match item {
+            Ok(frame) => frame,
+            _ => break,
+        };
+        let name = name_in(frame.value());
+        match frame.kind() {
+            IFLA_INFO_KIND => kind = Some(kind.unwrap_or(device_kind(name))),
+            IFLA_INFO_SLAVE_KIND => slave_kind = Some(slave_kind.unwrap_or(port_kind(name))),
+            _ => {}
         }
     }
-    (kind, slave_kind)
+    (kind.unwrap_or(Kind::Other), slave_kind.unwrap_or(Kind::Other))
 }

@@ -18,6 +18,7 @@ pub(crate) fn is_unnamed(way: Way, payload: &[u8]) -> bool {
 }
 
 /// The name of an attribute, if it has one of its own.
+#[inline(always)]
 pub(crate) fn name_of(
     cx: &Around<'_>,
     list: List,
@@ -40,7 +41,12 @@ pub(crate) fn is_named(cx: &Around<'_>, list: List, name: &str, frame: &NlaBuffe
 }
 
 /// The last attribute that is told under this name.
-fn find_last<'a>(cx: &Around<'_>, list: List, name: &str, bytes: &'a [u8]) -> Option<NlaBuffer<'a>> {
+pub(crate) fn find_last<'a>(
+    cx: &Around<'_>,
+    list: List,
+    name: &str,
+    bytes: &'a [u8],
+) -> Option<NlaBuffer<'a>> {
     let mut last = None;
     for item in NlasIterator::new(bytes) {
         let frame = match item {

@@ -2,6 +2,7 @@
 //! The texts of paths.
 
 use crate::rattle::prelude::String;
+use crate::frame_diff::labels::Label;
 use crate::rattle::itoa::Buffer;
 use crate::rattle::alloc::{AllocError, Global};
 
@@ -20,4 +21,44 @@ pub(crate) fn join(alloc: Global, text: &str, step: &str) -> Result<String, Allo
 pub(crate) fn join_place(alloc: Global, text: &str, place: usize) -> Result<String, AllocError> {
     let mut digits = Buffer::new();
     join(alloc, text, digits.format(place))
+}
+
+/// Adds the number of a label, if it has one.
+fn push_number(path: &mut String, number: Option<u64>) -> Result<(), AllocError> {
+    let number = match number {
+        Some(number) => number,
+        _ => return Ok(()),
+    };
+    let mut digits = Buffer::new();
+    path.push('=')?;
+    path.push_str(digits.format(number))?;
+    Ok(())
+}
+
+/// Adds how many with the number of a label stand before it, unless it has one and none does.
+fn push_again(path: &mut String, label: Label) -> Result<(), AllocError> {
+    if label.number.is_some() && label.again == 0 {
+        return Ok(());
+    }
+    let mut digits = Buffer::new();
+    path.push('#')?;
+    path.push_str(digits.format(label.again))?;
+    Ok(())
+}
+
+/// The text of a path that goes on at a value of a list, by its label.
+pub(crate) fn join_label(
+    alloc: Global,
+    text: &str,
+    name: &str,
+    label: Label,
+) -> Result<String, AllocError> {
+    let mut path = String::with_capacity(alloc, text.len() + 32)?;
+    path.push_str(text)?;
+    path.push('[')?;
+    path.push_str(name)?;
+    push_number(&mut path, label.number)?;
+    push_again(&mut path, label)?;
+    path.push(']')?;
+    Ok(path)
 }

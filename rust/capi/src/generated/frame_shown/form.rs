@@ -498,7 +498,7 @@ fn refused_row(number: u16) -> Found {
 
 /// Whether an attribute of this form with this payload is kept as it is.
 #[inline(always)]
-fn is_kept_form(form: &Form, payload: &[u8]) -> bool {
+pub(crate) fn is_kept_form(form: &Form, payload: &[u8]) -> bool {
     match *form {
         Form::Kept => true,
         Form::Unflagged => true,
@@ -611,6 +611,7 @@ pub fn name_in(cx: &Around<'_>, list: List, number: u16, payload: &[u8]) -> Opti
 }
 
 /// The row of a number in a list.
+#[inline(always)]
 pub fn row_in(cx: &Around<'_>, list: List, number: u16) -> Known {
     let (name, manner) = found_in(cx, &list, number);
     (name, manner.way())

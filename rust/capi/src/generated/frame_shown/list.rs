@@ -4,7 +4,7 @@
 use crate::frame_shown::depth::Depth;
 use crate::frame_shown::form::{
     Around, Form, Group, List, Manner, NUMBERS, Rows, Way, data_rows, found_by, found_in,
-    is_each_by, is_kept_by, is_listed, kind_shown, own_rows,
+    is_each_by, is_kept_by, is_kept_form, is_listed, kind_shown, own_rows,
 };
 use crate::frame_shown::kept::show_kept;
 use crate::frame_shown::value::{number_at, show_form, show_style, show_text};
@@ -68,24 +68,6 @@ fn show_counters<D: Depth>(
     show_style::<D>(cx, page, name, &Style::Record(members), payload)
 }
 
-/// Adds a value by the row where it stands.
-#[inline(always)]
-fn show_manner<D: Depth>(
-    cx: &Around<'_>,
-    page: &mut Page,
-    name: &str,
-    manner: Manner,
-    payload: &[u8],
-) -> Result<(), AllocError> {
-    match manner {
-        Manner::Own(form) => show_own::<D>(cx, page, name, form, payload),
-        Manner::By(style) => show_style::<D>(cx, page, name, style, payload),
-        Manner::Nest(place) => show_data::<D>(cx, page, name, place, payload),
-        Manner::Counters(members) => show_counters::<D>(cx, page, name, members, payload),
-        Manner::Bytes => show_style::<D>(cx, page, name, &Style::Bytes, payload),
-    }
-}
-
 /// Which attributes of a list say nothing under a name of their own.
 struct Left {
     /// Whether there is one that is kept as it is.
@@ -116,13 +98,16 @@ fn show_frame<D: Depth>(
     frame: &NlaBuffer<'_>,
 ) -> Result<Said, AllocError> {
     let (name, manner) = found_by(cx, list, rows, frame.kind());
-    if is_kept_by(manner, frame.value()) {
-        return Ok(Said::Kept);
+    let payload = frame.value();
+    match manner {
+        Manner::Own(form) if is_kept_form(form, payload) => return Ok(Said::Kept),
+        Manner::Own(form) => show_own::<D>(cx, page, name, form, payload)?,
+        Manner::By(style) if is_listed(style) => return Ok(Said::Value),
+        Manner::By(style) => show_style::<D>(cx, page, name, style, payload)?,
+        Manner::Nest(place) => show_data::<D>(cx, page, name, place, payload)?,
+        Manner::Counters(members) => show_counters::<D>(cx, page, name, members, payload)?,
+        Manner::Bytes => page.hex(name, payload)?,
     }
-    if is_each_by(manner) {
-        return Ok(Said::Value);
-    }
-    show_manner::<D>(cx, page, name, manner, frame.value())?;
     Ok(Said::Named)
 }
 
