@@ -5,10 +5,11 @@ toolchain else chooses: one takes the least of the processors, and where these h
 With --by-rattle in the place of FOLDER it has the toolchain's own compiler make the static library, for x86-64, as
 out/libNAME.by-rattle.a: the gate makes programs a second time, and no library.
 
-It begins with what was kept here or in another checkout, as `rt check` does. It stands over the libraries that the
-gate left; where one lacks it takes them as `rt lib` built them of the same files, if it finds all. No command of the
-toolchain does this: `rt ci` proves a static library and does not build it, and leaves the libraries below without the
-stamp by which `rt lib` knows them; and nothing writes the text.
+It begins with what was kept here, as `rt check` does, and if the toolchain shares kept work between checkouts, with
+what was kept there. It stands over the libraries that the gate left; where one lacks it takes them as `rt lib` built
+them of the same files, if it finds all. No command of the toolchain does this: `rt ci` proves a static library and does
+not build it, and leaves the libraries below without the stamp by which `rt lib` knows them; and nothing writes the
+text.
 """
 
 import importlib.machinery
@@ -135,6 +136,11 @@ def write_text(command, crate, arch, to, jobs):
     return 0
 
 
+def shares(command):
+    """Whether this toolchain shares what was kept between the checkouts of a machine."""
+    return all(hasattr(command, it) for it in ("places_of", "take_rlib", "adopt", "offer"))
+
+
 def take_libraries(command, crate):
     """Takes what `rt lib` built of the libraries below, here or in another checkout, where one is not in its out/ and
     all are to be had: one that is taken from elsewhere does not go with those that are there."""
@@ -157,9 +163,11 @@ def main(to, *jobs):
     here = os.getcwd()
     crates = command.rtlib.crates_below(os.path.dirname(os.path.dirname(here)))
     (crate,) = [it for it in crates if it.folder == here]
-    take_libraries(command, crate)
+    if shares(command):
+        take_libraries(command, crate)
     crate.held = command.rtlib.lock([crate])
-    command.adopt(crate)
+    if shares(command):
+        command.adopt(crate)
     os.makedirs("out", exist_ok=True)
     stamp = crate.stamp()
     jobs = [word for it in jobs for word in ("--jobs", it)]
@@ -167,7 +175,8 @@ def main(to, *jobs):
         status = build(command, crate, "rattle", f"{command.KIT}/toolchain", jobs, f"out/lib{crate.name}.by-rattle.a")
     else:
         status = next(filter(None, (write_text(command, crate, arch, to, jobs) for arch in targets())), 0)
-    command.offer(crate, None if status else stamp)
+    if shares(command):
+        command.offer(crate, None if status else stamp)
     return status
 
 
