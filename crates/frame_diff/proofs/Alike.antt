@@ -4,28 +4,24 @@ use Rattle.std.proofs.Common.{map}
 use Rattle.std.specs.Prelude.{Option, Some, None, cond, option_map}
 use Rattle.shown.specs.Drafts.{Draft, Members, with_members}
 use Rattle.frame_shown.specs.Items.{objects}
-use Rattle.frame_shown.specs.Kept.{frame_members}
 use Rattle.frame_shown.specs.declared.form.Around.{Around}
 use Rattle.frame_diff.specs.Differences.{is_shown_same}
 use Rattle.frame_diff.specs.Forests.{Forest, Held, Member, Step, comes, field_step, find, forest, is_step}
 use Rattle.frame_diff.specs.Forests.{is_text}
 use Rattle.frame_diff.specs.Groups.{IsSameEntry, entry_held, list_held}
 use Rattle.frame_diff.specs.Items.{items_told, joined, leaf_items, turned_item}
-use Rattle.frame_diff.specs.Members.{fields, named}
+use Rattle.frame_diff.specs.Members.{named}
 use Rattle.frame_diff.specs.Rows.{first_row, have_same_names, row_beside, row_shown, rows_beside}
-use Rattle.frame_diff.specs.Values.{IsSameKept, kept_forest, kept_members}
 use Rattle.frame_diff.specs.Walked.{AreBeside, Holding, HoldsApart, Showing, held_items, last_items}
-use Rattle.frame_diff.specs.declared.kept.Kept.{Kept}
 use Rattle.frame_diff.specs.declared.rows.Row.{Row}
 use Rattle.frame_diff.specs.declared.side.Side.{Side}
 use Rattle.frame_diff.specs.declared.side.Side.TheVariants.{Old, New}
 use Rattle.frame_diff.specs.declared.walk.Attributes.{Attributes}
-use Rattle.frame_diff.proofs.Apart.{fields_apart}
 use Rattle.frame_diff.proofs.Beside.{found_last, last_at, or_else}
 use Rattle.frame_diff.proofs.Classes.{above_apart}
 use Rattle.frame_diff.proofs.Steps.{and_left, and_right, step_is, text_same}
 use Rattle.frame_diff.proofs.There.{last_kept}
-use Rattle.frame_diff.proofs.Walked.{held_same, last_further, tree_same}
+use Rattle.frame_diff.proofs.Walked.{held_same, last_further}
 
 -- ** a list with the rows and the bytes of another one
 
@@ -48,22 +44,6 @@ module _ (nest : Showing) (inner : Holding) (apart : HoldsApart inner) (is_state
       (option_map (list_held nest inner is_state) beside))) page
   entry_silent side text own beside page alike same =
       sym (ap (λ os. with_members (objects os) page) (entry_same side text own beside alike same))
-
--- ** one that is kept, beside one that says the same
-
-kept_same : (side : Side) (text : List ℕ) (own : Kept) (beside : Option Kept) → IsSameKept own beside
-    → items_told side text (fields (kept_members own)) (kept_forest beside) ≡ []
-kept_same side text own None same = absurd same
-kept_same side text own (Some k) same =
-    (λ i. items_told side text (fields (kept_members own))
-    (fields (frame_members (sym same.1 i) (same.0 i) (sym same.2 i))))
-    ∙ tree_same side text (fields (kept_members own)) (fields_apart (kept_members own))
-
-pub kept_silent : (side : Side) (text : List ℕ) (own : Kept) (beside : Option Kept) (page : Draft)
-    → IsSameKept own beside
-    → page ≡ with_members (objects (items_told side text (fields (kept_members own)) (kept_forest beside))) page
-kept_silent side text own beside page same =
-    sym (ap (λ os. with_members (objects os) page) (kept_same side text own beside same))
 
 -- ** records with the same names
 

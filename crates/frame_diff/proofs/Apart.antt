@@ -42,8 +42,10 @@ use Rattle.frame_diff.specs.Members.{is_some}
 use Rattle.frame_diff.specs.Members.{kept_by, kept_in, list_at, list_members, meaning_inside, members_in}
 use Rattle.frame_diff.specs.Members.{message_forest, message_members, named, named_by, named_in, placed, placed_one}
 use Rattle.frame_diff.specs.Members.{Parts, places, reading, refused_in, refused_step, unless_none, way_inside}
+use Rattle.frame_diff.specs.Members.{kept_inside, kept_with, others_at, list_by}
 use Rattle.frame_diff.specs.declared.keys.Key.{Key}
 use Rattle.frame_diff.specs.declared.labels.Label.{Label}
+use Rattle.frame_diff.specs.declared.keys.Key.TheVariants as Keys
 use Rattle.frame_shown.specs.Items.{Lists}
 
 -- ** those of a list of members
@@ -150,8 +152,8 @@ inside_apart hs inside h = by (are_plain hs)
     by true = tt
     by false = h
 
-list_apart : (s : Step) (hs : List (Option Held)) → HeldApart hs → AllApart (list_at s hs)
-list_apart s hs h = unless_apart s _ (places hs) (places_apart hs h)
+list_apart : (s : Step) (hs : List (Option Held)) (inside : Forest) → AreApart inside → AllApart (list_by s hs inside)
+list_apart s hs inside h = unless_apart s _ inside h
 
 -- ** those of a payload
 
@@ -263,8 +265,13 @@ kept_by_apart passed cx row f = by (is_kept row.1 f.payload) passed
 
 kept_in_apart : (r : Reading) (list : Shape) (fs : List Frame) → HeldApart (kept_in r list fs)
 kept_in_apart r list fs =
-    each_held (λ f. kept_by (is_passed r.is_state list (number f)) r.around (row_in r.around list (number f)) f) fs
+    each_held (kept_with r list) fs
     (λ f. kept_by_apart (is_passed r.is_state list (number f)) r.around (row_in r.around list (number f)) f)
+
+kept_inside_apart : (r : Reading) (list : Shape) (fs : List Frame) → AreApart (kept_inside r list fs)
+kept_inside_apart r list fs =
+    each_apart_inside (Some Keys.Number) (numbers_by (λ f. Some (number f)) (kept_with r list) fs) (kept_in r list fs)
+    (kept_in_apart r list fs)
 
 value_with_apart : (r : Reading) (list : Shape) (n : ℕ) → InnerApart r.inner → (f : Frame)
     → HeldApart (value_with r list n f)
@@ -305,11 +312,12 @@ members_apart : (r : Reading) (list : Shape) (fs : List Frame) → InnerApart r.
 members_apart r list fs h =
     let ms = named_in r list fs in
     let lists = arrays_in r list fs in
-    append_apart (ms ++ lists ++ list_at Step.repeated (earlier ms)) (list_at Step.other (kept_in r list fs))
+    append_apart (ms ++ lists ++ list_at Step.repeated (earlier ms)) (others_at Step.other r list fs)
     (append_apart (ms ++ lists) (list_at Step.repeated (earlier ms))
     (append_apart ms lists (named_in_apart r list fs h) (arrays_apart r list (lists_in r.around list) fs h))
-    (list_apart Step.repeated (earlier ms) (earlier_apart ms (named_in_apart r list fs h))))
-    (list_apart Step.other (kept_in r list fs) (kept_in_apart r list fs))
+    (list_apart Step.repeated (earlier ms) (places (earlier ms))
+    (places_apart (earlier ms) (earlier_apart ms (named_in_apart r list fs h)))))
+    (list_apart Step.other (kept_in r list fs) (kept_inside r list fs) (kept_inside_apart r list fs))
 
 values_apart : (ms : List Member) → AllApart ms → HeldApart (map (λ (m : Member). Some m.1) ms)
 values_apart [] h = tt
@@ -335,7 +343,7 @@ list_members_apart r (Shapes.Listed group table) fs h = (
       (places_apart (map (λ (m : Member). Some m.1) (named_in r (Shapes.Listed group table) fs))
       (values_apart (named_in r (Shapes.Listed group table) fs) (named_in_apart r (Shapes.Listed group table) fs h))),
   list_apart (rest_step (codes "other")) (kept_in r (Shapes.Listed group table) fs)
-      (kept_in_apart r (Shapes.Listed group table) fs),
+      (kept_inside r (Shapes.Listed group table) fs) (kept_inside_apart r (Shapes.Listed group table) fs),
 )
 list_members_apart r (Shapes.Entries group) fs h =
     let list = Shapes.Entries group in

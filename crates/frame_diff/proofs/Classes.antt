@@ -1,7 +1,6 @@
 -- Lists of one class hold no member of another one.
 use Rattle.std.proofs.Common.{◌≡◌, ℕ, Bool, true, false, List, [], ◌∷◌, ◌++◌, refl, sym, ap, ◌∙◌}
 use Rattle.std.specs.Prelude.{Option, Some, None, ◌&&◌, codes, map, not}
-use Rattle.json.specs.Token.{Token}
 use Rattle.nla_wire.specs.Frames.{Frame}
 use Rattle.nla_wire.specs.Items.{items}
 use Rattle.link_info.specs.Tables.{frames_in}
@@ -16,7 +15,7 @@ use Rattle.frame_diff.specs.Groups.{is_group}
 use Rattle.frame_diff.specs.Inside.{HoldsNoField, above, has_none, inside_list, is_of_object}
 use Rattle.frame_diff.specs.Items.{items_told}
 use Rattle.frame_diff.specs.Members.{Reading, earlier, group_of, is_some, kept_in, list_at, list_members, arrays_in}
-use Rattle.frame_diff.specs.Members.{arrays_of, members_in, named_in, places, unless_none}
+use Rattle.frame_diff.specs.Members.{arrays_of, members_in, named_in, places, kept_inside, others_at, list_by}
 use Rattle.frame_diff.specs.Repeated.{members_at}
 use Rattle.frame_diff.specs.Walked.{Holding, HoldsApart, Showing, reading_at}
 use Rattle.frame_diff.specs.declared.side.Side.{Side}
@@ -55,13 +54,11 @@ object_not_part s Step.other h k = absurd cc
 
 -- ** members of a list
 
-pub list_steps : (P : Step → Type 0) (s : Step) (hs : List (Option Held)) → P s → AreAt P (list_at s hs)
-list_steps P s hs is = by _ (places hs)
-  where
-    by : (v : List Token) (f : Forest) → AreAt P (unless_none s v f)
-    by v Forest.none = tt
-    by v Forest.passed = tt
-    by v (Forest.tree a b c d) = (is, tt)
+pub list_steps : (P : Step → Type 0) (s : Step) (hs : List (Option Held)) (inside : Forest) → P s
+    → AreAt P (list_by s hs inside)
+list_steps P s hs Forest.none is = tt
+list_steps P s hs Forest.passed is = tt
+list_steps P s hs (Forest.tree a b c d) is = (is, tt)
 
 names_of_object : (ms : List Member) → AreNames ms → AreAt IsOfObject ms
 names_of_object [] names = tt
@@ -75,12 +72,12 @@ pub members_of_object : (r : Reading) (list : Shape) (fs : List Frame) → AreAt
 members_of_object r list fs =
     let ms = named_in r list fs in
     let lists = arrays_in r list fs in
-    append_at IsOfObject (ms ++ lists ++ list_at Step.repeated (earlier ms)) (list_at Step.other (kept_in r list fs))
+    append_at IsOfObject (ms ++ lists ++ list_at Step.repeated (earlier ms)) (others_at Step.other r list fs)
     (append_at IsOfObject (ms ++ lists) (list_at Step.repeated (earlier ms))
     (append_at IsOfObject ms lists (names_of_object ms (named_names r list fs))
     (arrays_of_object lists (arrays_arrays r list (lists_in r.around list) fs)))
-    (list_steps IsOfObject Step.repeated (earlier ms) refl))
-    (list_steps IsOfObject Step.other (kept_in r list fs) refl)
+    (list_steps IsOfObject Step.repeated (earlier ms) (places (earlier ms)) refl))
+    (list_steps IsOfObject Step.other (kept_in r list fs) (kept_inside r list fs) refl)
 
 pub object_members : (r : Reading) (list : Shape) (fs : List Frame) → is_group list ≡ false
     → list_members r list fs ≡ members_in r list fs
@@ -125,8 +122,11 @@ no_field_in r (Shapes.Listed group table) fs name =
     let list = Shapes.Listed group table in
     let s = field_step name in
     find_left s (is_some fs) (list_members r list fs)
-    ∙ find_none s (list_members r list fs) (none_at s (list_members r list fs)
-    (refl, list_steps (λ t. is_step t s ≡ false) (rest_step (codes "other")) (kept_in r list fs) refl))
+    ∙ find_none s (list_members r list fs) (none_at s (list_members r list fs) (
+      refl,
+      list_steps (λ t. is_step t s ≡ false) (rest_step (codes "other")) (kept_in r list fs)
+          (kept_inside r list fs) refl,
+    ))
 no_field_in r (Shapes.Entries group) fs name = refl
 no_field_in r (Shapes.Message family) fs name =
     none_in_object r (Shapes.Message family) fs (field_step name) refl refl
@@ -163,7 +163,7 @@ without : (r : Reading) (list : Shape) (fs : List Frame)
 without r (Shapes.Listed group table) fs =
     let hs = map (λ (m : Member). Some m.1) (named_in r (Shapes.Listed group table) fs) in
     forest_some (group_of (values_step (group_name group)) hs (places hs))
-    (list_at (rest_step (codes "other")) (kept_in r (Shapes.Listed group table) fs))
+    (others_at (rest_step (codes "other")) r (Shapes.Listed group table) fs)
 without r (Shapes.Entries group) fs = refl
 without r (Shapes.Message family) [] = refl
 without r (Shapes.Message family) (f ∷ fs) = left_some (list_members r (Shapes.Message family) (f ∷ fs))
@@ -200,7 +200,7 @@ group_lacks r (Shapes.Listed group table) fs s is of =
     none_at s (list_members r (Shapes.Listed group table) fs) (
       part_apart 2 (group_name group) s of,
       list_steps (λ t. is_step t s ≡ false) (rest_step (codes "other")) (kept_in r (Shapes.Listed group table) fs)
-          (part_apart 3 (codes "other") s of),
+          (kept_inside r (Shapes.Listed group table) fs) (part_apart 3 (codes "other") s of),
     )
 group_lacks r (Shapes.Entries group) fs s is of =
     none_at s (list_members r (Shapes.Entries group) fs) (part_apart 1 (group_name group) s of, tt)

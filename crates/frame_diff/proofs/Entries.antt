@@ -1,7 +1,7 @@
--- Attributes that are kept as they are: what they tell at their places.
+-- Attributes that are kept as they are: what they tell at their labels; and values at their places.
 use Rattle.std.proofs.Common.{◌≡◌, ℕ, zero, suc, ◌+◌, ◌*◌, ◌<◌, ◌≤◌, Bool, true, false, List, [], ◌∷◌, ◌++◌, refl}
-use Rattle.std.proofs.Common.{sym, ap, ◌∙◌, Ok, arith, eqb-true, eq-eqb}
-use Rattle.std.specs.Prelude.{Option, Some, None, ◌==◌, cond, decimal, option_map}
+use Rattle.std.proofs.Common.{sym, ap, ◌∙◌, Ok, arith, eqb-true, eq-eqb, map}
+use Rattle.std.specs.Prelude.{Option, Some, None, ◌==◌, cond}
 use Rattle.std.proofs.lemmas.List.{map-append}
 use Rattle.std.proofs.lemmas.List.Sums.{fold-append}
 use Rattle.json.specs.Token.{Token}
@@ -11,24 +11,23 @@ use Rattle.link_info.specs.Tables.{frames_in}
 use Rattle.shown.specs.Drafts.{Draft, Members, object_of, with_members, with_value}
 use Rattle.frame_shown.specs.Items.{objects}
 use Rattle.frame_shown.specs.Kept.{frame_members}
-use Rattle.frame_shown.specs.Tables.{row_in}
 use Rattle.frame_shown.specs.declared.form.Around.{Around}
 use Rattle.frame_shown.specs.declared.form.List.{List as Shape}
-use Rattle.frame_shown.proofs.Items.{on_next}
-use Rattle.frame_diff.specs.Counters.{is_passed}
 use Rattle.frame_diff.specs.Differences.{inside_in}
 use Rattle.frame_diff.specs.Forests.{Forest, Held, Step, comes, find, forest}
-use Rattle.frame_diff.specs.Items.{items_told, joined}
-use Rattle.frame_diff.specs.Members.{as_object, fields, kept_by, placed, places}
-use Rattle.frame_diff.specs.Values.{IsKeptBeside, KeepsOnAt, entry_held, entry_items, has_place, kept_among, kept_at}
-use Rattle.frame_diff.specs.Values.{kept_from, kept_members, kept_of, more_by, nth}
-use Rattle.frame_diff.specs.Walked.{held_items}
+use Rattle.frame_diff.specs.Items.{items_told}
+use Rattle.frame_diff.specs.Keys.{key_name}
+use Rattle.frame_diff.specs.Labels.{label_step, label_text}
+use Rattle.frame_diff.specs.Members.{as_object, fields, placed}
+use Rattle.frame_diff.specs.Values.{IsSameKept, entry_held, kept_among, kept_members, kept_one, nth, numbers_among}
+use Rattle.frame_diff.specs.Walked.{held_items, step_items}
 use Rattle.frame_diff.specs.declared.kept.Entry.{Entry}
-use Rattle.frame_diff.specs.declared.kept.Entry.TheVariants as Entries
+use Rattle.frame_diff.specs.declared.kept.Kept.{Kept}
+use Rattle.frame_diff.specs.declared.keys.Key.TheVariants as Keys
+use Rattle.frame_diff.specs.declared.labels.Label.{Label}
 use Rattle.frame_diff.specs.declared.side.Side.{Side}
-use Rattle.frame_diff.specs.declared.walk.Attributes.{Attributes}
-use Rattle.frame_diff.proofs.Apart.{find_none}
-use Rattle.frame_diff.proofs.Walked.{last_further}
+use Rattle.frame_diff.proofs.Apart.{fields_apart, find_none}
+use Rattle.frame_diff.proofs.Walked.{tree_same}
 
 -- what was told, and then more
 pub both_told : (first more : List Members) (page middle new : Draft) → middle ≡ with_members (objects first) page
@@ -37,62 +36,6 @@ both_told first more page middle new was is =
     is ∙ ap (with_members (objects more)) was
     ∙ sym (fold-append (λ (p : Draft) m. with_value m.0 m.1 p) page (objects first) (objects more))
     ∙ ap (λ ms. with_members ms page) (sym (map-append (λ o. ([], object_of o)) first more))
-
--- ** the one at a place
-
-nth_none : (k : ℕ) → nth k [] ≡ None
-nth_none zero = refl
-nth_none (suc k) = refl
-
-first_held : (e : Entry) (hs : List (Option Held)) → (e ≡ Entries.Named → hs ≡ [])
-    → nth 0 (entry_held e ++ hs) ≡ option_map (λ k. as_object (kept_members k)) (kept_of e)
-first_held Entries.Named hs empty = ap (nth 0) (empty refl)
-first_held Entries.Passed hs empty = refl
-first_held (Entries.Kept k) hs empty = refl
-
-later_held : (e : Entry) (k : ℕ) (hs : List (Option Held)) → (e ≡ Entries.Named → hs ≡ [])
-    → nth (suc k) (entry_held e ++ hs) ≡ nth k hs
-later_held Entries.Named k hs empty = ap (nth (suc k)) (empty refl) ∙ sym (ap (nth k) (empty refl) ∙ nth_none k)
-later_held Entries.Passed k hs empty = refl
-later_held (Entries.Kept j) k hs empty = refl
-
-more_place : (own : Entry) (n k : ℕ) → has_place own ≡ true → more_by own n + k ≡ n + suc k
-more_place Entries.Named n k h = absurd cc
-more_place Entries.Passed n k h = omega arith
-more_place (Entries.Kept j) n k h = omega arith
-
-pub kept_beside : (is_state : Bool) (others : Attributes) (n : ℕ) (there next : List ℕ) (own beside : Entry)
-    → has_place own ≡ true → KeepsOnAt is_state others n there
-    → kept_from is_state others there ≡ entry_held beside ++ kept_from is_state others next
-    → (beside ≡ Entries.Named → kept_from is_state others next ≡ [])
-    → IsKeptBeside is_state others n own beside × KeepsOnAt is_state others (more_by own n) next
-kept_beside is_state others n there next own beside placed goes cut ends =
-    let all = kept_at is_state others in
-    let rest = kept_from is_state others next in (
-      λ h. ap (λ k. nth k all) (omega arith) ∙ goes 0 ∙ ap (nth 0) cut ∙ first_held beside rest ends,
-      λ k. ap (λ j. nth j all) (more_place own n k placed) ∙ goes (suc k) ∙ ap (nth (suc k)) cut
-          ∙ later_held beside k rest ends,
-    )
-
-module _ (is_state : Bool) (cx : Around) (list : Shape) (f : Frame) (e : Entry) (it next : List Item)
-    (here : it ≡ Ok f ∷ next)
-    (looked : entry_held e ≡ kept_by (is_passed is_state list (number f)) cx (row_in cx list (number f)) f) where
-  pub kept_split : kept_among is_state cx list (frames_in it)
-      ≡ entry_held e ++ kept_among is_state cx list (frames_in next)
-  kept_split =
-      ap (λ xs. kept_among is_state cx list (frames_in xs)) here
-      ∙ ap (λ hs. hs ++ kept_among is_state cx list (frames_in next)) (sym looked)
-
-  -- one that has no place is passed over
-  pub no_place : (all : List (Option Held)) → has_place e ≡ false → kept_among is_state cx list (frames_in it) ≡ all
-      → kept_among is_state cx list (frames_in next) ≡ all
-  no_place all none was = ap (λ hs. hs ++ kept_among is_state cx list (frames_in next)) (sym (holds e none))
-      ∙ sym kept_split ∙ was
-    where
-      holds : (o : Entry) → has_place o ≡ false → entry_held o ≡ []
-      holds Entries.Named h = refl
-      holds Entries.Passed h = absurd cc
-      holds (Entries.Kept k) h = absurd cc
 
 -- ** places
 
@@ -139,7 +82,7 @@ found_place (Some held ∷ hs) n m k is =
         ap (λ b. cond b (Some held) (find (Step.place k) (forest (placed (m + 1) hs)))) other
         ∙ rest i (omega (arith, h))
 
--- ** what one tells at its place, and those behind it
+-- ** one that is kept, at its label
 
 object_told : (side : Side) (text : List ℕ) (v : List Token) (name : List ℕ) (kind : ℕ) (p : List ℕ)
     (beside : Option Held)
@@ -148,58 +91,49 @@ object_told : (side : Side) (text : List ℕ) (v : List Token) (name : List ℕ)
 object_told side text v [] kind p beside = refl
 object_told side text v (x ∷ name) kind p beside = refl
 
-entry_told : (side : Side) (text : List ℕ) (e : Entry) (n : ℕ) (hs gs : List (Option Held))
-    → items_told side text (forest (placed n (entry_held e ++ hs))) (places gs)
-    ≡ entry_items side text n gs e ++ items_told side text (forest (placed (more_by e n) hs)) (places gs)
-entry_told side text Entries.Named n hs gs = refl
-entry_told side text Entries.Passed n hs gs = refl
-entry_told side text (Entries.Kept k) n hs gs =
-    let own : Held = as_object (kept_members k) in
-    let rest = items_told side text (forest (placed (n + 1) hs)) (places gs) in
-    last_further side text (places gs) (Step.place n, own) (placed (n + 1) hs)
-    ∙ ap (λ l. l ++ rest)
-    (ap (λ b. cond b [] (held_items side (joined text (decimal n)) own (find (Step.place n) (places gs))))
-    (later n (n + 1) (omega arith) hs)
-    ∙ object_told side (joined text (decimal n)) own.0 k.name.now k.kind k.payload.now
-    (find (Step.place n) (places gs))
-    ∙ ap (λ h. items_told side (joined text (decimal n)) (fields (kept_members k)) (inside_in h))
-    (found_place gs n 0 n (omega arith)))
+-- beside another one it tells what differs between both
+pub both_kept : (side : Side) (text : List ℕ) (l : Label) (own other : Kept)
+    → step_items side text (label_step Keys.Number l) (as_object (kept_members own))
+    (Some (as_object (kept_members other)))
+    ≡ items_told side (text ++ label_text (key_name Keys.Number) l) (fields (kept_members own))
+    (fields (kept_members other))
+both_kept side text l own other =
+    object_told side (text ++ label_text (key_name Keys.Number) l) (object_of (kept_members own)) own.name.now own.kind
+    own.payload.now (Some (as_object (kept_members other)))
 
-pub entry_next : (is_state : Bool) (cx : Around) (list : Shape) (f : Frame) (e : Entry) (it next : List Item)
-    → it ≡ Ok f ∷ next
-    → entry_held e ≡ kept_by (is_passed is_state list (number f)) cx (row_in cx list (number f)) f
-    → (theirs : Around) (shape : Shape) (gs : List Frame) (side : Side) (text : List ℕ) (n m : ℕ)
-    (page new all : Draft) → m ≡ more_by e n
-    → new ≡ with_members (objects (entry_items side text n (kept_among is_state theirs shape gs) e)) page
-    → with_members (objects (items_told side text
-    (forest (placed n (kept_among is_state cx list (frames_in it)))) (places (kept_among is_state theirs shape gs))))
-    page ≡ all
-    → with_members (objects (items_told side text
-    (forest (placed m (kept_among is_state cx list (frames_in next)))) (places (kept_among is_state theirs shape gs))))
-    new ≡ all
-entry_next is_state cx list f e it next here looked theirs shape gs side text n m page new all more then was =
-    let hs = kept_among is_state cx list (frames_in next) in
-    let others = kept_among is_state theirs shape gs in
-    let told = entry_items side text n others e in
-    let rest = items_told side text (forest (placed m hs)) (places others) in
-    on_next (objects (items_told side text (forest (placed n (kept_among is_state cx list (frames_in it))))
-    (places others))) (objects told) (objects rest) page new all
-    (ap (λ xs. objects (items_told side text (forest (placed n xs)) (places others)))
-    (kept_split is_state cx list f e it next here looked)
-    ∙ ap objects (entry_told side text e n hs others
-    ∙ ap (λ k. told ++ items_told side text (forest (placed k hs)) (places others)) (sym more))
-    ∙ map-append (λ o. ([], object_of o)) told rest)
-    was then
+kept_same : (side : Side) (text : List ℕ) (own other : Kept) → IsSameKept own other
+    → items_told side text (fields (kept_members own)) (fields (kept_members other)) ≡ []
+kept_same side text own other same =
+    (λ i. items_told side text (fields (kept_members own))
+    (fields (frame_members (sym same.1 i) (same.0 i) (sym same.2 i))))
+    ∙ tree_same side text (fields (kept_members own)) (fields_apart (kept_members own))
 
--- how many there are
-pub place_fits : (f : Frame) (e : Entry) (it next : List Item) → it ≡ Ok f ∷ next → (n m all : ℕ) → m ≡ more_by e n
-    → n + frame_count it ≤ all → m + frame_count next ≤ all
-place_fits f Entries.Named it next here n m all is few =
-    let first : frame_count it ≡ 1 + frame_count next = ap frame_count here in omega (arith, first, is, few)
-place_fits f Entries.Passed it next here n m all is few =
-    let first : frame_count it ≡ 1 + frame_count next = ap frame_count here in omega (arith, first, is, few)
-place_fits f (Entries.Kept k) it next here n m all is few =
-    let first : frame_count it ≡ 1 + frame_count next = ap frame_count here in omega (arith, first, is, few)
+-- and nothing beside one that says the same
+pub kept_silent : (side : Side) (text : List ℕ) (l : Label) (own other : Kept) (page : Draft) → IsSameKept own other
+    → page ≡ with_members (objects (step_items side text (label_step Keys.Number l) (as_object (kept_members own))
+    (Some (as_object (kept_members other))))) page
+kept_silent side text l own other page same =
+    sym (ap (λ os. with_members (objects os) page) (both_kept side text l own other
+    ∙ kept_same side (text ++ label_text (key_name Keys.Number) l) own other same))
+
+-- ** those of a list, one after another
+
+module _ (is_state : Bool) (cx : Around) (list : Shape) (f : Frame) (e : Entry) (it next : List Item)
+    (here : it ≡ Ok f ∷ next) (looked : entry_held e ≡ kept_one is_state cx list f) where
+  pub kept_split : kept_among is_state cx list (frames_in it)
+      ≡ entry_held e ++ kept_among is_state cx list (frames_in next)
+  kept_split =
+      ap (λ xs. kept_among is_state cx list (frames_in xs)) here
+      ∙ ap (λ hs. hs ++ kept_among is_state cx list (frames_in next)) (sym looked)
+
+  pub numbers_split : numbers_among is_state cx list (frames_in it)
+      ≡ map (λ (h : Option Held). Some (number f)) (entry_held e) ++ numbers_among is_state cx list (frames_in next)
+  numbers_split =
+      ap (λ xs. numbers_among is_state cx list (frames_in xs)) here
+      ∙ ap (λ hs. map (λ (h : Option Held). Some (number f)) hs ++ numbers_among is_state cx list (frames_in next))
+      (sym looked)
+
+-- ** how many there are
 
 pub place_small : (f : Frame) (it next : List Item) → it ≡ Ok f ∷ next → (n all len : ℕ)
     → n + frame_count it ≤ all → 4 * all ≤ len → n + 1 ≤ len

@@ -1,6 +1,6 @@
 -- Lists of values beside each other, place by place.
 use Rattle.std.proofs.Common.{◌≡◌, ℕ, ◌+◌, ◌<◌, ◌≤◌, Bool, true, false, List, [], ◌∷◌, ◌++◌, refl, subst}
-use Rattle.std.proofs.Common.{sym, ap, ◌∙◌, Ok, append-nil, arith, eq-eqb, length, map, suc}
+use Rattle.std.proofs.Common.{sym, ap, ◌∙◌, Ok, append-nil, arith, eq-eqb, length, map}
 use Rattle.std.specs.Prelude.{IfSome, Option, Some, None, ◌==◌, ◌&&◌, ◌||◌, codes, cond, decimal, nat_lt, not}
 use Rattle.std.specs.Prelude.{option_map}
 use Rattle.std.specs.List.{flat_map}
@@ -34,24 +34,26 @@ use Rattle.frame_diff.specs.Groups.{next_place, picked, place_items, rest_by, re
 use Rattle.frame_diff.specs.Groups.{values_by, values_of}
 use Rattle.frame_diff.specs.Inside.{has_none}
 use Rattle.frame_diff.specs.Keys.{key_at, number_in}
-use Rattle.frame_diff.specs.Labels.{label_step, labelled, labels_behind, labels_of}
+use Rattle.frame_diff.specs.Labels.{label_step, labelled, labels_of, keyed}
 use Rattle.frame_diff.specs.Items.{further, items_told, joined, leaf_items, step_text}
 use Rattle.frame_diff.specs.Members.{Reading, entries_in, entry_of, frame_member, group_of, held_by, is_some}
 use Rattle.frame_diff.specs.Members.{inside_of, numbers_by, values_with}
-use Rattle.frame_diff.specs.Members.{kept_in, list_at, list_members, named_by, named_in, placed, placed_one, places}
-use Rattle.frame_diff.specs.Members.{are_plain, is_nested, value_in, values_inside}
-use Rattle.frame_diff.specs.Values.{kept_among, listed_shown}
-use Rattle.frame_diff.specs.Walked.{Holding, Showing, held_items, reading_at}
+use Rattle.frame_diff.specs.Members.{kept_in, list_members, named_by, named_in, placed, placed_one, places}
+use Rattle.frame_diff.specs.Members.{are_plain, is_nested, value_in, values_inside, kept_inside, others_at, list_by}
+use Rattle.frame_diff.specs.Values.{kept_among, listed_shown, numbers_among}
+use Rattle.frame_diff.specs.Walked.{Holding, Showing, held_items, reading_at, step_items}
 use Rattle.frame_diff.specs.declared.keys.Key.{Key}
 use Rattle.frame_diff.specs.declared.labels.Label.{Label}
 use Rattle.frame_diff.specs.declared.side.Side.{Side}
 use Rattle.frame_diff.specs.declared.walk.Attribute.{Attribute}
 use Rattle.frame_diff.specs.declared.walk.Attributes.{Attributes}
+use Rattle.frame_diff.specs.declared.keys.Key.TheVariants as Keys
 use Rattle.frame_diff.proofs.Apart.{find_none}
 use Rattle.frame_diff.proofs.Classes.{list_steps, none_in_object}
 use Rattle.frame_diff.proofs.Entries.{below, later}
 use Rattle.frame_diff.proofs.Inside.{AreAt, forest_all, forest_some, same_told, same_written}
 use Rattle.frame_diff.proofs.Nested.{text_flat}
+use Rattle.frame_diff.proofs.Numbered.{labels_long, numbers_long}
 use Rattle.frame_diff.proofs.Parts.{find_back, list_lacks, list_told}
 use Rattle.frame_diff.proofs.Walked.{last_further}
 use Rattle.frame_diff.proofs.Values.{texts_are, values_agree}
@@ -222,10 +224,6 @@ placed_some n (None ∷ hs) some = placed_some (n + 1) hs some
 placed_some n (Some h ∷ hs) some = forest_some (Step.place n, h) (placed (n + 1) hs)
 
 -- each of the others at its label
-labels_long : (before ns : List (Option ℕ)) → length (labels_behind before ns) ≡ length ns
-labels_long before [] = refl
-labels_long before (n ∷ ns) = ap (λ k. suc k) (labels_long (n ∷ before) ns)
-
 labelled_some : (key : Key) (ls : List Label) (hs : List (Option Held)) → length ls ≡ length hs
     → are_plain hs ≡ false → has_none (forest (labelled key ls hs)) ≡ false
 labelled_some key ls [] long some = absurd cc
@@ -267,18 +265,12 @@ picked_none r None Shapes.ProtoInet6 = refl
 picked_none r None Shapes.Refused = refl
 picked_none r None (Shapes.Info link port) = refl
 
-both_long : (n : Option ℕ) (hs gs : List (Option Held)) (ns : List (Option ℕ)) → length ns ≡ length gs
-    → length (map (λ (h : Option Held). n) hs ++ ns) ≡ length (hs ++ gs)
-both_long n [] gs ns long = long
-both_long n (h ∷ hs) gs ns long = ap (λ k. suc k) (both_long n hs gs ns long)
-
-numbers_long : (number_of : Frame → Option ℕ) (r : Reading) (picks : Option ℕ) (list : Shape) (fs : List Frame)
-    → length (numbers_by number_of (picked_by r picks list) fs) ≡ length (picked_values r picks list fs)
-numbers_long number_of r picks list [] = sym (ap length (picked_none r picks list))
-numbers_long number_of r picks list (f ∷ fs) =
-    both_long (number_of f) (picked_by r picks list f) (picked_values r picks list fs)
-    (numbers_by number_of (picked_by r picks list) fs) (numbers_long number_of r picks list fs)
-    ∙ sym (ap length (picked_further r picks list f fs))
+picked_flat : (r : Reading) (picks : Option ℕ) (list : Shape) (fs : List Frame)
+    → flat_map (picked_by r picks list) fs ≡ picked_values r picks list fs
+picked_flat r picks list [] = sym (picked_none r picks list)
+picked_flat r picks list (f ∷ fs) =
+    ap (λ hs. picked_by r picks list f ++ hs) (picked_flat r picks list fs)
+    ∙ sym (picked_further r picks list f fs)
 
 module _ (nest : Showing) (inner : Holding) (is_state : Bool) where
   pub group_plain : (a : Attributes)
@@ -287,7 +279,9 @@ module _ (nest : Showing) (inner : Holding) (is_state : Bool) where
       inside_plain (group_at nest inner is_state a) (group_inside nest inner is_state a)
       (inside_some (key_at a.number a.list) (numbers_at nest inner is_state a) (group_at nest inner is_state a)
       (numbers_long (number_in a.around.now (key_at a.number a.list) a.list)
-      (reading_at nest inner is_state a.around.now) a.number a.list (frames_in (items a.bytes.now))))
+      (picked_by (reading_at nest inner is_state a.around.now) a.number a.list) (frames_in (items a.bytes.now))
+      ∙ ap length (picked_flat (reading_at nest inner is_state a.around.now) a.number a.list
+      (frames_in (items a.bytes.now)))))
 
 -- as one value they are what is shown
 
@@ -380,24 +374,22 @@ all_held r list fs = group_by (group_values r list fs) (inside_of (key_at None l
 
 one_told : (side : Side) (text : List ℕ) (s : Step) (h : Held) (ms : List Member) (g : Forest) → comes s ms ≡ false
     → items_told side text (forest ((s, h) ∷ ms)) g
-    ≡ held_items side (further text s) h (find s g) ++ items_told side text (forest ms) g
+    ≡ step_items side text s h (find s g) ++ items_told side text (forest ms) g
 one_told side text s h ms g once =
     last_further side text g (s, h) ms
-    ∙ ap (λ b. cond b [] (held_items side (further text s) h (find s g))
-    ++ items_told side text (forest ms) g)
-    once
+    ∙ ap (λ b. cond b [] (step_items side text s h (find s g)) ++ items_told side text (forest ms) g) once
 
 pub listed_told : (side : Side) (text : List ℕ) (r : Reading) (list : Shape) (fs : List Frame) (g : Forest)
     → (is_group list && not (is_entries list)) ≡ true
     → items_told side text (inner_of r list fs) g
     ≡ held_items side (joined text (step_text (group_step list))) (all_held r list fs)
     (find (group_step list) g)
-    ++ items_told side text (forest (list_at rest_step_now (kept_in r list fs))) g
+    ++ items_told side text (forest (others_at rest_step_now r list fs)) g
 listed_told side text r (Shapes.Listed group table) fs g h =
     let list = Shapes.Listed group table in
     one_told side text (values_step (group_name group)) (all_held r list fs)
-    (list_at rest_step_now (kept_in r list fs)) g
-    (list_lacks (values_step (group_name group)) rest_step_now (kept_in r list fs) refl)
+    (others_at rest_step_now r list fs) g
+    (list_lacks (values_step (group_name group)) rest_step_now (kept_in r list fs) (kept_inside r list fs) refl)
 listed_told side text r (Shapes.Entries group) fs g h = absurd cc
 listed_told side text r (Shapes.Message family) fs g h = absurd cc
 listed_told side text r (Shapes.Own table) fs g h = absurd cc
@@ -438,9 +430,11 @@ module _ (r : Reading) where
   listed_found s group table fs same is other =
       let list = Shapes.Listed group table in
       let t = values_step (group_name group) in
-      let rest = list_at rest_step_now (kept_in r list fs) in
+      let hs = kept_in r list fs in
+      let inside = kept_inside r list fs in
+      let rest = list_by rest_step_now hs inside in
       one_found s t (all_held r list fs) rest same
-      (list_lacks t rest_step_now (kept_in r list fs) refl) (list_lacks s rest_step_now (kept_in r list fs) other) is
+      (list_lacks t rest_step_now hs inside refl) (list_lacks s rest_step_now hs inside other) is
 
   entries_found : (s : Step) (group : Group) (fs : List Frame) (same : Bool)
       → is_step (entries_step (group_name group)) s ≡ same
@@ -493,13 +487,13 @@ module _ (r : Reading) where
   group_beside (Shapes.Info link port) other fs h = absurd cc
 
   pub rest_there : (list : Shape) (fs : List Frame) → (is_group list && not (is_entries list)) ≡ true
-      → find rest_step_now (forest (list_at rest_step_now (kept_in r list fs)))
+      → find rest_step_now (forest (others_at rest_step_now r list fs))
       ≡ find rest_step_now (inner_of r list fs)
   rest_there (Shapes.Listed group table) fs h =
       let list = Shapes.Listed group table in
       sym (find_back rest_step_now
       (group_of (values_step (group_name group)) (group_values r list fs) (places (group_values r list fs)) ∷ [])
-      (list_at rest_step_now (kept_in r list fs)) refl)
+      (others_at rest_step_now r list fs) refl)
   rest_there (Shapes.Entries group) fs h = absurd cc
   rest_there (Shapes.Message family) fs h = absurd cc
   rest_there (Shapes.Own table) fs h = absurd cc
@@ -521,17 +515,17 @@ module _ (r : Reading) where
 
 -- ** those that are kept beside them
 
-pub kept_told : (side : Side) (text : List ℕ) (hs gs : List (Option Held)) (g : Forest)
-    → find rest_step_now (forest (list_at rest_step_now gs)) ≡ find rest_step_now g
-    → items_told side (joined text (codes "other")) (places hs) (places gs)
-    ≡ items_told side text (forest (list_at rest_step_now hs)) g
-kept_told side text hs gs g same =
-    sym (list_told side text rest_step_now hs gs)
-    ∙ same_told (λ s. s ≡ rest_step_now) side text (forest (list_at rest_step_now hs))
-    (forest (list_at rest_step_now gs)) g
-    (forest_all (λ s. s ≡ rest_step_now) (list_at rest_step_now hs)
-    (list_steps (λ s. s ≡ rest_step_now) rest_step_now hs refl))
-    (λ s is. ap (λ t. find t (forest (list_at rest_step_now gs))) is ∙ same ∙ ap (λ t. find t g) (sym is))
+pub kept_told : (side : Side) (text : List ℕ) (hs gs : List (Option Held)) (inside other g : Forest)
+    → find rest_step_now (forest (list_by rest_step_now gs other)) ≡ find rest_step_now g
+    → items_told side (joined text (codes "other")) inside other
+    ≡ items_told side text (forest (list_by rest_step_now hs inside)) g
+kept_told side text hs gs inside other g same =
+    let all = list_by rest_step_now hs inside in
+    let those = list_by rest_step_now gs other in
+    sym (list_told side text rest_step_now hs gs inside other refl)
+    ∙ same_told (λ s. s ≡ rest_step_now) side text (forest all) (forest those) g
+    (forest_all (λ s. s ≡ rest_step_now) all (list_steps (λ s. s ≡ rest_step_now) rest_step_now hs inside refl))
+    (λ s is. ap (λ t. find t (forest those)) is ∙ same ∙ ap (λ t. find t g) (sym is))
 
 -- ** the first of them
 
@@ -607,8 +601,10 @@ module _ (nest : Showing) (inner : Holding) (is_state : Bool) where
 pub none_kept : (is_state : Bool) (a : Attributes) → items a.bytes.now ≡ []
     → find rest_step_now (rest_forest is_state a) ≡ None
 none_kept is_state a none =
-    ap (λ xs. find rest_step_now (forest (list_at rest_step_now
-    (kept_among is_state a.around.now a.list (frames_in xs))))) none
+    let cx = a.around.now in
+    ap (λ xs. find rest_step_now (forest (list_by rest_step_now (kept_among is_state cx a.list (frames_in xs))
+    (keyed Keys.Number (numbers_among is_state cx a.list (frames_in xs))
+    (kept_among is_state cx a.list (frames_in xs)))))) none
 
 -- ** lists of values as one value
 

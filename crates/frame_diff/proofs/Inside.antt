@@ -10,10 +10,10 @@ use Rattle.frame_diff.specs.Differences.{inside_in, leaf_in}
 use Rattle.frame_diff.specs.Forests.{Forest, Held, Member, Step, comes, field_step, find, forest, is_step, is_text}
 use Rattle.frame_diff.specs.Forests.{left_of}
 use Rattle.frame_diff.specs.Inside.{has_none, is_field}
-use Rattle.frame_diff.specs.Items.{further, items_told, leaf_items, member_items}
+use Rattle.frame_diff.specs.Items.{items_told, leaf_items}
 use Rattle.frame_diff.specs.Members.{fields, named}
 use Rattle.frame_diff.specs.Rows.{row_shown}
-use Rattle.frame_diff.specs.Walked.{held_items}
+use Rattle.frame_diff.specs.Walked.{held_items, step_items}
 use Rattle.frame_diff.specs.declared.rows.Row.{Row}
 use Rattle.frame_diff.specs.declared.side.Side.{Side}
 use Rattle.frame_diff.proofs.Apart.{find_none}
@@ -36,9 +36,7 @@ pub same_told : (P : Step → Type 0) (side : Side) (text : List ℕ) (f g h : F
 same_told P side text Forest.none g h all same = refl
 same_told P side text Forest.passed g h all same = refl
 same_told P side text (Forest.tree s v i rest) g h all same =
-    let path = further text s in
-    (λ k. member_items side path v i (items_told side path i) (same s all.0 k)
-    ++ same_told P side text rest g h all.1 same k)
+    (λ k. step_items side text s (v, i) (same s all.0 k) ++ same_told P side text rest g h all.1 same k)
 
 pub forest_all : (P : Step → Type 0) (ms : List Member) → AreAt P ms → AreAll P (forest ms)
 forest_all P [] all = tt

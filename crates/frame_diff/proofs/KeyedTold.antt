@@ -1,6 +1,6 @@
 -- Lists whose values have labels, or places, beside each other.
 use Rattle.std.proofs.Common.{◌≡◌, ℕ, zero, suc, ◌+◌, ◌<◌, Bool, true, false, List, [], ◌∷◌, ◌++◌, refl, subst}
-use Rattle.std.proofs.Common.{sym, ap, ◌∙◌, arith, drop, get_or, length}
+use Rattle.std.proofs.Common.{sym, ap, ◌∙◌, arith, drop, get_or, length, map}
 use Rattle.std.specs.Prelude.{IfSome, Option, Some, None, ◌==◌, ◌&&◌, cond, option_and_then, option_map, slice_get}
 use Rattle.std.specs.List.{AllByRecursion, flat_map}
 use Rattle.std.proofs.lemmas.Bool.{ne_eqb}
@@ -15,12 +15,16 @@ use Rattle.frame_diff.specs.Forests.{Forest, Held, Member, Step, comes, find, fo
 use Rattle.frame_diff.specs.Forests.{is_step, is_text}
 use Rattle.frame_diff.specs.Groups.{group_at, group_held, group_inside, is_entries, numbers_at, picked_by}
 use Rattle.frame_diff.specs.Groups.{picked_values, value_at}
-use Rattle.frame_diff.specs.Items.{further, items_told}
-use Rattle.frame_diff.specs.Keyed.{AreIn, AreLabelled, FindsAt, IsIn, StandsFor, helds_now, labels_now, value_of}
+use Rattle.frame_diff.specs.Items.{items_told}
+use Rattle.frame_diff.specs.Keyed.{AreIn, AreKept, AreLabelled, FindsAt, IsIn, StandsFor, label_items, labels_now}
+use Rattle.frame_diff.specs.Keyed.{value_of, values_now}
 use Rattle.frame_diff.specs.Keys.{is_key, key_at, key_name, number_in}
-use Rattle.frame_diff.specs.Labels.{count, keyed, label_step, labelled, labels_behind, labels_of, place_of}
+use Rattle.frame_diff.specs.Labels.{at_step, count, keyed, label_step, labelled, labels_behind, labels_of, place_of}
 use Rattle.frame_diff.specs.Members.{are_plain, inside_of, numbers_by, placed, places}
+use Rattle.frame_diff.specs.Values.{kept_held, kept_inside_at, kept_numbers}
 use Rattle.frame_diff.specs.Walked.{AreBeside, HasNames, Holding, Showing, StandBeside, held_items, reading_at}
+use Rattle.frame_diff.specs.Walked.{step_items}
+use Rattle.frame_diff.specs.declared.kept.Kept.{Kept}
 use Rattle.frame_diff.specs.declared.keyed.Labelled.{Labelled}
 use Rattle.frame_diff.specs.declared.keys.Key.{Key}
 use Rattle.frame_diff.specs.declared.keys.Key.TheVariants as Keys
@@ -69,18 +73,27 @@ names_apart Keys.Vid Keys.Vid is = absurd cc
 names_apart Keys.Vid Keys.Msti is = refl
 names_apart Keys.Vid Keys.From is = refl
 names_apart Keys.Vid Keys.Vf is = refl
+names_apart Keys.Vid Keys.Number is = refl
 names_apart Keys.Msti Keys.Vid is = refl
 names_apart Keys.Msti Keys.Msti is = absurd cc
 names_apart Keys.Msti Keys.From is = refl
 names_apart Keys.Msti Keys.Vf is = refl
+names_apart Keys.Msti Keys.Number is = refl
 names_apart Keys.From Keys.Vid is = refl
 names_apart Keys.From Keys.Msti is = refl
 names_apart Keys.From Keys.From is = absurd cc
 names_apart Keys.From Keys.Vf is = refl
+names_apart Keys.From Keys.Number is = refl
 names_apart Keys.Vf Keys.Vid is = refl
 names_apart Keys.Vf Keys.Msti is = refl
 names_apart Keys.Vf Keys.From is = refl
 names_apart Keys.Vf Keys.Vf is = absurd cc
+names_apart Keys.Vf Keys.Number is = refl
+names_apart Keys.Number Keys.Vid is = refl
+names_apart Keys.Number Keys.Msti is = refl
+names_apart Keys.Number Keys.From is = refl
+names_apart Keys.Number Keys.Vf is = refl
+names_apart Keys.Number Keys.Number is = absurd cc
 
 no_place : (key : Key) (ns : List (Option ℕ)) (hs : List (Option Held)) (n : ℕ)
     → find (Step.place n) (keyed key ns hs) ≡ None
@@ -239,143 +252,226 @@ same_turned l m = by (is_same_label l m) (is_same_label m l) refl refl
 
 -- ** values at their labels
 
-module _ (nest : Showing) (inner : Holding) (is_state : Bool) (key : Key) where
-  abbrev value : Attribute → Held
-  value a = value_at nest inner is_state a
+module _ {X : Type 0} (key : Key) (value : X → Option Held) where
+  abbrev pub members : List (Labelled X) → List Member
+  members vs = labelled key (labels_now vs) (map value (values_now vs))
 
-  abbrev members : List Labelled → List Member
-  members vs = labelled key (labels_now vs) (helds_now nest inner is_state vs)
-
-  members_lack : (l : Label) (vs : List Labelled)
+  members_lack : (l : Label) (vs : List (Labelled X))
       → AllByRecursion (λ m. is_same_label m l ≡ false) (labels_now vs) → comes (label_step key l) (members vs) ≡ false
   members_lack l [] apart = refl
-  members_lack l (v ∷ vs) apart =
-      (λ k. cond (is_text (key_name key) (key_name key) && apart.0 k) true (comes (label_step key l) (members vs)))
-      ∙ ap (λ b. cond b true (comes (label_step key l) (members vs)))
-      (and_false (is_text (key_name key) (key_name key)))
-      ∙ members_lack l vs apart.1
+  members_lack l (v ∷ vs) apart = by (value v.value) (members_lack l vs apart.1)
     where
       and_false : (b : Bool) → (b && false) ≡ false
       and_false true = refl
       and_false false = refl
 
-  value_later : (v : Labelled) (vs : List Labelled) (place : Option ℕ)
+      by : (h : Option Held) → comes (label_step key l) (members vs) ≡ false
+          → comes (label_step key l) (at_step (label_step key v.label) h ++ members vs) ≡ false
+      by None later = later
+      by (Some held) later =
+          (λ k. cond (is_text (key_name key) (key_name key) && apart.0 k) true (comes (label_step key l) (members vs)))
+          ∙ ap (λ b. cond b true (comes (label_step key l) (members vs)))
+          (and_false (is_text (key_name key) (key_name key)))
+          ∙ later
+
+  value_later : (v : Labelled X) (vs : List (Labelled X)) (place : Option ℕ)
       → option_and_then (λ n. slice_get vs n) place
       ≡ option_and_then (λ n. slice_get (v ∷ vs) n) (option_map suc place)
   value_later v vs None = refl
   value_later v vs (Some n) = refl
 
-  label_found : (l : Label) (vs : List Labelled) → AreDistinct (labels_now vs)
-      → find (label_step key l) (forest (members vs)) ≡ option_map value (value_of l vs)
+  first_found : (l m : Label) (h : Option Held) (ms : List Member) → comes (label_step key m) ms ≡ false
+      → find (label_step key l) (forest (at_step (label_step key m) h ++ ms))
+      ≡ cond (is_same_label l m) h (find (label_step key l) (forest ms))
+  first_found l m None ms none = by (is_same_label l m) refl
+    where
+      by : (b : Bool) → is_same_label l m ≡ b
+          → find (label_step key l) (forest ms) ≡ cond b None (find (label_step key l) (forest ms))
+      by true is =
+          ap (λ n. find (label_step key n) (forest ms)) (label_same l m is) ∙ find_none (label_step key m) ms none
+      by false is = refl
+  first_found l m (Some held) ms none =
+      (λ k. find (label_step key l) (cond (none k) (forest ms)
+      (Forest.tree (label_step key m) held.0 held.1 (forest ms))))
+      ∙ (λ k. cond (text_is (key_name key) k && same_turned m l k) (Some held) (find (label_step key l) (forest ms)))
+
+  label_found : (l : Label) (vs : List (Labelled X)) → AreDistinct (labels_now vs)
+      → find (label_step key l) (forest (members vs)) ≡ option_and_then value (value_of l vs)
   label_found l [] apart = refl
   label_found l (v ∷ vs) apart =
-      (λ k. find (label_step key l) (cond (members_lack v.label vs apart.0 k) (forest (members vs))
-      (Forest.tree (label_step key v.label) (value v.value).0 (value v.value).1 (forest (members vs)))))
-      ∙ (λ k. cond (text_is (key_name key) k && same_turned v.label l k) (Some (value v.value))
-      (label_found l vs apart.1 k))
-      ∙ by (is_same_label l v.label)
+      first_found l v.label (value v.value) (members vs) (members_lack v.label vs apart.0)
+      ∙ by (is_same_label l v.label) (label_found l vs apart.1)
     where
-      by : (b : Bool) → cond b (Some (value v.value)) (option_map value (value_of l vs))
-          ≡ option_map value (option_map (λ (w : Labelled). w.value) (option_and_then (λ n. slice_get (v ∷ vs) n)
-          (cond b (Some 0) (option_map suc (place_of l (labels_now vs))))))
-      by true = refl
-      by false = ap (λ o. option_map value (option_map (λ (w : Labelled). w.value) o))
+      by : (b : Bool) → find (label_step key l) (forest (members vs)) ≡ option_and_then value (value_of l vs)
+          → cond b (value v.value) (find (label_step key l) (forest (members vs)))
+          ≡ option_and_then value (option_map (λ (w : Labelled X). w.value)
+          (option_and_then (λ n. slice_get (v ∷ vs) n) (cond b (Some 0) (option_map suc (place_of l (labels_now vs))))))
+      by true later = refl
+      by false later = later
+          ∙ ap (λ o. option_and_then value (option_map (λ (w : Labelled X). w.value) o))
           (value_later v vs (place_of l (labels_now vs)))
 
   module _ (side : Side) (text : List ℕ) where
     -- what one tells beside another one
-    abbrev pub one_told : Labelled → Option Held → List Members
-    one_told v beside = held_items side (further text (label_step key v.label)) (value v.value) beside
+    abbrev pub one_told : Labelled X → Option Held → List Members
+    one_told v beside = label_items side text (label_step key v.label) (value v.value) beside
 
-    each_told : (vs : List Labelled) (g : Forest) → AreDistinct (labels_now vs)
+    each_told : (vs : List (Labelled X)) (g : Forest) → AreDistinct (labels_now vs)
         → items_told side text (forest (members vs)) g
         ≡ flat_map (λ v. one_told v (find (label_step key v.label) g)) vs
     each_told [] g apart = refl
-    each_told (v ∷ vs) g apart =
-        last_further side text g (label_step key v.label, value v.value) (members vs)
-        ∙ (λ k. cond (members_lack v.label vs apart.0 k) [] (one_told v (find (label_step key v.label) g))
-        ++ each_told vs g apart.1 k)
+    each_told (v ∷ vs) g apart = by (value v.value) (each_told vs g apart.1)
+      where
+        s : Step
+        s = label_step key v.label
 
-    found_told : (vs ws : List Labelled) → AreDistinct (labels_now ws)
+        rest : List Members
+        rest = flat_map (λ v. one_told v (find (label_step key v.label) g)) vs
+
+        by : (h : Option Held) → items_told side text (forest (members vs)) g ≡ rest
+            → items_told side text (forest (at_step s h ++ members vs)) g
+            ≡ label_items side text s h (find s g) ++ rest
+        by None later = later
+        by (Some held) later =
+            last_further side text g (s, held) (members vs)
+            ∙ (λ k. cond (members_lack v.label vs apart.0 k) [] (step_items side text s held (find s g)) ++ later k)
+
+    found_told : (vs ws : List (Labelled X)) → AreDistinct (labels_now ws)
         → flat_map (λ v. one_told v (find (label_step key v.label) (forest (members ws)))) vs
-        ≡ flat_map (λ v. one_told v (option_map value (value_of v.label ws))) vs
+        ≡ flat_map (λ v. one_told v (option_and_then value (value_of v.label ws))) vs
     found_told [] ws apart = refl
     found_told (v ∷ vs) ws apart = (λ k. one_told v (label_found v.label ws apart k) ++ found_told vs ws apart k)
 
     -- of all of them, each beside the one with its label
-    abbrev pub all_told : List Labelled → List Labelled → List Members
-    all_told ws vs = flat_map (λ v. one_told v (option_map value (value_of v.label ws))) vs
+    abbrev pub all_told : List (Labelled X) → List (Labelled X) → List Members
+    all_told ws vs = flat_map (λ v. one_told v (option_and_then value (value_of v.label ws))) vs
 
-    members_are : (a : Attributes) (vs : List Labelled) → key_at a.number a.list ≡ Some key
-        → AreLabelled is_state a labels_of vs → inside nest inner is_state a ≡ forest (members vs)
-    members_are a vs is are =
-        ap (λ k. inside_of k (numbers nest inner is_state a) (values nest inner is_state a)) is
-        ∙ (λ k. forest (labelled key (sym (are.1 nest inner).0 k) (sym (are.1 nest inner).1 k)))
-
-    pub distinct_now : (a : Attributes) (vs : List Labelled) → AreLabelled is_state a labels_of vs
-        → AreDistinct (labels_now vs)
-    distinct_now a vs are =
-        subst AreDistinct (sym (are.1 nest inner).0) (labels_apart [] (numbers nest inner is_state a))
-
-    pub keyed_told : (own others : Attributes) (vs ws : List Labelled) → key_at own.number own.list ≡ Some key
-        → key_at others.number others.list ≡ Some key → AreLabelled is_state own labels_of vs
-        → AreLabelled is_state others labels_of ws
-        → items_told side text (inside nest inner is_state own) (inside nest inner is_state others) ≡ all_told ws vs
-    keyed_told own others vs ws is same are found =
-        (λ k. items_told side text (members_are own vs is are k) (members_are others ws same found k))
-        ∙ each_told vs (forest (members ws)) (distinct_now own vs are)
-        ∙ found_told vs ws (distinct_now others ws found)
+    pub forest_told : (vs ws : List (Labelled X)) → AreDistinct (labels_now vs) → AreDistinct (labels_now ws)
+        → items_told side text (forest (members vs)) (forest (members ws)) ≡ all_told ws vs
+    forest_told vs ws apart others = each_told vs (forest (members ws)) apart ∙ found_told vs ws others
 
     -- one further
-    pub keyed_next : (vs ws : List Labelled) (i : ℕ) (v d : Labelled) (beside : Option Attribute)
+    pub one_further : (vs ws : List (Labelled X)) (i : ℕ) (v d : Labelled X) (beside : Option X)
         (page new all : Draft) → i < length vs → v ≡ get_or vs i d → beside ≡ value_of v.label ws
-        → new ≡ with_members (objects (one_told v (option_map value beside))) page
+        → new ≡ with_members (objects (one_told v (option_and_then value beside))) page
         → with_members (objects (all_told ws (drop i vs))) page ≡ all
         → with_members (objects (all_told ws (drop (i + 1) vs))) new ≡ all
-    keyed_next vs ws i v d beside page new all within here found is was =
+    one_further vs ws i v d beside page new all within here found is was =
         let rest = drop (i + 1) vs in
-        let first = one_told v (option_map value (value_of v.label ws)) in
+        let first = one_told v (option_and_then value (value_of v.label ws)) in
         on_next (objects (all_told ws (drop i vs))) (objects first) (objects (all_told ws rest)) page new all
         (ap (λ l. objects (all_told ws l)) (drop_more vs i d within ∙ ap (λ x. x ∷ rest) (sym here))
         ∙ map-append (λ o. ([], object_of o)) first (all_told ws rest))
         was
-        (is ∙ ap (λ b. with_members (objects (one_told v (option_map value b))) page) found)
+        (is ∙ ap (λ b. with_members (objects (one_told v (option_and_then value b))) page) found)
+
+pub distinct_of : (ns : List (Option ℕ)) (ls : List Label) → ls ≡ labels_of ns → AreDistinct ls
+distinct_of ns ls is = subst AreDistinct (sym is) (labels_apart [] ns)
+
+-- ** of lists of attributes
+
+module _ (nest : Showing) (inner : Holding) (is_state : Bool) where
+  abbrev pub one_held : Attribute → Option Held
+  one_held a = Some (value_at nest inner is_state a)
+
+  pub distinct_now : (a : Attributes) (vs : List (Labelled Attribute)) → AreLabelled is_state a labels_of vs
+      → AreDistinct (labels_now vs)
+  distinct_now a vs are = distinct_of (numbers nest inner is_state a) (labels_now vs) (are.1 nest inner).0
+
+  some_map : (beside : Option Attribute)
+      → option_map (value_at nest inner is_state) beside ≡ option_and_then one_held beside
+  some_map None = refl
+  some_map (Some a) = refl
+
+  module _ (key : Key) where
+    members_are : (a : Attributes) (vs : List (Labelled Attribute)) → key_at a.number a.list ≡ Some key
+        → AreLabelled is_state a labels_of vs → inside nest inner is_state a ≡ forest (members key one_held vs)
+    members_are a vs is are =
+        ap (λ k. inside_of k (numbers nest inner is_state a) (values nest inner is_state a)) is
+        ∙ (λ k. forest (labelled key (sym (are.1 nest inner).0 k) (sym (are.1 nest inner).1 k)))
+
+    module _ (side : Side) (text : List ℕ) where
+      pub keyed_told : (own others : Attributes) (vs ws : List (Labelled Attribute))
+          → key_at own.number own.list ≡ Some key
+          → key_at others.number others.list ≡ Some key → AreLabelled is_state own labels_of vs
+          → AreLabelled is_state others labels_of ws
+          → items_told side text (inside nest inner is_state own) (inside nest inner is_state others)
+          ≡ all_told key one_held side text ws vs
+      keyed_told own others vs ws is same are found =
+          (λ k. items_told side text (members_are own vs is are k) (members_are others ws same found k))
+          ∙ forest_told key one_held side text vs ws (distinct_now own vs are) (distinct_now others ws found)
+
+      pub keyed_next : (vs ws : List (Labelled Attribute)) (i : ℕ) (v d : Labelled Attribute)
+          (beside : Option Attribute)
+          (page new all : Draft) → i < length vs → v ≡ get_or vs i d → beside ≡ value_of v.label ws
+          → new ≡ with_members (objects (step_items side text (label_step key v.label)
+          (value_at nest inner is_state v.value) (option_map (value_at nest inner is_state) beside))) page
+          → with_members (objects (all_told key one_held side text ws (drop i vs))) page ≡ all
+          → with_members (objects (all_told key one_held side text ws (drop (i + 1) vs))) new ≡ all
+      keyed_next vs ws i v d beside page new all within here found is was =
+          one_further key one_held side text vs ws i v d beside page new all within here found
+          (is ∙ ap (λ b. with_members (objects (one_told key one_held side text v b)) page) (some_map beside)) was
+
+-- ** those that are kept
+
+pub kept_are : (is_state : Bool) (a : Attributes) (vs : List (Labelled (Option Kept)))
+    → AreKept is_state a labels_of vs → kept_inside_at is_state a ≡ forest (members Keys.Number kept_held vs)
+kept_are is_state a vs are = λ k. forest (labelled Keys.Number (sym are.0 k) (sym are.1 k))
+
+pub kept_apart : (is_state : Bool) (a : Attributes) (vs : List (Labelled (Option Kept)))
+    → AreKept is_state a labels_of vs → AreDistinct (labels_now vs)
+kept_apart is_state a vs are = distinct_of (kept_numbers is_state a) (labels_now vs) are.0
 
 -- ** the value at a place
 
-lacks_at : (l : Label) (vs : List Labelled) (i : ℕ) (d : Labelled)
-    → AllByRecursion (λ m. is_same_label m l ≡ false) (labels_now vs) → i < length vs
-    → is_same_label (get_or vs i d).label l ≡ false
-lacks_at l [] i d apart less = absurd (omega (arith, less))
-lacks_at l (v ∷ vs) zero d apart less = apart.0
-lacks_at l (v ∷ vs) (suc i) d apart less = lacks_at l vs i d apart.1 (omega (arith, less))
+module _ {X : Type 0} where
+  lacks_at : (l : Label) (vs : List (Labelled X)) (i : ℕ) (d : Labelled X)
+      → AllByRecursion (λ m. is_same_label m l ≡ false) (labels_now vs) → i < length vs
+      → is_same_label (get_or vs i d).label l ≡ false
+  lacks_at l [] i d apart less = absurd (omega (arith, less))
+  lacks_at l (v ∷ vs) zero d apart less = apart.0
+  lacks_at l (v ∷ vs) (suc i) d apart less = lacks_at l vs i d apart.1 (omega (arith, less))
 
-place_here : (vs : List Labelled) (i : ℕ) (d : Labelled) → AreDistinct (labels_now vs) → i < length vs
-    → place_of (get_or vs i d).label (labels_now vs) ≡ Some i
-place_here [] i d apart less = absurd (omega (arith, less))
-place_here (v ∷ vs) zero d apart less =
-    ap (λ b. cond b (Some 0) (option_map suc (place_of v.label (labels_now vs)))) (label_is v.label)
-place_here (v ∷ vs) (suc i) d apart less =
-    let l = (get_or vs i d).label in
-    ap (λ b. cond b (Some 0) (option_map suc (place_of l (labels_now vs))))
-    (lacks_at v.label vs i d apart.0 (omega (arith, less)))
-    ∙ ap (option_map suc) (place_here vs i d apart.1 (omega (arith, less)))
+  place_here : (vs : List (Labelled X)) (i : ℕ) (d : Labelled X) → AreDistinct (labels_now vs) → i < length vs
+      → place_of (get_or vs i d).label (labels_now vs) ≡ Some i
+  place_here [] i d apart less = absurd (omega (arith, less))
+  place_here (v ∷ vs) zero d apart less =
+      ap (λ b. cond b (Some 0) (option_map suc (place_of v.label (labels_now vs)))) (label_is v.label)
+  place_here (v ∷ vs) (suc i) d apart less =
+      let l = (get_or vs i d).label in
+      ap (λ b. cond b (Some 0) (option_map suc (place_of l (labels_now vs))))
+      (lacks_at v.label vs i d apart.0 (omega (arith, less)))
+      ∙ ap (option_map suc) (place_here vs i d apart.1 (omega (arith, less)))
 
-pub label_place : (vs : List Labelled) (i : ℕ) (v d : Labelled) → AreDistinct (labels_now vs) → i < length vs
-    → v ≡ get_or vs i d → place_of v.label (labels_now vs) ≡ Some i
-label_place vs i v d apart less here =
-    ap (λ (w : Labelled). place_of w.label (labels_now vs)) here ∙ place_here vs i d apart less
+  pub label_place : (vs : List (Labelled X)) (i : ℕ) (v d : Labelled X) → AreDistinct (labels_now vs) → i < length vs
+      → v ≡ get_or vs i d → place_of v.label (labels_now vs) ≡ Some i
+  label_place vs i v d apart less here =
+      ap (λ (w : Labelled X). place_of w.label (labels_now vs)) here ∙ place_here vs i d apart less
 
-all_in : (list : Attributes) (vs : List Labelled) (i : ℕ) (d : Labelled) → AreIn list vs → i < length vs
-    → IsIn list (get_or vs i d).value
+all_in : (list : Attributes) (vs : List (Labelled Attribute)) (i : ℕ) (d : Labelled Attribute) → AreIn list vs
+    → i < length vs → IsIn list (get_or vs i d).value
 all_in list [] i d of less = absurd (omega (arith, less))
 all_in list (v ∷ vs) zero d of less = of.0
 all_in list (v ∷ vs) (suc i) d of less = all_in list vs i d of.1 (omega (arith, less))
 
-pub one_in : (list : Attributes) (vs : List Labelled) (i : ℕ) (v d : Labelled) → AreIn list vs → i < length vs
-    → v ≡ get_or vs i d → IsIn list v.value
+pub one_in : (list : Attributes) (vs : List (Labelled Attribute)) (i : ℕ) (v d : Labelled Attribute) → AreIn list vs
+    → i < length vs → v ≡ get_or vs i d → IsIn list v.value
 one_in list vs i v d of less here =
-    subst (λ (w : Labelled). IsIn list w.value) (sym here) (all_in list vs i d of less)
+    subst (λ (w : Labelled Attribute). IsIn list w.value) (sym here) (all_in list vs i d of less)
+
+-- and the one of a label
+place_in : (list : Attributes) (vs : List (Labelled Attribute)) → AreIn list vs → (place : Option ℕ)
+    → IfSome (option_map (λ (v : Labelled Attribute). v.value) (option_and_then (λ n. slice_get vs n) place))
+    (IsIn list)
+place_in list vs of None = tt
+place_in list [] of (Some n) = tt
+place_in list (v ∷ vs) of (Some zero) = of.0
+place_in list (v ∷ vs) of (Some (suc n)) = place_in list vs of.1 (Some n)
+
+pub found_in : (list : Attributes) (vs : List (Labelled Attribute)) (l : Label) (beside : Option Attribute)
+    → beside ≡ value_of l vs → AreIn list vs → IfSome beside (IsIn list)
+found_in list vs l beside is of =
+    subst (λ b. IfSome b (IsIn list)) (sym is) (place_in list vs of (place_of l (labels_now vs)))
 
 pub beside_entries : (own others : Attributes) (v : Attribute) (beside : Option Attribute) → IsIn own v
     → IfSome beside (IsIn others) → is_entries others.list ≡ is_entries own.list

@@ -1,6 +1,6 @@
 -- The values of lists with their labels, one attribute after another.
 use Rattle.std.proofs.Common.{◌≡◌, ℕ, suc, ◌+◌, ◌≤◌, Bool, true, false, List, [], ◌∷◌, ◌++◌, refl, sym, ap, ◌∙◌}
-use Rattle.std.proofs.Common.{◌<◌, Ok, append-nil, append_assoc, arith, drop, get_or, length, map}
+use Rattle.std.proofs.Common.{◌<◌, Ok, append-nil, append_assoc, arith, drop, get_or, length, map, set, take, zero}
 use Rattle.std.specs.Prelude.{IfSome, Option, None, Some, ◌&&◌, ◌==◌, cond, not, option_map, unwrap_or}
 use Rattle.std.specs.BTreeMap.{BTreeMap, get, is_at}
 use Rattle.std.specs.Cmp.{tied_then, unsigned_tied}
@@ -11,19 +11,19 @@ use Rattle.std.specs.Ordering.{is_eq, nat_cmp}
 use Rattle.std.proofs.Math.Seq.{drop-length}
 use Rattle.std.proofs.lemmas.Bool.Decides.{nat_tests}
 use Rattle.std.proofs.lemmas.Cmp.{nat_eq_equiv}
-use Rattle.std.proofs.lemmas.List.{drop_more, map-append}
+use Rattle.std.proofs.lemmas.List.{drop-set-lt, drop_more, map-append, take_more_set}
 use Rattle.nla_wire.specs.Fields.{number_at}
 use Rattle.nla_wire.specs.Frames.{Frame, number}
-use Rattle.nla_wire.specs.Items.{Item, frame_count, items}
+use Rattle.nla_wire.specs.Items.{Item}
 use Rattle.link_info.specs.Tables.{frames_in}
 use Rattle.frame_shown.specs.Tables.{row_in}
 use Rattle.frame_shown.specs.declared.form.Around.{Around}
 use Rattle.frame_shown.specs.declared.form.List.{List as Shape}
 use Rattle.frame_diff.specs.Forests.{Held, is_number, is_same_label}
-use Rattle.frame_diff.specs.Groups.{numbers_at, picked, picked_by, picked_values}
-use Rattle.frame_diff.specs.Keyed.{AreLabelled, IsIn, labels_now, numbers_now, picked_numbers}
-use Rattle.frame_diff.specs.Keys.{function_in, is_record, key_at, number_in, number_of}
-use Rattle.frame_diff.specs.Labels.{are_ascending, count, count_in, first_labels, is_above, labels_behind, labels_by}
+use Rattle.frame_diff.specs.Groups.{picked, picked_by, picked_values}
+use Rattle.frame_diff.specs.Keyed.{IsIn, labels_now, numbers_now, picked_numbers, values_now}
+use Rattle.frame_diff.specs.Keys.{function_in, is_record, number_in}
+use Rattle.frame_diff.specs.Labels.{are_ascending, count, count_in, first_labels, is_above, labels_behind}
 use Rattle.frame_diff.specs.Labels.{label_cmp, labels_of, number_cmp, place_of}
 use Rattle.frame_diff.specs.Members.{numbers_by}
 use Rattle.frame_diff.specs.Walked.{Holding, Showing, reading_at}
@@ -66,26 +66,28 @@ label_tied l m = sym (tied_then (number_cmp l.number m.number) (nat_cmp l.again 
     && (unsigned_tied l.again m.again ∙ nat_eq_equiv.symm l.again m.again) k)
 
 -- a map has the places of labels from one on
-abbrev pub HasPlaces : BTreeMap Label ℕ → List Labelled → ℕ → Type 0
+abbrev pub HasPlaces : {X : Type 0} → BTreeMap Label ℕ → List (Labelled X) → ℕ → Type 0
 HasPlaces places vs i =
     (m : Label) → get label_cmp places m ≡ option_map (λ n. n + i) (place_of m (labels_now (drop i vs)))
 
-pub places_none : (places : BTreeMap Label ℕ) (vs : List Labelled) (i : ℕ) → places.entries ≡ [] → i ≡ length vs
-    → HasPlaces places vs i
-places_none places vs i none is m =
+pub places_none : {X : Type 0} (places : BTreeMap Label ℕ) (vs : List (Labelled X)) (i : ℕ) → places.entries ≡ []
+    → i ≡ length vs → HasPlaces places vs i
+places_none {X} places vs i none is m =
     ap (lookup (is_at (label_cmp m))) none
-    ∙ sym (ap (λ (ls : List Labelled). option_map (λ n. n + i) (place_of m (labels_now ls)))
+    ∙ sym (ap (λ (ls : List (Labelled X)). option_map (λ n. n + i) (place_of m (labels_now ls)))
     (ap (λ n. drop n vs) is ∙ drop-length vs))
 
-pub places_further : (old new : BTreeMap Label ℕ) (vs : List Labelled) (i : ℕ) (d : Labelled) → i < length vs
+pub places_further : {X : Type 0} (old new : BTreeMap Label ℕ) (vs : List (Labelled X)) (i : ℕ) (d : Labelled X)
+    → i < length vs
     → ((m : Label) → get label_cmp new m ≡ cond (is_eq (label_cmp (get_or vs i d).label m)) (Some i)
     (get label_cmp old m))
     → HasPlaces old vs (i + 1) → HasPlaces new vs i
-places_further old new vs i d within puts was m =
+places_further {X} old new vs i d within puts was m =
     puts m
     ∙ (λ k. cond (label_tied (get_or vs i d).label m k) (Some i) (was m k))
     ∙ by (is_same_label m (get_or vs i d).label) (place_of m (labels_now (drop (i + 1) vs)))
-    ∙ sym (ap (λ (ls : List Labelled). option_map (λ n. n + i) (place_of m (labels_now ls))) (drop_more vs i d within))
+    ∙ sym (ap (λ (ls : List (Labelled X)). option_map (λ n. n + i) (place_of m (labels_now ls)))
+    (drop_more vs i d within))
   where
     by : (b : Bool) (o : Option ℕ) → cond b (Some i) (option_map (λ n. n + (i + 1)) o)
         ≡ option_map (λ n. n + i) (cond b (Some 0) (option_map suc o))
@@ -93,8 +95,8 @@ places_further old new vs i d within puts was m =
     by false None = refl
     by false (Some n) = let e : n + (i + 1) ≡ suc n + i = omega arith in ap Some e
 
-pub places_all : (places : BTreeMap Label ℕ) (vs : List Labelled) (i : ℕ) → i ≡ 0 → HasPlaces places vs i
-    → (m : Label) → get label_cmp places m ≡ place_of m (labels_now vs)
+pub places_all : {X : Type 0} (places : BTreeMap Label ℕ) (vs : List (Labelled X)) (i : ℕ) → i ≡ 0
+    → HasPlaces places vs i → (m : Label) → get label_cmp places m ≡ place_of m (labels_now vs)
 places_all places vs i is has m =
     has m ∙ ap (λ j. option_map (λ n. n + j) (place_of m (labels_now (drop j vs)))) is ∙ by (place_of m (labels_now vs))
   where
@@ -138,38 +140,53 @@ numbers_first : (ns : List (Option ℕ)) → map (λ (l : Label). l.number) (fir
 numbers_first [] = refl
 numbers_first (n ∷ ns) = ap (λ ms. n ∷ ms) (numbers_first ns)
 
-numbers_labelled : (vs : List Labelled) → numbers_now vs ≡ map (λ (l : Label). l.number) (labels_now vs)
+numbers_labelled : {X : Type 0} (vs : List (Labelled X))
+    → numbers_now vs ≡ map (λ (l : Label). l.number) (labels_now vs)
 numbers_labelled [] = refl
 numbers_labelled (v ∷ vs) = ap (λ ns. v.label.number ∷ ns) (numbers_labelled vs)
 
 -- one further
-pub ascends : (before : Option ℕ) (vs : List Labelled) (i : ℕ) (d v : Labelled) (all : Bool) → i < length vs
-    → v ≡ get_or vs i d → is_above before v.label.number ≡ true
+pub ascends : {X : Type 0} (before : Option ℕ) (vs : List (Labelled X)) (i : ℕ) (d v : Labelled X) (all : Bool)
+    → i < length vs → v ≡ get_or vs i d → is_above before v.label.number ≡ true
     → are_ascending before (numbers_now (drop i vs)) ≡ all
     → are_ascending v.label.number (numbers_now (drop (i + 1) vs)) ≡ all
-ascends before vs i d v all less here up was =
+ascends {X} before vs i d v all less here up was =
     ap (λ b. b && are_ascending v.label.number (numbers_now (drop (i + 1) vs))) (sym up)
-    ∙ ap (λ (w : Labelled). is_above before w.label.number && are_ascending w.label.number
+    ∙ ap (λ (w : Labelled X). is_above before w.label.number && are_ascending w.label.number
     (numbers_now (drop (i + 1) vs))) here
-    ∙ sym (ap (λ (ws : List Labelled). are_ascending before (numbers_now ws)) (drop_more vs i d less)) ∙ was
+    ∙ sym (ap (λ (ws : List (Labelled X)). are_ascending before (numbers_now ws)) (drop_more vs i d less)) ∙ was
 
-pub ascends_not : (before : Option ℕ) (vs : List Labelled) (i : ℕ) (d v : Labelled) (all : Bool) → i < length vs
-    → v ≡ get_or vs i d → is_above before v.label.number ≡ false
+pub ascends_not : {X : Type 0} (before : Option ℕ) (vs : List (Labelled X)) (i : ℕ) (d v : Labelled X) (all : Bool)
+    → i < length vs → v ≡ get_or vs i d → is_above before v.label.number ≡ false
     → are_ascending before (numbers_now (drop i vs)) ≡ all → all ≡ false
-ascends_not before vs i d v all less here up was =
+ascends_not {X} before vs i d v all less here up was =
     sym was
-    ∙ ap (λ (ws : List Labelled). are_ascending before (numbers_now ws)) (drop_more vs i d less)
-    ∙ sym (ap (λ (w : Labelled). is_above before w.label.number && are_ascending w.label.number
+    ∙ ap (λ (ws : List (Labelled X)). are_ascending before (numbers_now ws)) (drop_more vs i d less)
+    ∙ sym (ap (λ (w : Labelled X). is_above before w.label.number && are_ascending w.label.number
     (numbers_now (drop (i + 1) vs))) here)
     ∙ ap (λ b. b && are_ascending v.label.number (numbers_now (drop (i + 1) vs))) up
 
-pub ascends_over : (before : Option ℕ) (vs : List Labelled) (i : ℕ) (all : Bool) → i ≡ length vs
+pub ascends_over : {X : Type 0} (before : Option ℕ) (vs : List (Labelled X)) (i : ℕ) (all : Bool) → i ≡ length vs
     → are_ascending before (numbers_now (drop i vs)) ≡ all → all ≡ true
-ascends_over before vs i all is was =
-    sym was ∙ ap (λ (ws : List Labelled). are_ascending before (numbers_now ws))
+ascends_over {X} before vs i all is was =
+    sym was ∙ ap (λ (ws : List (Labelled X)). are_ascending before (numbers_now ws))
     (ap (λ n. drop n vs) is ∙ drop-length vs)
 
 -- ** one attribute further
+
+pub labels_onward : (own rest left : List (Option ℕ)) (was now all : List Label) → left ≡ own ++ rest
+    → now ≡ was ++ first_labels own → was ++ first_labels left ≡ all → now ++ first_labels rest ≡ all
+labels_onward own rest left was now all split more before =
+    ap (λ ls. ls ++ first_labels rest) more
+    ∙ append_assoc was (first_labels own) (first_labels rest)
+    ∙ ap (λ ls. was ++ ls) (sym (map-append (λ n. record { number = n; again = 0 }) own rest)
+    ∙ ap first_labels (sym split))
+    ∙ before
+
+pub values_onward : (own rest left was now all : List (Option Held)) → left ≡ own ++ rest → now ≡ was ++ own
+    → was ++ left ≡ all → now ++ rest ≡ all
+values_onward own rest left was now all split more before =
+    ap (λ hs. hs ++ rest) more ∙ append_assoc was own rest ∙ ap (λ hs. was ++ hs) (sym split) ∙ before
 
 module _ (nest : Showing) (inner : Holding) (is_state : Bool) (key : Key) (a : Attributes) where
   -- those of some attributes of a list
@@ -179,11 +196,6 @@ module _ (nest : Showing) (inner : Holding) (is_state : Bool) (key : Key) (a : A
 
   abbrev pub values_left : List Item → List (Option Held)
   values_left it = picked_values (reading_at nest inner is_state a.around.now) a.number a.list (frames_in it)
-
-  pub numbers_are : key_at a.number a.list ≡ Some key → numbers_left (items a.bytes.now)
-      ≡ numbers_at nest inner is_state a
-  numbers_are is = sym (ap (λ k. numbers_by (number_in a.around.now k a.list)
-      (picked_by (reading_at nest inner is_state a.around.now) a.number a.list) (frames_in (items a.bytes.now))) is)
 
   -- an attribute is the value that a frame is, if it is one
   abbrev pub IsPicked : Frame → Option Attribute → Type 0
@@ -201,20 +213,15 @@ module _ (nest : Showing) (inner : Holding) (is_state : Bool) (key : Key) (a : A
       → it ≡ Ok f ∷ next → IsPicked f e → now ≡ was ++ first_labels (picked_numbers key e)
       → was ++ first_labels (numbers_left it) ≡ all → now ++ first_labels (numbers_left next) ≡ all
   first_further f e it next was now all here is more before =
-      ap (λ ls. ls ++ first_labels (numbers_left next)) more
-      ∙ append_assoc was (first_labels (picked_numbers key e)) (first_labels (numbers_left next))
-      ∙ ap (λ ls. was ++ ls) (sym (map-append (λ n. record { number = n; again = 0 }) (picked_numbers key e)
-      (numbers_left next)) ∙ ap first_labels (sym (numbers_further f e it next here is)))
-      ∙ before
+      labels_onward (picked_numbers key e) (numbers_left next) (numbers_left it) was now all
+      (numbers_further f e it next here is) more before
 
   pub values_further : (f : Frame) (e : Option Attribute) (it next : List Item) (was now all : List (Option Held))
       → it ≡ Ok f ∷ next → IsPicked f e → now ≡ was ++ picked nest inner is_state e
       → was ++ values_left it ≡ all → now ++ values_left next ≡ all
   values_further f e it next was now all here is more before =
-      ap (λ hs. hs ++ values_left next) more
-      ∙ append_assoc was (picked nest inner is_state e) (values_left next)
-      ∙ ap (λ hs. was ++ hs) (sym (list_split nest inner is_state a.number a.list a.around.now f e it next here is.0))
-      ∙ before
+      values_onward (picked nest inner is_state e) (values_left next) (values_left it) was now all
+      (list_split nest inner is_state a.number a.list a.around.now f e it next here is.0) more before
 
   -- ** no attribute further
 
@@ -236,72 +243,68 @@ module _ (nest : Showing) (inner : Holding) (is_state : Bool) (key : Key) (a : A
       sym (ap (λ fs. now ++ picked_values r a.number a.list fs) over
       ∙ ap (λ hs. now ++ hs) (picked_none r a.number a.list) ∙ append-nil now) ∙ was
 
-  -- ** those that are counted
+-- ** those that are counted
 
-  -- labels go on behind numbers of which so many are counted
-  abbrev pub GoOn : BTreeMap (Option ℕ) ℕ → List Label → List Item → List Label → Type 0
-  GoOn counts labels it all = (before : List (Option ℕ)) × ((n : Option ℕ) → count_in counts n ≡ count n before)
-      × (labels ++ labels_behind before (numbers_left it) ≡ all)
+-- labels go on behind numbers of which so many are counted
+abbrev pub GoOn : {X : Type 0} → BTreeMap (Option ℕ) ℕ → List (Labelled X) → ℕ → List Label → Type 0
+GoOn counts vs i all = (before : List (Option ℕ)) × ((n : Option ℕ) → count_in counts n ≡ count n before)
+    × (labels_now (take i vs) ++ labels_behind before (numbers_now (drop i vs)) ≡ all)
 
-  pub none_counted : (counts : BTreeMap (Option ℕ) ℕ) (it : List Item) (none : List Label) → counts.entries ≡ []
-      → it ≡ items a.bytes.now → none ≡ [] → key_at a.number a.list ≡ Some key
-      → GoOn counts none it (labels_of (numbers_at nest inner is_state a))
-  none_counted counts it none empty all is kind = (
-    [],
-    (λ n. ap (λ es. unwrap_or (lookup (is_at (number_cmp n)) es) 0) empty),
-    (ap (λ ls. ls ++ labels_of (numbers_left it)) is ∙ ap (λ i. labels_of (numbers_left i)) all
-        ∙ ap labels_of (numbers_are kind)),
-  )
+pub none_counted : {X : Type 0} (counts : BTreeMap (Option ℕ) ℕ) (vs : List (Labelled X)) → counts.entries ≡ []
+    → GoOn counts vs 0 (labels_of (numbers_now vs))
+none_counted counts vs empty =
+    ([], (λ n. ap (λ es. unwrap_or (lookup (is_at (number_cmp n)) es) 0) empty), refl)
 
-  pub counts_further : (f : Frame) (e : Option Attribute) (it next : List Item) (old new : BTreeMap (Option ℕ) ℕ)
-      (was now all : List Label)
-      → it ≡ Ok f ∷ next → IsPicked f e → now ≡ was ++ labels_by old (picked_numbers key e)
-      → ((n : Option ℕ) → count_in new n ≡ count n (picked_numbers key e) + count_in old n)
-      → GoOn old was it all → GoOn new now next all
-  counts_further f None it next old new was now all here is more counts on = (
-    on.0,
-    (λ n. let e : count_in old n ≡ count n on.0 = on.1 n in
-        let g : count_in new n ≡ 0 + count_in old n = counts n in omega (arith, e, g)),
-    (ap (λ ls. ls ++ labels_behind on.0 (numbers_left next)) more
-        ∙ append_assoc was [] (labels_behind on.0 (numbers_left next))
-        ∙ ap (λ ns. was ++ labels_behind on.0 ns) (sym (numbers_further f None it next here is)) ∙ on.2),
-  )
-  counts_further f (Some v) it next old new was now all here is more counts on =
-      let n = number_of key v in (
-        n ∷ on.0,
-        (λ m. let e : count_in old m ≡ count m on.0 = on.1 m in
-            let g : count_in new m ≡ cond (is_number m n) 1 0 + 0 + count_in old m = counts m in omega (arith, e, g)),
-        (ap (λ ls. ls ++ labels_behind (n ∷ on.0) (numbers_left next)) more
-            ∙ append_assoc was (labels_by old (n ∷ [])) (labels_behind (n ∷ on.0) (numbers_left next))
-            ∙ (λ k. was ++ (record { number = n; again = on.1 n k }) ∷ labels_behind (n ∷ on.0) (numbers_left next))
-            ∙ ap (λ ns. was ++ labels_behind on.0 ns) (sym (numbers_further f (Some v) it next here is)) ∙ on.2),
-      )
-
-  pub counts_over : (counts : BTreeMap (Option ℕ) ℕ) (it : List Item) (now all : List Label) → frames_in it ≡ []
-      → GoOn counts now it all → now ≡ all
-  counts_over counts it now all over on = labels_over (labels_behind on.0) refl it now all over on.2
-
-pub counts_fit : (key : Key) (f : Frame) (e : Option Attribute) (it next : List Item)
-    (old new : BTreeMap (Option ℕ) ℕ) (all : ℕ) → it ≡ Ok f ∷ next
-    → ((n : Option ℕ) → count_in new n ≡ count n (picked_numbers key e) + count_in old n)
-    → ((n : Option ℕ) → count_in old n + frame_count it ≤ all)
-    → (n : Option ℕ) → count_in new n + frame_count next ≤ all
-counts_fit key f None it next old new all here counts few n =
-    let first : frame_count it ≡ 1 + frame_count next = ap frame_count here in omega (arith, first, counts n, few n)
-counts_fit key f (Some a) it next old new all here counts few n = by (is_number n (number_of key a)) (counts n)
+pub few_more : (old new : BTreeMap (Option ℕ) ℕ) (number : Option ℕ) (i : ℕ)
+    → ((m : Option ℕ) → count_in new m ≡ cond (is_number m number) 1 0 + count_in old m)
+    → ((n : Option ℕ) → count_in old n ≤ i) → (n : Option ℕ) → count_in new n ≤ i + 1
+few_more old new number i counts few n = by (is_number n number) (counts n)
   where
-    by : (b : Bool) → count_in new n ≡ cond b 1 0 + 0 + count_in old n → count_in new n + frame_count next ≤ all
-    by true is =
-        let first : frame_count it ≡ 1 + frame_count next = ap frame_count here in omega (arith, first, is, few n)
-    by false is =
-        let first : frame_count it ≡ 1 + frame_count next = ap frame_count here in omega (arith, first, is, few n)
+    by : (b : Bool) → count_in new n ≡ cond b 1 0 + count_in old n → count_in new n ≤ i + 1
+    by true is = omega (arith, is, few n)
+    by false is = omega (arith, is, few n)
 
-pub none_fit : (counts : BTreeMap (Option ℕ) ℕ) (it all : List Item) → counts.entries ≡ [] → it ≡ all
-    → (n : Option ℕ) → count_in counts n + frame_count it ≤ frame_count all
-none_fit counts it all empty is n =
-    let none : count_in counts n ≡ 0 = ap (λ es. unwrap_or (lookup (is_at (number_cmp n)) es) 0) empty in
-    let same : frame_count it ≡ frame_count all = ap frame_count is in
-    omega (arith, none, same)
+pub one_counted : {X : Type 0} (old new : BTreeMap (Option ℕ) ℕ) (vs : List (Labelled X)) (i n again : ℕ)
+    (number : Option ℕ) (v d : Labelled X) (all : List Label) → i < length vs
+    → number ≡ (get_or vs i d).label.number → again ≡ count_in old number
+    → v.label ≡ record { number = number; again = again }
+    → ((m : Option ℕ) → count_in new m ≡ cond (is_number m number) 1 0 + count_in old m)
+    → GoOn old vs i all → n ≡ i + 1 → GoOn new (set vs i v) n all
+one_counted {X} old new vs i n again number v d all within is many label counts on next = (
+  number ∷ on.0,
+  (λ m. let e : count_in old m ≡ count m on.0 = on.1 m in
+      let g : count_in new m ≡ cond (is_number m number) 1 0 + count_in old m = counts m in omega (arith, e, g)),
+  (λ k. labels_now (take (next k) (set vs i v))
+      ++ labels_behind (number ∷ on.0) (numbers_now (drop (next k) (set vs i v))))
+      ∙ (λ k. labels_now (take_more_set vs i v within k)
+      ++ labels_behind (number ∷ on.0) (numbers_now (drop-set-lt (i + 1) vs i v (omega arith) k)))
+      ∙ ap (λ ls. ls ++ labels_behind (number ∷ on.0) (numbers_now (drop (i + 1) vs)))
+      (map-append (λ (w : Labelled X). w.label) (take i vs) (v ∷ []))
+      ∙ append_assoc (labels_now (take i vs)) (v.label ∷ [])
+      (labels_behind (number ∷ on.0) (numbers_now (drop (i + 1) vs)))
+      ∙ ap (λ l. labels_now (take i vs) ++ l ∷ labels_behind (number ∷ on.0) (numbers_now (drop (i + 1) vs)))
+      (label ∙ ap (λ a. record { number = number; again = a }) (many ∙ on.1 number))
+      ∙ (λ k. labels_now (take i vs) ++ labels_behind on.0 (is k ∷ numbers_now (drop (i + 1) vs)))
+      ∙ ap (λ (ws : List (Labelled X)). labels_now (take i vs) ++ labels_behind on.0 (numbers_now ws))
+      (sym (drop_more vs i d within))
+      ∙ on.2,
+)
+
+pub values_same : {X : Type 0} (vs : List (Labelled X)) (i : ℕ) (v d : Labelled X)
+    → v.value ≡ (get_or vs i d).value → values_now (set vs i v) ≡ values_now vs
+values_same [] i v d is = refl
+values_same (w ∷ vs) zero v d is = ap (λ x. x ∷ values_now vs) is
+values_same (w ∷ vs) (suc i) v d is = ap (λ xs. w.value ∷ xs) (values_same vs i v d is)
+
+-- labels of which none counts another one say the numbers
+pub numbers_said : {X : Type 0} (vs : List (Labelled X)) (ns : List (Option ℕ)) → labels_now vs ≡ first_labels ns
+    → numbers_now vs ≡ ns
+numbers_said vs ns is = numbers_labelled vs ∙ ap (map (λ (l : Label). l.number)) is ∙ numbers_first ns
+
+-- labelled as if no two had one number, and then as they are
+pub all_labelled : {X : Type 0} (old new : List (Labelled X)) (ns : List (Option ℕ))
+    → labels_now old ≡ first_labels ns → labels_now new ≡ labels_of (numbers_now old) → labels_now new ≡ labels_of ns
+all_labelled old new ns first is = is ∙ ap labels_of (numbers_said old ns first)
 
 -- ** of one list
 
@@ -309,20 +312,6 @@ pub is_in : (list : Attributes) (e : Option Attribute) → IfSome e (λ a. a.lis
     → IfSome e (λ a. a.around.now ≡ list.around.now) → IfSome e (IsIn list)
 is_in list None same around = tt
 is_in list (Some a) same around = (same, around)
-
-pub first_are : (is_state : Bool) (a : Attributes) (vs : List Labelled) → are_ascending None (numbers_now vs) ≡ true
-    → AreLabelled is_state a first_labels vs → AreLabelled is_state a labels_of vs
-first_are is_state a vs up are = (
-  are.0,
-  λ nest inner.
-      let numbers : numbers_now vs ≡ numbers_at nest inner is_state a =
-      numbers_labelled vs ∙ ap (map (λ (l : Label). l.number)) (are.1 nest inner).0
-      ∙ numbers_first (numbers_at nest inner is_state a) in (
-        (are.1 nest inner).0
-            ∙ ascending (numbers_at nest inner is_state a) (ap (are_ascending None) (sym numbers) ∙ up),
-        (are.1 nest inner).1,
-      ),
-)
 
 -- ** numbers of functions
 

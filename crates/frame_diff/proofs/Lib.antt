@@ -6,6 +6,7 @@ pub mod ListRows
 pub mod Leaves
 pub mod Once
 pub mod Silent
+pub mod WholesTold
 pub mod Apart
 pub mod Messages
 pub mod Items
@@ -30,9 +31,12 @@ pub mod Cleared
 pub mod Records
 pub mod Alike
 pub mod Whole
+pub mod Settled
+pub mod Still
 pub mod Orders
 pub mod PlainKeys
 pub mod Plain
+pub mod Numbered
 pub mod Numbers
 pub mod PathTexts
 pub mod PathTextsNames

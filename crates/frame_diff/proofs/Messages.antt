@@ -9,22 +9,33 @@ use Rattle.frame_diff.specs.Counters.{action_in, is_passed}
 use Rattle.frame_diff.specs.Forests.{Forest, Step}
 use Rattle.frame_diff.specs.Laws.{CountersArePassed, MessagesAreTold}
 use Rattle.frame_diff.specs.Members.{Reading, frame_member, message_forest, value_with, way_inside, is_unnamed}
+use Rattle.frame_diff.specs.Wholes.{wholes}
 use Rattle.frame_diff.specs.declared.side.Side.TheVariants.{Old, New}
 use Rattle.frame_diff.proofs.Apart.{message_apart}
 use Rattle.frame_diff.proofs.Leaves.{all_told}
 use Rattle.frame_diff.proofs.Once.{each_once}
 use Rattle.frame_diff.proofs.Silent.{same_silent}
+use Rattle.frame_diff.proofs.WholesTold.{wholes_apart, wholes_leaves}
 
 pub messages_told : MessagesAreTold
 messages_told = record {
-  all = λ is_state cx other old new. all_told (message_forest is_state cx old) (message_forest is_state other new)
+  all = λ is_state cx other old new.
+      let f = message_forest is_state cx old in
+      let g = message_forest is_state other new in
+      all_told (wholes f g) (wholes g f) (wholes_apart f g (message_apart is_state cx old))
+      (wholes_apart g f (message_apart is_state other new));
+  by_leaves = λ is_state cx other old new.
+      wholes_leaves (message_forest is_state cx old) (message_forest is_state other new)
       (message_apart is_state cx old) (message_apart is_state other new);
-  once = λ is_state cx other old new. each_once (message_forest is_state cx old) (message_forest is_state other new)
-      (message_apart is_state cx old) (message_apart is_state other new);
+  once = λ is_state cx other old new.
+      let f = message_forest is_state cx old in
+      let g = message_forest is_state other new in
+      each_once (wholes f g) (wholes g f) (wholes_apart f g (message_apart is_state cx old))
+      (wholes_apart g f (message_apart is_state other new));
   silent = λ is_state cx m.
       let f = message_forest is_state cx m in
-      let apart = message_apart is_state cx m in
-      (λ k. same_silent Old [] f apart k ++ same_silent New [] f apart k);
+      let apart = wholes_apart f f (message_apart is_state cx m) in
+      (λ k. same_silent Old [] (wholes f f) apart k ++ same_silent New [] (wholes f f) apart k);
 }
 
 module _ (r : Reading) (list : Shape) (f : Frame) where

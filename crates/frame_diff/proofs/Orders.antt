@@ -4,10 +4,10 @@ use Rattle.frame_shown.specs.Plain.{IsPlain, plain}
 use Rattle.frame_shown.specs.declared.form.Around.{Around}
 use Rattle.frame_shown.specs.declared.form.Order.{Order}
 use Rattle.frame_shown.proofs.PlainRows.{plain_is}
-use Rattle.frame_diff.specs.Differences.{both_told}
 use Rattle.frame_diff.specs.Laws.{messages_told}
 use Rattle.frame_diff.specs.Members.{Parts}
 use Rattle.frame_diff.specs.Messages.{with_order}
+use Rattle.frame_diff.specs.Wholes.{between}
 use Rattle.frame_diff.proofs.Plain.{forests_alike}
 
 ordered : (order other : Order) (cx : Around) → IsPlain order cx → IsPlain other (with_order cx other)
@@ -18,6 +18,6 @@ pub plainly_told : (is_state : Bool) (order other : Order) (cx : Around) → IsP
     → messages_told is_state cx (with_order cx other) old new
     ≡ messages_told is_state (plain order) (plain other) old new
 plainly_told is_state order other cx is old new =
-    (λ k. both_told (forests_alike order cx (plain order) is (plain_is order) is_state old k)
+    (λ k. between (forests_alike order cx (plain order) is (plain_is order) is_state old k)
     (forests_alike other (with_order cx other) (plain other) (ordered order other cx is) (plain_is other) is_state
     new k))

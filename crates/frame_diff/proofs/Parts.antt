@@ -8,16 +8,18 @@ use Rattle.shown.specs.Drafts.{Members}
 use Rattle.frame_shown.specs.Tables.{row_in, lists_in}
 use Rattle.frame_shown.specs.declared.form.List.{List as Shape}
 use Rattle.frame_diff.specs.Beside.{held_of}
-use Rattle.frame_diff.specs.Forests.{Forest, Held, Member, Step, comes, find, forest, is_step, is_text}
-use Rattle.frame_diff.specs.Items.{further, items_told, joined, member_items}
-use Rattle.frame_diff.specs.Members.{Reading, earlier, kept_in, list_at, members_in, named_in, places, unless_none}
-use Rattle.frame_diff.specs.Members.{is_unnamed, array_at, arrays_in, arrays_of, inside_with, values_with}
-use Rattle.frame_diff.specs.Walked.{held_items, last_items}
+use Rattle.frame_diff.specs.Forests.{Forest, Held, Member, Step, comes, find, forest, is_label, is_step, is_text}
+use Rattle.frame_diff.specs.Items.{further, items_told, joined}
+use Rattle.frame_diff.specs.Members.{Reading, earlier, kept_in, kept_inside, list_at, list_by, members_in, named_in}
+use Rattle.frame_diff.specs.Members.{places}
+use Rattle.frame_diff.specs.Members.{is_unnamed, array_at, arrays_in, arrays_of, inside_with, unless_none}
+use Rattle.frame_diff.specs.Members.{values_with}
+use Rattle.frame_diff.specs.Walked.{held_items, last_items, step_items}
 use Rattle.frame_diff.specs.declared.side.Side.{Side}
 use Rattle.frame_diff.proofs.Apart.{find_none}
 use Rattle.frame_diff.proofs.Beside.{found_last, last_at, or_else, or_none}
 use Rattle.frame_diff.proofs.Steps.{step_is}
-use Rattle.frame_diff.proofs.Walked.{last_further}
+use Rattle.frame_diff.proofs.Walked.{last_further, plain_items}
 use Rattle.frame_shown.specs.Items.{Lists}
 use Rattle.std.specs.List.{AllByRecursion}
 
@@ -68,8 +70,8 @@ module _ (side : Side) (text : List ℕ) where
   told_parts others (m ∷ ms) more none =
       let front = one others ms m in
       last_further side text others m (ms ++ more)
-      ∙ (λ k. cond (comes_append m.0 ms more none.0 k) []
-      (held_items side (further text m.0) m.1 (find m.0 others)) ++ told_parts others ms more none.1 k)
+      ∙ (λ k. cond (comes_append m.0 ms more none.0 k) [] (step_items side text m.0 m.1 (find m.0 others))
+      ++ told_parts others ms more none.1 k)
       ∙ sym (append_assoc front (items_told side text (forest ms) others) (items_told side text (forest more) others))
       ∙ ap (λ l. l ++ items_told side text (forest more) others) (sym (last_further side text others m ms))
 
@@ -146,20 +148,18 @@ arrays_arrays r list (l ∷ lists) fs =
     arrays_append (array_at l.1 hs inside) (arrays_of r list lists fs) (array_array l.1 hs inside)
     (arrays_arrays r list lists fs)
 
-pub list_lacks : (t s : Step) (hs : List (Option Held)) → is_step s t ≡ false → comes t (list_at s hs) ≡ false
-list_lacks t s hs other = by _ (places hs)
-  where
-    by : (v : List Token) (f : Forest) → comes t (unless_none s v f) ≡ false
-    by v Forest.none = refl
-    by v Forest.passed = refl
-    by v (Forest.tree a b c d) = ap (λ x. cond x true false) other
+pub list_lacks : (t s : Step) (hs : List (Option Held)) (inside : Forest) → is_step s t ≡ false
+    → comes t (list_by s hs inside) ≡ false
+list_lacks t s hs Forest.none other = refl
+list_lacks t s hs Forest.passed other = refl
+list_lacks t s hs (Forest.tree a b c d) other = ap (λ x. cond x true false) other
 
-pub names_lack : (ms : List Member) (s : Step) (hs : List (Option Held)) → AreNames ms → IsNoName s
-    → NoneComes ms (list_at s hs)
-names_lack [] s hs names none = tt
-names_lack (m ∷ ms) s hs names none = (
-  list_lacks m.0 s hs (ap (is_step s) names.0.1 ∙ (none names.0.0).0),
-  names_lack ms s hs names.1 none,
+pub names_lack : (ms : List Member) (s : Step) (hs : List (Option Held)) (inside : Forest) → AreNames ms → IsNoName s
+    → NoneComes ms (list_by s hs inside)
+names_lack [] s hs inside names none = tt
+names_lack (m ∷ ms) s hs inside names none = (
+  list_lacks m.0 s hs inside (ap (is_step s) names.0.1 ∙ (none names.0.0).0),
+  names_lack ms s hs inside names.1 none,
 )
 
 no_names : (s : Step) (ms : List Member) → AreNames ms → IsNoName s → comes s ms ≡ false
@@ -169,23 +169,17 @@ no_names s (m ∷ ms) names none =
     ∙ ap (λ b. cond b true (comes s ms)) (none names.0.0).1
     ∙ no_names s ms names.1 none
 
-pub list_lacks_names : (s : Step) (hs : List (Option Held)) (ms : List Member) → AreNames ms → IsNoName s
-    → NoneComes (list_at s hs) ms
-list_lacks_names s hs ms names none = by _ (places hs)
-  where
-    by : (v : List Token) (f : Forest) → NoneComes (unless_none s v f) ms
-    by v Forest.none = tt
-    by v Forest.passed = tt
-    by v (Forest.tree a b c d) = (no_names s ms names none, tt)
+pub list_lacks_names : (s : Step) (hs : List (Option Held)) (inside : Forest) (ms : List Member) → AreNames ms
+    → IsNoName s → NoneComes (list_by s hs inside) ms
+list_lacks_names s hs Forest.none ms names none = tt
+list_lacks_names s hs Forest.passed ms names none = tt
+list_lacks_names s hs (Forest.tree a b c d) ms names none = (no_names s ms names none, tt)
 
-pub lists_lack : (s t : Step) (hs gs : List (Option Held)) → is_step t s ≡ false
-    → NoneComes (list_at s hs) (list_at t gs)
-lists_lack s t hs gs other = by _ (places hs)
-  where
-    by : (v : List Token) (f : Forest) → NoneComes (unless_none s v f) (list_at t gs)
-    by v Forest.none = tt
-    by v Forest.passed = tt
-    by v (Forest.tree a b c d) = (list_lacks s t gs other, tt)
+pub lists_lack : (s t : Step) (hs gs : List (Option Held)) (inside other : Forest) → is_step t s ≡ false
+    → NoneComes (list_by s hs inside) (list_by t gs other)
+lists_lack s t hs gs Forest.none other apart = tt
+lists_lack s t hs gs Forest.passed other apart = tt
+lists_lack s t hs gs (Forest.tree a b c d) other apart = (list_lacks s t gs other apart, tt)
 
 -- no name is a list of values
 no_arrays : (s : Step) (ms : List Member) → AreArrays ms → IsNoArray s → comes s ms ≡ false
@@ -209,22 +203,19 @@ arrays_lack_names (l ∷ lists) ms arrays names = (
   arrays_lack_names lists ms arrays.1 names,
 )
 
-pub arrays_lack : (ms : List Member) (s : Step) (hs : List (Option Held)) → AreArrays ms → IsNoArray s
-    → NoneComes ms (list_at s hs)
-arrays_lack [] s hs arrays none = tt
-arrays_lack (m ∷ ms) s hs arrays none = (
-  list_lacks m.0 s hs (ap (is_step s) arrays.0.1 ∙ (none arrays.0.0).0),
-  arrays_lack ms s hs arrays.1 none,
+pub arrays_lack : (ms : List Member) (s : Step) (hs : List (Option Held)) (inside : Forest) → AreArrays ms
+    → IsNoArray s → NoneComes ms (list_by s hs inside)
+arrays_lack [] s hs inside arrays none = tt
+arrays_lack (m ∷ ms) s hs inside arrays none = (
+  list_lacks m.0 s hs inside (ap (is_step s) arrays.0.1 ∙ (none arrays.0.0).0),
+  arrays_lack ms s hs inside arrays.1 none,
 )
 
-pub list_lacks_arrays : (s : Step) (hs : List (Option Held)) (ms : List Member) → AreArrays ms → IsNoArray s
-    → NoneComes (list_at s hs) ms
-list_lacks_arrays s hs ms arrays none = by _ (places hs)
-  where
-    by : (v : List Token) (f : Forest) → NoneComes (unless_none s v f) ms
-    by v Forest.none = tt
-    by v Forest.passed = tt
-    by v (Forest.tree a b c d) = (no_arrays s ms arrays none, tt)
+pub list_lacks_arrays : (s : Step) (hs : List (Option Held)) (inside : Forest) (ms : List Member) → AreArrays ms
+    → IsNoArray s → NoneComes (list_by s hs inside) ms
+list_lacks_arrays s hs Forest.none ms arrays none = tt
+list_lacks_arrays s hs Forest.passed ms arrays none = tt
+list_lacks_arrays s hs (Forest.tree a b c d) ms arrays none = (no_arrays s ms arrays none, tt)
 
 -- no list of a name is among those of other names
 array_lacks : (s : Step) (name : List ℕ) (hs : List (Option Held)) (inside : Forest)
@@ -255,28 +246,33 @@ pub lacking : (side : Side) (text : List ℕ) (f : Forest)
 lacking side text Forest.none = refl
 lacking side text Forest.passed = refl
 lacking side text (Forest.tree s v i rest) =
-    let path = further text s in
-    ap (λ l. member_items side path v i (items_told side path i) None ++ l) (lacking side text rest)
+    ap (λ l. step_items side text s (v, i) None ++ l) (lacking side text rest)
 
--- a member at one step tells what those inside it tell
-pub unless_told : (side : Side) (text : List ℕ) (s : Step) (v w : List Token) (f g : Forest)
+-- a member at one step tells what those inside it tell, unless it is told as a whole
+pub unless_told : (side : Side) (text : List ℕ) (s : Step) (v w : List Token) (f g : Forest) → is_label s ≡ false
     → items_told side text (forest (unless_none s v f)) (forest (unless_none s w g))
     ≡ items_told side (further text s) f g
-unless_told side text s v w Forest.none g = refl
-unless_told side text s v w Forest.passed g = refl
-unless_told side text s v w (Forest.tree a b c d) Forest.none = append-nil _
-unless_told side text s v w (Forest.tree a b c d) Forest.passed =
-    append-nil _ ∙ lacking side (further text s) (Forest.tree a b c d)
-unless_told side text s v w (Forest.tree a b c d) (Forest.tree p q x y) =
-    append-nil _
-    ∙ ap (λ e. held_items side (further text s) (v, Forest.tree a b c d)
-    (cond e (Some (w, Forest.tree p q x y)) None)) (step_is s)
+unless_told side text s v w Forest.none g plain = refl
+unless_told side text s v w Forest.passed g plain = refl
+unless_told side text s v w (Forest.tree a b c d) Forest.none plain =
+    let held : Held = (v, Forest.tree a b c d) in
+    append-nil (step_items side text s held None) ∙ plain_items side text s held None plain
+unless_told side text s v w (Forest.tree a b c d) Forest.passed plain =
+    let held : Held = (v, Forest.tree a b c d) in
+    append-nil (step_items side text s held None) ∙ plain_items side text s held None plain
+    ∙ lacking side (further text s) (Forest.tree a b c d)
+unless_told side text s v w (Forest.tree a b c d) (Forest.tree p q x y) plain =
+    let held : Held = (v, Forest.tree a b c d) in
+    let beside = cond (is_step s s) (Some (w, Forest.tree p q x y)) None in
+    append-nil (step_items side text s held beside) ∙ plain_items side text s held beside plain
+    ∙ ap (λ e. held_items side (further text s) held (cond e (Some (w, Forest.tree p q x y)) None)) (step_is s)
 
--- a list of values tells what those in it tell, by their places
-pub list_told : (side : Side) (text : List ℕ) (s : Step) (hs gs : List (Option Held))
-    → items_told side text (forest (list_at s hs)) (forest (list_at s gs))
-    ≡ items_told side (further text s) (places hs) (places gs)
-list_told side text s hs gs = unless_told side text s _ _ (places hs) (places gs)
+-- a list of values tells what those in it tell
+pub list_told : (side : Side) (text : List ℕ) (s : Step) (hs gs : List (Option Held)) (inside other : Forest)
+    → is_label s ≡ false
+    → items_told side text (forest (list_by s hs inside)) (forest (list_by s gs other))
+    ≡ items_told side (further text s) inside other
+list_told side text s hs gs inside other plain = unless_told side text s _ _ inside other plain
 
 -- ** the members of a list of attributes
 
@@ -306,7 +302,7 @@ pub members_told : (r s : Reading) (list shape : Shape) (fs gs : List Frame) (si
     ++ (items_told side text (forest (arrays_in r list fs)) (forest (arrays_in s shape gs))
     ++ (items_told side (joined text (codes "repeated")) (places (earlier (named_in r list fs)))
     (places (earlier (named_in s shape gs)))
-    ++ items_told side (joined text (codes "other")) (places (kept_in r list fs)) (places (kept_in s shape gs))))
+    ++ items_told side (joined text (codes "other")) (kept_inside r list fs) (kept_inside s shape gs)))
 members_told r s list shape fs gs side text =
     let ms = named_in r list fs in
     let ns = named_in s shape gs in
@@ -318,37 +314,43 @@ members_told r s list shape fs gs side text =
     let are_too = arrays_arrays s shape (lists_in s.around shape) gs in
     let again = list_at Step.repeated (earlier ms) in
     let again_too = list_at Step.repeated (earlier ns) in
-    let kept = list_at Step.other (kept_in r list fs) in
-    let kept_too = list_at Step.other (kept_in s shape gs) in
+    let hs = kept_in r list fs in
+    let hs_too = kept_in s shape gs in
+    let inside = kept_inside r list fs in
+    let inside_too = kept_inside s shape gs in
+    let kept = list_by Step.other hs inside in
+    let kept_too = list_by Step.other hs_too inside_too in
     let told = items_told side text (forest ms) (forest ns) in
     let told_lists = items_told side text (forest lists) (forest lists_too) in
     let told_again = items_told side text (forest again) (forest again_too) in
     let told_kept = items_told side text (forest kept) (forest kept_too) in
     both_parts side text (ms ++ lists ++ again) kept (ns ++ lists_too ++ again_too) kept_too
     (both_lack (ms ++ lists) again kept
-    (both_lack ms lists kept (names_lack ms Step.other (kept_in r list fs) names no_name_other)
-    (arrays_lack lists Step.other (kept_in r list fs) are no_array_other))
-    (lists_lack Step.repeated Step.other (earlier ms) (kept_in r list fs) refl))
+    (both_lack ms lists kept (names_lack ms Step.other hs inside names no_name_other)
+    (arrays_lack lists Step.other hs inside are no_array_other))
+    (lists_lack Step.repeated Step.other (earlier ms) hs (places (earlier ms)) inside refl))
     (both_lack (ms ++ lists) again kept_too
-    (both_lack ms lists kept_too (names_lack ms Step.other (kept_in s shape gs) names no_name_other)
-    (arrays_lack lists Step.other (kept_in s shape gs) are no_array_other))
-    (lists_lack Step.repeated Step.other (earlier ms) (kept_in s shape gs) refl))
+    (both_lack ms lists kept_too (names_lack ms Step.other hs_too inside_too names no_name_other)
+    (arrays_lack lists Step.other hs_too inside_too are no_array_other))
+    (lists_lack Step.repeated Step.other (earlier ms) hs_too (places (earlier ms)) inside_too refl))
     (lacks_both kept (ns ++ lists_too) again_too
-    (lacks_both kept ns lists_too (list_lacks_names Step.other (kept_in r list fs) ns names_too no_name_other)
-    (list_lacks_arrays Step.other (kept_in r list fs) lists_too are_too no_array_other))
-    (lists_lack Step.other Step.repeated (kept_in r list fs) (earlier ns) refl))
+    (lacks_both kept ns lists_too (list_lacks_names Step.other hs inside ns names_too no_name_other)
+    (list_lacks_arrays Step.other hs inside lists_too are_too no_array_other))
+    (lists_lack Step.other Step.repeated hs (earlier ns) inside (places (earlier ns)) refl))
     ∙ ap (λ l. l ++ told_kept)
     (both_parts side text (ms ++ lists) again (ns ++ lists_too) again_too
-    (both_lack ms lists again (names_lack ms Step.repeated (earlier ms) names no_name_again)
-    (arrays_lack lists Step.repeated (earlier ms) are no_array_again))
-    (both_lack ms lists again_too (names_lack ms Step.repeated (earlier ns) names no_name_again)
-    (arrays_lack lists Step.repeated (earlier ns) are no_array_again))
-    (lacks_both again ns lists_too (list_lacks_names Step.repeated (earlier ms) ns names_too no_name_again)
-    (list_lacks_arrays Step.repeated (earlier ms) lists_too are_too no_array_again)))
+    (both_lack ms lists again (names_lack ms Step.repeated (earlier ms) (places (earlier ms)) names no_name_again)
+    (arrays_lack lists Step.repeated (earlier ms) (places (earlier ms)) are no_array_again))
+    (both_lack ms lists again_too (names_lack ms Step.repeated (earlier ns) (places (earlier ns)) names no_name_again)
+    (arrays_lack lists Step.repeated (earlier ns) (places (earlier ns)) are no_array_again))
+    (lacks_both again ns lists_too
+    (list_lacks_names Step.repeated (earlier ms) (places (earlier ms)) ns names_too no_name_again)
+    (list_lacks_arrays Step.repeated (earlier ms) (places (earlier ms)) lists_too are_too no_array_again)))
     ∙ ap (λ l. l ++ told_again ++ told_kept)
     (both_parts side text ms lists ns lists_too (names_lack_arrays ms lists names are)
     (names_lack_arrays ms lists_too names are_too) (arrays_lack_names lists ns are names_too))
     ∙ append_assoc (told ++ told_lists) told_again told_kept
     ∙ append_assoc told told_lists (told_again ++ told_kept)
-    ∙ (λ k. told ++ (told_lists ++ (list_told side text Step.repeated (earlier ms) (earlier ns) k
-    ++ list_told side text Step.other (kept_in r list fs) (kept_in s shape gs) k)))
+    ∙ (λ k. told ++ (told_lists
+    ++ (list_told side text Step.repeated (earlier ms) (earlier ns) (places (earlier ms)) (places (earlier ns)) refl k
+    ++ list_told side text Step.other hs hs_too inside inside_too refl k)))

@@ -7,8 +7,9 @@ use Rattle.std.proofs.lemmas.Bool.{and_from, and_parts, or_parts, not-true}
 use Rattle.std.proofs.lemmas.Fmt.{decimal_by_steps, decimal_injective}
 use Rattle.std.specs.Prelude.{◌==◌, ◌&&◌, ◌||◌, Option, None, Some, codes, cond, not}
 use Rattle.std.specs.List.{list_any}
-use Rattle.frame_diff.specs.Forests.{Path, Step, entries_step, field_step, is_step, is_text, rest_step, values_step}
-use Rattle.frame_diff.specs.Items.{further, is_label, path_text, step_text, text_behind}
+use Rattle.frame_diff.specs.Forests.{Path, Step, entries_step, field_step, is_label, is_step, is_text, rest_step}
+use Rattle.frame_diff.specs.Forests.{values_step}
+use Rattle.frame_diff.specs.Items.{further, path_text, step_text, text_behind}
 use Rattle.frame_diff.specs.Labels.{again_text, label_text, number_text}
 use Rattle.frame_diff.specs.Members.{refused_step}
 use Rattle.frame_diff.specs.declared.labels.Label.{Label}

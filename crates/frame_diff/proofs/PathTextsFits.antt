@@ -39,7 +39,7 @@ use Rattle.frame_diff.specs.Counters.{fields_left, is_clear}
 use Rattle.frame_diff.specs.Forests.{Forest, Held, Member, Step, comes, forest, is_number, left_of}
 use Rattle.frame_diff.specs.Items.{step_text}
 use Rattle.frame_diff.specs.Keys.{bounded, key_name, number_in, number_said}
-use Rattle.frame_diff.specs.Labels.{count, labelled, labels_behind, labels_of}
+use Rattle.frame_diff.specs.Labels.{count, keyed, labelled, labels_behind, labels_of}
 use Rattle.frame_diff.specs.Members.{Inner, fields, fields_kept, form_inside, held_inside, inside_of, ipv6_inside}
 use Rattle.frame_diff.specs.Members.{is_some, meaning_inside, named, numbers_by, placed, placed_one, places}
 use Rattle.frame_diff.specs.Members.{unless_none}
@@ -167,6 +167,7 @@ key_lacks Keys.Vid = refl
 key_lacks Keys.Msti = refl
 key_lacks Keys.From = refl
 key_lacks Keys.Vf = refl
+key_lacks Keys.Number = refl
 
 labelled_fit : (sort : Sort) (key : Key) (ls : List Label) (hs : List (Option Held)) → AreWritten ls → HeldFit sort hs
     → AllFit (Sort.values sort) (labelled key ls hs)
@@ -189,43 +190,47 @@ bounded_append [] ns h k = k
 bounded_append (m ∷ ms) ns h k = (h.0, bounded_append ms ns h.1 k)
 
 -- lists of values: each attribute is at most one
-module _ (sort : Sort) (cx : Around) (list : Shape) (values : Frame → List (Option Held))
-    (one : (f : Frame) → length (values f) ≤ 1) where
-  abbrev numbers : Option Key → List Frame → List (Option ℕ)
-  numbers key fs = numbers_by (number_in cx key list) values fs
-
-  numbers_few : (key : Option Key) (fs : List Frame) → length (numbers key fs) ≤ length fs
-  numbers_few key [] = omega arith
-  numbers_few key (f ∷ fs) =
-      let own = map (λ h. number_in cx key list f) (values f) in
+module _ (sort : Sort) (number_of : Frame → Option ℕ) (bound : (f : Frame) → IsBounded (number_of f))
+    (values : Frame → List (Option Held)) (one : (f : Frame) → length (values f) ≤ 1) where
+  numbers_few : (fs : List Frame) → length (numbers_by number_of values fs) ≤ length fs
+  numbers_few [] = omega arith
+  numbers_few (f ∷ fs) =
+      let own = map (λ h. number_of f) (values f) in
       omega (
         arith,
         one f,
-        numbers_few key fs,
-        length-map (values f) (λ h. number_in cx key list f),
-        length-append own (numbers key fs),
+        numbers_few fs,
+        length-map (values f) (λ h. number_of f),
+        length-append own (numbers_by number_of values fs),
       )
 
-  numbers_bounded : (key : Key) (fs : List Frame) → AreBounded (numbers (Some key) fs)
-  numbers_bounded key [] = tt
-  numbers_bounded key (f ∷ fs) =
-      bounded_append (map (λ h. number_in cx (Some key) list f) (values f)) (numbers (Some key) fs) (each (values f))
-      (numbers_bounded key fs)
+  numbers_bounded : (fs : List Frame) → AreBounded (numbers_by number_of values fs)
+  numbers_bounded [] = tt
+  numbers_bounded (f ∷ fs) =
+      bounded_append (map (λ h. number_of f) (values f)) (numbers_by number_of values fs) (each (values f))
+      (numbers_bounded fs)
     where
-      each : (hs : List (Option Held)) → AreBounded (map (λ h. number_in cx (Some key) list f) hs)
+      each : (hs : List (Option Held)) → AreBounded (map (λ h. number_of f) hs)
       each [] = tt
-      each (h ∷ hs) =
-          (bounded_is (number_said cx key list (row_in cx list (number f)).1 f.payload), each hs)
+      each (h ∷ hs) = (bound f, each hs)
 
+  pub keyed_fit : (key : Key) (fs : List Frame) → length fs < 2 ^ 64 → HeldFit sort (flat_map values fs)
+      → Fits (Sort.values sort) (keyed key (numbers_by number_of values fs) (flat_map values fs))
+  keyed_fit key fs few h =
+      let ns = numbers_by number_of values fs in
+      forest_fits (Sort.values sort) (labelled key (labels_of ns) (flat_map values fs))
+      (labelled_fit sort key (labels_of ns) (flat_map values fs)
+      (labels_written [] ns (omega (arith, few, numbers_few fs)) (numbers_bounded fs)) h)
+
+module _ (sort : Sort) (cx : Around) (list : Shape) (values : Frame → List (Option Held))
+    (one : (f : Frame) → length (values f) ≤ 1) where
   pub listed_fit : (key : Option Key) (fs : List Frame) → length fs < 2 ^ 64 → HeldFit sort (flat_map values fs)
-      → Fits (Sort.values sort) (inside_of key (numbers key fs) (flat_map values fs))
+      → Fits (Sort.values sort) (inside_of key (numbers_by (number_in cx key list) values fs) (flat_map values fs))
   listed_fit None fs few h =
       places_fit sort (flat_map values fs) (omega (arith, few, few_each values fs one)) h
   listed_fit (Some key) fs few h =
-      let ns = numbers (Some key) fs in
-      forest_fits (Sort.values sort) (labelled key (labels_of ns) (flat_map values fs))
-      (labelled_fit sort key (labels_of ns) (flat_map values fs)
-      (labels_written [] ns (omega (arith, few, numbers_few (Some key) fs)) (numbers_bounded key fs)) h)
+      keyed_fit sort (number_in cx (Some key) list)
+      (λ f. bounded_is (number_said cx key list (row_in cx list (number f)).1 f.payload)) values one key fs few h
 
 pub each_held : {X : Type 0} (sort : Sort) (F : X → List (Option Held)) (xs : List X)
     → ((x : X) → HeldFit sort (F x)) → HeldFit sort (flat_map F xs)

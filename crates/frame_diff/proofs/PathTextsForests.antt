@@ -26,10 +26,12 @@ use Rattle.frame_diff.specs.Keys.{key_at}
 use Rattle.frame_diff.specs.Members.{Parts, Reading, alone, as_object, attributes_in, earlier, entries_in, entry_of}
 use Rattle.frame_diff.specs.Members.{entries_inside, entry_with, inside_with}
 use Rattle.frame_diff.specs.Members.{is_unnamed, array_at, arrays_in, arrays_of, value_with, values_with}
-use Rattle.frame_diff.specs.Members.{frame_member, held_by, is_some, kept_by, kept_in, list_at, list_members}
+use Rattle.frame_diff.specs.Members.{frame_member, held_by, is_some, kept_in, kept_inside, kept_with, list_at}
+use Rattle.frame_diff.specs.Members.{list_members, others_at}
 use Rattle.frame_diff.specs.Members.{members_in, message_forest, message_members, named, named_in, places, reading}
 use Rattle.frame_diff.specs.Members.{refused_in, refused_step, values_inside}
 use Rattle.frame_diff.specs.PathTexts.{IsRead}
+use Rattle.frame_diff.specs.declared.keys.Key.TheVariants as Keys
 use Rattle.frame_diff.proofs.PathTexts.{Sort, Stands, StandsIn, Whose, array_stands, is_array, name_stands}
 use Rattle.frame_diff.proofs.PathTexts.{whose_entry, within}
 use Rattle.frame_diff.proofs.PathTextsNames.{AllFit as ListsFit, is_known, is_values, lists_fit, row_fits, row_named}
@@ -38,8 +40,8 @@ use Rattle.frame_diff.proofs.PathTextsNames.{sort_of, sort_of_each, value_fits, 
 use Rattle.frame_diff.proofs.PathTextsNames.{whose_table}
 use Rattle.frame_diff.proofs.PathTextsFits.{AllFit, AreFew, AreShort, Fits, HeldFit, InnerFits}
 use Rattle.frame_diff.proofs.PathTextsFits.{IsShort, append_fits, inside_fit}
-use Rattle.frame_diff.proofs.PathTextsFits.{each_held, few_each, few_in, fields_fit, forest_fits, held_append}
-use Rattle.frame_diff.proofs.PathTextsFits.{held_fits, left_fits, listed_fit, places_fit, unless_fits}
+use Rattle.frame_diff.proofs.PathTextsFits.{each_held, few_in, fields_fit, forest_fits, held_append}
+use Rattle.frame_diff.proofs.PathTextsFits.{held_fits, keyed_fit, left_fits, listed_fit, places_fit, unless_fits}
 use Rattle.frame_shown.specs.Items.{Lists}
 
 -- ** attributes
@@ -217,36 +219,37 @@ named_few r list (f ∷ fs) =
     by m false = omega arith
 
 module _ (r : Reading) (list : Shape) where
-  abbrev kept_one : Frame → List (Option Held)
-  kept_one f = kept_by (is_passed r.is_state list (number f)) r.around (row_in r.around list (number f)) f
-
   kept_fit : (fs : List Frame) → HeldFit Sort.fields (kept_in r list fs)
-  kept_fit fs = each_held Sort.fields kept_one fs one
+  kept_fit fs = each_held Sort.fields (kept_with r list) fs one
     where
       by : (ms : Members) (b c : Bool) → HeldFit Sort.fields (cond b (cond c None (Some (as_object ms)) ∷ []) [])
       by ms false c = tt
       by ms true true = tt
       by ms true false = (fields_fit ms, tt)
 
-      one : (f : Frame) → HeldFit Sort.fields (kept_one f)
+      one : (f : Frame) → HeldFit Sort.fields (kept_with r list f)
       one f =
           let known = row_in r.around list (number f) in
           by (frame_members known.0 (kind_shown known.1 f.kind) f.payload) (is_kept known.1 f.payload)
           (is_passed r.is_state list (number f))
 
-  kept_few : (fs : List Frame) → length (kept_in r list fs) ≤ length fs
-  kept_few fs = few_each kept_one fs one
+  kept_once : (f : Frame) → length (kept_with r list f) ≤ 1
+  kept_once f =
+      let known = row_in r.around list (number f) in
+      by (cond (is_passed r.is_state list (number f)) None
+      (Some (as_object (frame_members known.0 (kind_shown known.1 f.kind) f.payload)))) (is_kept known.1 f.payload)
     where
       by : (h : Option Held) (b : Bool) → length (cond b (h ∷ []) []) ≤ 1
       by h true = omega arith
       by h false = omega arith
 
-      one : (f : Frame) → length (kept_one f) ≤ 1
-      one f =
-          let known = row_in r.around list (number f) in
-          by (cond (is_passed r.is_state list (number f)) None
-          (Some (as_object (frame_members known.0 (kind_shown known.1 f.kind) f.payload))))
-          (is_kept known.1 f.payload)
+  others_fit : (fs : List Frame) → length fs < 2 ^ 64 → Fits (Sort.values Sort.fields) (kept_inside r list fs)
+  others_fit fs few =
+      keyed_fit Sort.fields (λ f. Some (number f)) number_few (kept_with r list) kept_once Keys.Number fs few
+      (kept_fit fs)
+    where
+      number_few : (f : Frame) → number f < 2 ^ 64
+      number_few f = omega arith
 
 -- ** lists of attributes
 
@@ -260,14 +263,13 @@ module _ (r : Reading) (fit : InnerFits r.inner) where
       let ms = named_in r list fs in
       let arrays = arrays_in r list fs in
       let all = named_all r fit list whose rows fs few.1 in
-      append_fits own (ms ++ arrays ++ list_at Step.repeated (earlier ms)) (list_at Step.other (kept_in r list fs))
+      append_fits own (ms ++ arrays ++ list_at Step.repeated (earlier ms)) (others_at Step.other r list fs)
       (append_fits own (ms ++ arrays) (list_at Step.repeated (earlier ms))
       (append_fits own ms arrays all (arrays_fit r fit list whose (lists_in r.around list) lists fs few))
       (unless_fits own Step.repeated _ (places (earlier ms)) (refl, refl)
       (places_fit own (earlier ms) (omega (arith, few.0, earlier_few ms, named_few r list fs))
       (earlier_fit own ms all))))
-      (unless_fits own Step.other _ (places (kept_in r list fs)) (refl, refl)
-      (places_fit Sort.fields (kept_in r list fs) (omega (arith, few.0, kept_few r list fs)) (kept_fit r list fs)))
+      (unless_fits own Step.other _ (kept_inside r list fs) (refl, refl) (others_fit r list fs few.0))
 
   entries_fit : (list : Shape) (whose : Whose)
       → ((n : ℕ) → row_fits (Sort.attributes whose) (row_in r.around list n) ≡ true)
@@ -348,9 +350,8 @@ module _ (r : Reading) (fit : InnerFits r.inner) where
           inside_fit Sort.fields hs (places hs) (places_fit Sort.fields hs
               (omega (arith, few.0, named_few r list fs, length-map (named_in r list fs) (λ (m : Member). Some m.1)))
               (values_all r fit list (rows_suit r.around all list known) fs few.1)),
-          unless_fits Sort.listed (rest_step (codes "other")) _ (places (kept_in r list fs)) (refl, refl)
-              (places_fit Sort.fields (kept_in r list fs) (omega (arith, few.0, kept_few r list fs))
-              (kept_fit r list fs)),
+          unless_fits Sort.listed (rest_step (codes "other")) _ (kept_inside r list fs) (refl, refl)
+              (others_fit r list fs few.0),
         )
     list_fits (Shapes.Entries group) known fs few = (group_is group, groups_fit group fs few, tt)
     list_fits (Shapes.Of place) known fs few =

@@ -1,22 +1,24 @@
 -- No two leaves of a message, and no two changes that are told, have one path text.
 use Rattle.std.proofs.Common.{◌≡◌, ℕ, Bool, true, false, List, [], ◌∷◌, map, refl, sym, ap, subst, ◌∙◌}
 use Rattle.std.proofs.lemmas.Bool.{and_from, not_from_false, or_from, or_parts}
-use Rattle.std.specs.Prelude.{Option, Some, None, cond, not, ◌||◌}
+use Rattle.std.specs.Prelude.{Option, Some, None, cond, not, ◌&&◌, ◌||◌}
 use Rattle.std.specs.List.{list_any}
 use Rattle.json.specs.Token.{Token}
 use Rattle.frame_shown.specs.Names.{are_apart}
-use Rattle.frame_diff.specs.Differences.{Change, is_shown_same, leaf_change, path_of, side_changes}
-use Rattle.frame_diff.specs.Forests.{Leaf, Path, is_path, is_text, leaves, value_at}
-use Rattle.frame_diff.specs.Items.{path_text}
+use Rattle.frame_diff.specs.Differences.{Change, inside_in, is_shown_same, leaf_change, path_of, side_changes}
+use Rattle.frame_diff.specs.Forests.{Forest, Leaf, Path, find, is_label, is_path, is_text, leaves, value_at}
+use Rattle.frame_diff.specs.Items.{path_text, step_text}
 use Rattle.frame_diff.specs.Laws.{AreOnce, messages_told as told}
 use Rattle.frame_diff.specs.Members.{message_forest}
 use Rattle.frame_diff.specs.PathTexts.{PathTextsAreApart}
+use Rattle.frame_diff.specs.Wholes.{is_alone, wholes}
 use Rattle.frame_diff.specs.declared.side.Side.{Side}
 use Rattle.frame_diff.specs.declared.side.Side.TheVariants.{Old, New}
 use Rattle.frame_diff.proofs.Apart.{message_apart}
 use Rattle.frame_diff.proofs.Messages.{messages_told}
 use Rattle.frame_diff.proofs.Once.{StandOnce, leaves_once}
-use Rattle.frame_diff.proofs.PathTexts.{Sort, StandsIn, path_of_text, Whose}
+use Rattle.frame_diff.proofs.PathTexts.{Sort, StandsIn, Whose, path_of_text, within}
+use Rattle.frame_diff.proofs.PathTextsFits.{Fits}
 use Rattle.frame_diff.proofs.PathTextsForests.{AllStand, append_stand, leaf_path, leaves_stand, message_fits}
 use Rattle.frame_diff.proofs.Steps.{path_is, path_same, text_same}
 
@@ -88,6 +90,26 @@ leaves_are (l ∷ ls) once = (none_at ls l.0 once.0, leaves_are ls once.1)
 
 -- ** changes
 
+-- values that are told as a whole stand where they stood
+unless_fit : (b : Bool) (sort : Sort) (f : Forest) → Fits sort f → Fits sort (cond b Forest.none f)
+unless_fit true sort f h = tt
+unless_fit false sort f h = h
+
+wholes_fit : (sort : Sort) (f g : Forest) → Fits sort f → Fits sort (wholes f g)
+wholes_fit sort Forest.none g h = tt
+wholes_fit sort Forest.passed g h = tt
+wholes_fit sort (Forest.tree s v i rest) g h =
+    let beside = find s g in
+    let inner = within sort (step_text s) in (
+      h.0,
+      unless_fit (is_label s && is_alone beside) inner (wholes i (inside_in beside))
+          (wholes_fit inner i (inside_in beside) h.1),
+      wholes_fit sort rest g h.2,
+    )
+
+wholes_stand : (f g : Forest) → Fits others f → AllStand leaf_path others (leaves (wholes f g))
+wholes_stand f g h = leaves_stand others (wholes f g) (wholes_fit others f g h)
+
 change_stands : (side : Side) (l : Leaf) (beside : Option (List Token)) → StandsIn others l.0
     → AllStand path_of others (leaf_change side l.0 l.1 beside)
 change_stands Old l None h = (h, tt)
@@ -125,11 +147,13 @@ path_texts_apart = record {
   told_apart = λ is_state cx other old new read too.
       let f = message_forest is_state cx old in
       let g = message_forest is_state other new in
+      let old_leaves = leaves (wholes f g) in
+      let new_leaves = leaves (wholes g f) in
       texts_apart path_of (told is_state cx other old new)
       (subst (AllStand path_of others) (sym (messages_told.all is_state cx other old new))
-      (append_stand path_of others (side_changes Old [] (leaves f) (leaves g))
-      (side_changes New [] (leaves g) (leaves f))
-      (side_stands Old (leaves f) (leaves g) (leaves_stand others f (message_fits is_state cx old read)))
-      (side_stands New (leaves g) (leaves f) (leaves_stand others g (message_fits is_state other new too)))))
+      (append_stand path_of others (side_changes Old [] old_leaves new_leaves)
+      (side_changes New [] new_leaves old_leaves)
+      (side_stands Old old_leaves new_leaves (wholes_stand f g (message_fits is_state cx old read)))
+      (side_stands New new_leaves old_leaves (wholes_stand g f (message_fits is_state other new too)))))
       (changes_are (told is_state cx other old new) (messages_told.once is_state cx other old new));
 }

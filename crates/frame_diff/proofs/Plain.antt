@@ -33,13 +33,17 @@ use Rattle.frame_shown.proofs.PlainStyles.{meaning_now, read_now, record_now, si
 use Rattle.frame_diff.specs.Counters.{action_in, is_clear, is_passed}
 use Rattle.frame_diff.specs.Forests.{Forest, Member, Step, entries_step, forest, left_of, rest_step, values_step}
 use Rattle.frame_diff.specs.Keys.{key_at}
+use Rattle.frame_diff.specs.Labels.{keyed}
 use Rattle.frame_diff.specs.Members.{Inner, Parts, Reading, as_object, attributes_in, earlier, entries_in, entry_of}
 use Rattle.frame_diff.specs.Members.{entries_inside, entry_with, inside_of, inside_with, numbers_by, places}
 use Rattle.frame_diff.specs.Members.{is_unnamed, each_by, value_with, array_at, arrays_in}
 use Rattle.frame_diff.specs.Members.{fields, fields_kept, form_inside, frame_member, group_of, held_by, inner_by}
 use Rattle.frame_diff.specs.Members.{ipv6_inside, is_some, kept_by, kept_in, list_at, list_members, listed_in}
 use Rattle.frame_diff.specs.Members.{meaning_inside, members_in, message_forest, message_members, named, named_by}
-use Rattle.frame_diff.specs.Members.{named_in, reading, refused_in, refused_step, unless_none, way_inside}
+use Rattle.frame_diff.specs.Members.{named_in, reading, refused_in, refused_step, unless_none, way_inside, kept_inside}
+use Rattle.frame_diff.specs.Members.{list_by}
+use Rattle.frame_diff.specs.Settled.{settled}
+use Rattle.frame_diff.specs.declared.keys.Key.TheVariants as Keys
 use Rattle.frame_diff.proofs.PlainKeys.{number_same}
 
 -- ** by rows as values
@@ -166,21 +170,27 @@ module _ (cx other : Around) (s : AreAlike cx other) where
     kept_in_same : (list : Shape) (fs : List Frame) → kept_in (by cx) list fs ≡ kept_in (by other) list fs
     kept_in_same list fs = λ i. flat_map (λ f. kept_same (is_passed is_state list (number f)) list f i) fs
 
+    kept_inside_same : (list : Shape) (fs : List Frame) → kept_inside (by cx) list fs ≡ kept_inside (by other) list fs
+    kept_inside_same list fs = λ i.
+        keyed Keys.Number (numbers_by (λ f. Some (number f))
+        (λ f. kept_same (is_passed is_state list (number f)) list f i) fs) (kept_in_same list fs i)
+
     members_same : (list : Shape) (fs : List Frame) → members_in (by cx) list fs ≡ members_in (by other) list fs
     members_same list fs = λ i.
         named_in_same list fs i ++ arrays_same list fs i ++ list_at Step.repeated (earlier (named_in_same list fs i))
-        ++ list_at Step.other (kept_in_same list fs i)
+        ++ list_by Step.other (kept_in_same list fs i) (kept_inside_same list fs i)
 
     listed_same : (group : Group) (list : Shape) (fs : List Frame)
         → listed_in (by cx) group list fs ≡ listed_in (by other) group list fs
     listed_same group list fs = λ i.
         group_of (values_step (group_name group)) (map (λ (m : Member). Some m.1) (named_in_same list fs i))
         (places (map (λ (m : Member). Some m.1) (named_in_same list fs i)))
-        ∷ list_at (rest_step (codes "other")) (kept_in_same list fs i)
+        ∷ list_by (rest_step (codes "other")) (kept_in_same list fs i) (kept_inside_same list fs i)
 
     entry_same : (list : Shape) (p : List ℕ) → entry_of (by cx) list p ≡ entry_of (by other) list p
     entry_same list p = λ i. (
-      object_of (members_of (lists_same cx other s list i) (items_same cx other s nest nest refl list (items p) i)),
+      object_of (members_of (lists_same cx other s list i) (items_same cx other s nest nest refl list
+          (items (settled is_state list p)) i)),
       left_of (is_some (frames_in (items p))) (members_same list (frames_in (items p)) i),
     )
 

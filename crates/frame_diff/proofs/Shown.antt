@@ -1,6 +1,6 @@
 -- The members of a list of attributes are what is shown of it.
 use Rattle.std.proofs.Common.{◌≡◌, ℕ, zero, suc, Bool, true, false, List, [], ◌∷◌, ◌++◌, map, refl, sym, ap, subst}
-use Rattle.std.proofs.Common.{◌∙◌, append_assoc, eq-eqb, eqb-true}
+use Rattle.std.proofs.Common.{◌∙◌, append_assoc, eq-eqb, eqb-true, length}
 use Rattle.std.specs.Prelude.{Option, Some, None, cond, ◌==◌, ◌||◌}
 use Rattle.std.specs.List.{AllByRecursion, flat_map}
 use Rattle.json.specs.Token.{Token}
@@ -18,14 +18,19 @@ use Rattle.frame_shown.specs.declared.form.List.{List as Shape}
 use Rattle.frame_diff.specs.Counters.{action_in}
 use Rattle.frame_diff.specs.Forests.{Forest, Held, Member, Step, comes, field_step, forest, is_step, is_text}
 use Rattle.frame_diff.specs.Items.{step_text}
+use Rattle.frame_diff.specs.Labels.{labelled, labels_of}
 use Rattle.frame_shown.specs.Values.{Nesting}
 use Rattle.frame_diff.specs.Members.{Inner, Reading, alone, as_object, earlier, fields, held_by, inner_by, kept_in}
 use Rattle.frame_diff.specs.Members.{array_at, arrays_in, arrays_of, inside_with, values_with}
-use Rattle.frame_diff.specs.Members.{list_at, members_in, named, named_in, placed, placed_one, places, reading}
-use Rattle.frame_diff.specs.Members.{unless_none, value_in}
+use Rattle.frame_diff.specs.Members.{list_at, members_in, named, named_in, placed, places, reading}
+use Rattle.frame_diff.specs.Members.{is_some, kept_inside, kept_with, list_by, numbers_by, unless_none, value_in}
 use Rattle.frame_diff.specs.Shown.{AreNamedApart, HasNamesApart, MembersAreShown, shown_in, AreListsApart}
+use Rattle.frame_diff.specs.declared.keys.Key.{Key}
+use Rattle.frame_diff.specs.declared.keys.Key.TheVariants as Keys
+use Rattle.frame_diff.specs.declared.labels.Label.{Label}
 use Rattle.frame_diff.proofs.Parts.{NoneComes, both_lack, comes_append, array_apart, arrays_arrays, arrays_lack}
 use Rattle.frame_diff.proofs.Parts.{names_lack_arrays, named_names}
+use Rattle.frame_diff.proofs.Numbered.{labels_long, numbers_long}
 use Rattle.frame_diff.proofs.Steps.{text_is, text_same}
 use Rattle.frame_diff.proofs.Values.{AreValues, texts_are, values_agree}
 
@@ -80,18 +85,33 @@ values_are (x ∷ hs) [] h = absurd h
 values_are (None ∷ hs) (o ∷ os) h = absurd h
 values_are (Some held ∷ hs) (o ∷ os) h = (λ k. h.0 k ++ values_are hs os h.1 k)
 
-list_is : (s : Step) (hs : List (Option Held)) (os : List Members) → AreObjects hs os
-    → lasts (list_at s hs) ≡ list_under (step_text s) (map object_of os)
-list_is s [] [] h = refl
-list_is s [] (o ∷ os) h = absurd h
-list_is s (x ∷ hs) [] h = absurd h
-list_is s (None ∷ hs) (o ∷ os) h = absurd h
-list_is s (Some (v, i) ∷ hs) (o ∷ os) h =
-    let all = values_are (Some (v, i) ∷ hs) (o ∷ os) h in
-    ap (λ w. lasts (unless_none s (list_of (flat_map value_in (Some (v, i) ∷ hs)))
-    (forest (placed_one 0 (Some (w, i)) ++ placed 1 hs)))) h.0
-    ∙ some_tree s (list_of (flat_map value_in (Some (v, i) ∷ hs))) (Step.place 0, (object_of o, i)) (placed 1 hs)
-    ∙ ap (λ values. (step_text s, list_of values) ∷ []) all
+-- there is a member inside where there is a value
+list_is : (s : Step) (hs : List (Option Held)) (ms : List Member) (os : List Members) → AreObjects hs os
+    → is_some ms ≡ is_some hs → lasts (list_by s hs (forest ms)) ≡ list_under (step_text s) (map object_of os)
+list_is s [] [] [] h some = refl
+list_is s [] (m ∷ ms) [] h some = absurd cc
+list_is s [] ms (o ∷ os) h some = absurd h
+list_is s (x ∷ hs) ms [] h some = absurd h
+list_is s (None ∷ hs) ms (o ∷ os) h some = absurd h
+list_is s (Some held ∷ hs) [] (o ∷ os) h some = absurd cc
+list_is s (Some held ∷ hs) (m ∷ ms) (o ∷ os) h some =
+    some_tree s (list_of (flat_map value_in (Some held ∷ hs))) m ms
+    ∙ ap (λ values. (step_text s, list_of values) ∷ []) (values_are (Some held ∷ hs) (o ∷ os) h)
+
+places_some : (hs : List (Option Held)) (os : List Members) → AreObjects hs os → is_some (placed 0 hs) ≡ is_some hs
+places_some [] os h = refl
+places_some (x ∷ hs) [] h = absurd h
+places_some (None ∷ hs) (o ∷ os) h = absurd h
+places_some (Some held ∷ hs) (o ∷ os) h = refl
+
+labels_some : (key : Key) (ls : List Label) (hs : List (Option Held)) (os : List Members) → AreObjects hs os
+    → length ls ≡ length hs → is_some (labelled key ls hs) ≡ is_some hs
+labels_some key [] [] os h long = refl
+labels_some key (l ∷ ls) [] os h long = refl
+labels_some key [] (x ∷ hs) os h long = absurd cc
+labels_some key (l ∷ ls) (x ∷ hs) [] h long = absurd h
+labels_some key (l ∷ ls) (None ∷ hs) (o ∷ os) h long = absurd h
+labels_some key (l ∷ ls) (Some held ∷ hs) (o ∷ os) h long = refl
 
 -- ** a list that attributes are the values of
 
@@ -233,15 +253,15 @@ module _ (nest : Nesting) (inner : Inner) (cx : Around) (list : Shape) (apart : 
   list_lacks name s v Forest.passed other = refl
   list_lacks name s v (Forest.tree a b c d) other = ap (λ x. cond x true false) other
 
-  none_comes : (fs : List Frame) (s : Step) (hs : List (Option Held))
-      → ((name : List ℕ) → is_step s (Step.name name) ≡ false) → NoneComes (named_in r list fs) (list_at s hs)
-  none_comes [] s hs other = tt
-  none_comes (f ∷ fs) s hs other = by (kept f || each f) (none_comes fs s hs other)
+  none_comes : (fs : List Frame) (s : Step) (hs : List (Option Held)) (i : Forest)
+      → ((name : List ℕ) → is_step s (Step.name name) ≡ false) → NoneComes (named_in r list fs) (list_by s hs i)
+  none_comes [] s hs i other = tt
+  none_comes (f ∷ fs) s hs i other = by (kept f || each f) (none_comes fs s hs i other)
     where
-      by : (b : Bool) → NoneComes (named_in r list fs) (list_at s hs)
-          → NoneComes (ours f b ++ named_in r list fs) (list_at s hs)
+      by : (b : Bool) → NoneComes (named_in r list fs) (list_by s hs i)
+          → NoneComes (ours f b ++ named_in r list fs) (list_by s hs i)
       by true later = later
-      by false later = (list_lacks (row f).0 s _ (places hs) (other (row f).0), later)
+      by false later = (list_lacks (row f).0 s _ i (other (row f).0), later)
 
   repeated_lacks : (v w : List Token) (i j : Forest)
       → NoneComes (unless_none Step.repeated v i) (unless_none Step.other w j)
@@ -258,20 +278,26 @@ module _ (nest : Nesting) (inner : Inner) (cx : Around) (list : Shape) (apart : 
       let lists = arrays_in r list fs in
       let are = arrays_arrays r list (lists_in cx list) fs in
       let again = list_at Step.repeated (earlier ms) in
-      let others = list_at Step.other (kept_in r list fs) in
+      let hs = kept_in r list fs in
+      let inside = kept_inside r list fs in
+      let ns = numbers_by (λ f. Some (number f)) (kept_with r list) fs in
+      let others = list_by Step.other hs inside in
       forest_shows (members_in r list fs)
       ∙ lasts_append (ms ++ lists ++ again) others (both_lack (ms ++ lists) again others
-      (both_lack ms lists others (none_comes fs Step.other (kept_in r list fs) (λ name. refl))
-      (arrays_lack lists Step.other (kept_in r list fs) are (λ name. (refl, refl))))
-      (repeated_lacks _ _ (places (earlier ms)) (places (kept_in r list fs))))
+      (both_lack ms lists others (none_comes fs Step.other hs inside (λ name. refl))
+      (arrays_lack lists Step.other hs inside are (λ name. (refl, refl))))
+      (repeated_lacks _ _ (places (earlier ms)) inside))
       ∙ ap (λ l. l ++ lasts others) (lasts_append (ms ++ lists) again
-      (both_lack ms lists again (none_comes fs Step.repeated (earlier ms) (λ name. refl))
-      (arrays_lack lists Step.repeated (earlier ms) are (λ name. (refl, refl)))))
+      (both_lack ms lists again (none_comes fs Step.repeated (earlier ms) (places (earlier ms)) (λ name. refl))
+      (arrays_lack lists Step.repeated (earlier ms) (places (earlier ms)) are (λ name. (refl, refl)))))
       ∙ ap (λ l. l ++ lasts again ++ lasts others)
       (lasts_append ms lists (names_lack_arrays ms lists (named_names r list fs) are))
       ∙ (λ k. lasts_agree fs k ++ arrays_agree (lists_in cx list) apart.lists fs k
-      ++ list_is Step.repeated (earlier ms) (earlier_ones (all fs)) (earlier_agree fs) k
-      ++ list_is Step.other (kept_in r list fs) (kept_ones (all fs)) (kept_agree fs) k)
+      ++ list_is Step.repeated (earlier ms) (placed 0 (earlier ms)) (earlier_ones (all fs)) (earlier_agree fs)
+      (places_some (earlier ms) (earlier_ones (all fs)) (earlier_agree fs)) k
+      ++ list_is Step.other hs (labelled Keys.Number (labels_of ns) hs) (kept_ones (all fs)) (kept_agree fs)
+      (labels_some Keys.Number (labels_of ns) hs (kept_ones (all fs)) (kept_agree fs)
+      (labels_long [] ns ∙ numbers_long (λ f. Some (number f)) (kept_with r list) fs)) k)
 
 pub lists_shown : (n : ℕ) (cx : Around) (list : Shape) (p : List ℕ) → HasNamesApart cx list
     → shown_in (forest (members_in (reading n false cx) list (frames_in (items p))))

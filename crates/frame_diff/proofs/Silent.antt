@@ -23,11 +23,11 @@ member_silent side path v Forest.none inner = leaf_silent side path v
 member_silent side path v Forest.passed inner = refl
 member_silent side path v (Forest.tree a b c d) inner = inner
 
-found_first : (s : Step) (v : List Token) (i rest : Forest) → find s (Forest.tree s v i rest) ≡ Some (v, i)
+pub found_first : (s : Step) (v : List Token) (i rest : Forest) → find s (Forest.tree s v i rest) ≡ Some (v, i)
 found_first s v i rest = ap (λ b. cond b (Some (v, i)) (find s rest)) (step_is s)
 
 -- those behind the first one
-rest_has : (s : Step) (v : List Token) (i rest g : Forest) → find s rest ≡ None → Has (Forest.tree s v i rest) g
+pub rest_has : (s : Step) (v : List Token) (i rest g : Forest) → find s rest ≡ None → Has (Forest.tree s v i rest) g
     → Has rest g
 rest_has s v i rest g none has t held found = has t held (by (is_step s t) refl)
   where

@@ -2,7 +2,6 @@
 use Rattle.std.proofs.Common.{◌≡◌, ℕ, Bool, true, false, List, [], ◌++◌, refl, sym, ap, ◌∙◌, map, subst}
 use Rattle.std.specs.Prelude.{◌&&◌, ◌==◌, codes, slice_index}
 use Rattle.std.proofs.Common.{eqb-true}
-use Rattle.std.proofs.lemmas.List.{map-append}
 use Rattle.nla_wire.specs.Frames.{Frame}
 use Rattle.nla_wire.specs.Items.{items}
 use Rattle.nla_wire.proofs.Items.{items_nil}
@@ -14,7 +13,6 @@ use Rattle.frame_shown.specs.Items.{objects}
 use Rattle.frame_shown.specs.Messages.{address_len, header_members, with_address_len}
 use Rattle.frame_shown.specs.declared.form.Around.{Around}
 use Rattle.frame_shown.specs.declared.form.List.TheVariants as Shapes
-use Rattle.frame_diff.specs.Differences.{told}
 use Rattle.frame_diff.specs.Forests.{Member, forest, left_of}
 use Rattle.frame_diff.specs.Items.{change_item, items_told}
 use Rattle.frame_diff.specs.Laws.{messages_told}
@@ -24,9 +22,10 @@ use Rattle.frame_diff.specs.Members.{refused_step, unless_none}
 use Rattle.frame_diff.specs.Walked.{HasNames}
 use Rattle.frame_diff.specs.declared.side.Side.{Side}
 use Rattle.frame_diff.specs.declared.side.Side.TheVariants.{Old, New}
+use Rattle.frame_diff.proofs.Apart.{message_apart}
 use Rattle.frame_diff.proofs.Entries.{both_told}
 use Rattle.frame_diff.proofs.Inside.{same_written}
-use Rattle.frame_diff.proofs.Items.{items_are}
+use Rattle.frame_diff.proofs.Items.{both_are}
 use Rattle.frame_diff.proofs.Names.{names_apart}
 use Rattle.frame_diff.proofs.Parts.{NoneComes, both_lack, both_parts, lacks_both, unless_told}
 use Rattle.frame_diff.proofs.Sorts.{AreOf, members_sort, named_sort, refused_sort, sorts_apart}
@@ -136,7 +135,8 @@ pub refused_told : (side : Side) (is_state : Bool) (cx theirs : Around) (own oth
 refused_told side is_state cx theirs own others page new =
     same_written _ _ page new
     (sym (unless_told side [] refused_step (levels 1 cx Shapes.Refused own) (levels 1 theirs Shapes.Refused others)
-    ((reading 1 is_state cx).inner Shapes.Refused own) ((reading 1 is_state theirs).inner Shapes.Refused others)))
+    ((reading 1 is_state cx).inner Shapes.Refused own) ((reading 1 is_state theirs).inner Shapes.Refused others)
+    refl))
 
 -- ** both
 
@@ -151,8 +151,7 @@ messages_written is_state cx other old new page middle last first second =
     let g = message_forest is_state other new in
     both_told (items_told Old [] f g) (items_told New [] g f) page middle last first second
     ∙ ap (λ os. with_members (objects os) page)
-    ((λ k. items_are Old [] f g k ++ items_are New [] g f k)
-    ∙ sym (map-append change_item (told Old [] f g) (told New [] g f)))
+    (both_are f g (message_apart is_state cx old) (message_apart is_state other new))
 
 -- ** the header
 

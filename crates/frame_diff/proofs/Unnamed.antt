@@ -9,9 +9,6 @@ use Rattle.frame_diff.specs.Members.{is_unnamed}
 pub not_kept : (way : Way) (p : List ℕ) → is_unnamed way p ≡ false → is_kept way p ≡ false
 not_kept way p named = (or_parts (is_kept way p) (is_each way) named).0
 
-pub not_each : (way : Way) (p : List ℕ) → is_unnamed way p ≡ false → is_each way ≡ false
-not_each way p named = (or_parts (is_kept way p) (is_each way) named).1
-
 -- a value of a list is not kept as it is
 pub each_not_kept : (way : Way) (p : List ℕ) → is_each way ≡ true → is_kept way p ≡ false
 each_not_kept (Ways.Own form) p each = absurd cc

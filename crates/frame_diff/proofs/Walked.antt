@@ -1,6 +1,6 @@
 -- One attribute further.
 use Rattle.std.proofs.Common.{◌≡◌, ℕ, ◌+◌, Bool, true, false, List, [], ◌∷◌, ◌++◌, length, drop, refl, sym, ap, ◌∙◌}
-use Rattle.std.proofs.Common.{Ok, Err, Option, Some, None, map, eq-eqb, eqb-true, subst}
+use Rattle.std.proofs.Common.{Ok, Err, Option, Some, None, eq-eqb, eqb-true, subst}
 use Rattle.std.specs.Prelude.{◌==◌, ◌&&◌, ◌||◌, IfSome, cond, not, option_map}
 use Rattle.json.specs.Token.{Token}
 use Rattle.std.specs.List.{list_any}
@@ -22,20 +22,20 @@ use Rattle.frame_shown.specs.declared.form.List.{List as Shape}
 use Rattle.frame_shown.proofs.Items.{on_next}
 use Rattle.frame_diff.specs.Beside.{held_of, is_named}
 use Rattle.frame_diff.specs.Counters.{action_in}
-use Rattle.frame_diff.specs.Forests.{AreApart, Forest, Held, Member, Step, comes, find, forest, is_text}
+use Rattle.frame_diff.specs.Forests.{AreApart, Forest, Held, Member, Step, comes, find, forest, is_label, is_text}
 use Rattle.frame_diff.specs.Differences.{text_of}
-use Rattle.frame_diff.specs.Items.{change_item, further, items_told, leaf_items, turned_item}
+use Rattle.frame_diff.specs.Items.{further, items_told, leaf_items, member_items, turned_item}
 use Rattle.frame_diff.specs.Members.{Reading, held_by, named_in, is_unnamed}
 use Rattle.frame_diff.specs.Walked.{AreAlike, HasNames, HasRowOf, Holding, HoldsApart, IsOf, Showing, frame_items}
 use Rattle.frame_diff.specs.Walked.{AreBeside, HasRowByNumber, StandBeside, is_row_alike}
-use Rattle.frame_diff.specs.Walked.{has_payload, held_at, held_items, last_items, reading_at}
+use Rattle.frame_diff.specs.Walked.{has_payload, held_at, held_items, last_items, reading_at, step_items}
+use Rattle.frame_diff.specs.Wholes.{is_alone}
 use Rattle.frame_diff.specs.declared.side.Side.{Side}
 use Rattle.frame_diff.specs.declared.side.Side.TheVariants.{Old, New}
 use Rattle.frame_diff.specs.declared.walk.Attribute.{Attribute}
 use Rattle.frame_diff.specs.declared.walk.Attributes.{Attributes}
 use Rattle.frame_diff.proofs.Apart.{held_apart as inside_apart}
-use Rattle.frame_diff.proofs.Items.{items_are}
-use Rattle.frame_diff.proofs.Silent.{same_silent}
+use Rattle.frame_diff.proofs.Silent.{Has, found_first, rest_has}
 use Rattle.frame_diff.proofs.Steps.{text_is, text_same}
 
 -- ** bytes behind a frame
@@ -81,6 +81,30 @@ comes_named r list name (f ∷ fs) =
     by false true is later = sym (ap (λ b. cond b true (comes (Step.name name) behind)) is)
     by false false is later = later ∙ sym (ap (λ b. cond b true (comes (Step.name name) behind)) is)
 
+-- ** a value that is not told as a whole
+
+-- one at a step that is no label
+pub plain_items : (side : Side) (text : List ℕ) (s : Step) (held : Held) (beside : Option Held) → is_label s ≡ false
+    → step_items side text s held beside ≡ held_items side (further text s) held beside
+plain_items side text s held beside plain =
+    let path = further text s in
+    ap (λ b. member_items side path held.0 (cond (b && is_alone beside) Forest.none held.1)
+    (items_told side path held.1) beside) plain
+
+-- one beside which another one stands
+pub beside_items : (side : Side) (text : List ℕ) (s : Step) (held other : Held)
+    → step_items side text s held (Some other) ≡ held_items side (further text s) held (Some other)
+beside_items side text s held other = by (is_label s)
+  where
+    path : List ℕ
+    path = further text s
+
+    by : (b : Bool)
+        → member_items side path held.0 (cond (b && false) Forest.none held.1) (items_told side path held.1)
+        (Some other) ≡ held_items side path held (Some other)
+    by true = refl
+    by false = refl
+
 -- ** what one attribute tells, and those behind it
 
 pub last_further : (side : Side) (text : List ℕ) (others : Forest) (m : Member) (ms : List Member)
@@ -90,7 +114,7 @@ last_further side text others m ms = by (comes m.0 ms)
   where
     by : (b : Bool)
         → items_told side text (cond b (forest ms) (Forest.tree m.0 m.1.0 m.1.1 (forest ms))) others
-        ≡ cond b [] (held_items side (further text m.0) m.1 (find m.0 others))
+        ≡ cond b [] (step_items side text m.0 m.1 (find m.0 others))
         ++ items_told side text (forest ms) others
     by true = refl
     by false = refl
@@ -141,23 +165,36 @@ leaf_same : (side : Side) (text : List ℕ) (v : List Token) → leaf_items side
 leaf_same Old text v = ap (λ b. cond b [] (turned_item text v v ∷ [])) (text_is (text_of v))
 leaf_same New text v = refl
 
+inside_same : (side : Side) (text : List ℕ) (v : List Token) (i : Forest) → items_told side text i i ≡ []
+    → held_items side text (v, i) (Some (v, i)) ≡ []
+inside_same side text v Forest.none inner = leaf_same side text v
+inside_same side text v Forest.passed inner = refl
+inside_same side text v (Forest.tree a b c d) inner = inner
+
+trees_same : (side : Side) (text : List ℕ) (f g : Forest) → AreApart f → Has f g → items_told side text f g ≡ []
+trees_same side text Forest.none g apart has = refl
+trees_same side text Forest.passed g apart has = refl
+trees_same side text (Forest.tree s v i rest) g apart has =
+    let path = further text s in
+    (λ k. step_items side text s (v, i) (has s (v, i) (found_first s v i rest) k) ++ items_told side text rest g)
+    ∙ ap (λ l. l ++ items_told side text rest g) (beside_items side text s (v, i) (v, i))
+    ∙ (λ k. inside_same side path v i (trees_same side path i i apart.1 (λ t held h. h)) k
+    ++ trees_same side text rest g apart.2 (rest_has s v i rest g apart.0 has) k)
+
 pub tree_same : (side : Side) (text : List ℕ) (i : Forest) → AreApart i → items_told side text i i ≡ []
-tree_same side text i apart =
-    items_are side (Step.name text ∷ []) i i ∙ ap (map change_item) (same_silent side (Step.name text ∷ []) i apart)
+tree_same side text i apart = trees_same side text i i apart (λ t held h. h)
 
 pub held_same : (side : Side) (text : List ℕ) (v : List Token) (i : Forest) → AreApart i
     → held_items side text (v, i) (Some (v, i)) ≡ []
-held_same side text v Forest.none apart = leaf_same side text v
-held_same side text v Forest.passed apart = refl
-held_same side text v (Forest.tree a b c d) apart = tree_same side text (Forest.tree a b c d) apart
+held_same side text v i apart = inside_same side text v i (tree_same side text i apart)
 
 pub last_same : (side : Side) (text : List ℕ) (behind : List Member) (m : Member) (beside : Option Held)
     → AreApart m.1.1 → beside ≡ Some m.1 → last_items side text behind m beside ≡ []
 last_same side text behind m beside apart is = by (comes m.0 behind)
   where
-    by : (b : Bool) → cond b [] (held_items side (further text m.0) m.1 beside) ≡ []
+    by : (b : Bool) → cond b [] (step_items side text m.0 m.1 beside) ≡ []
     by true = refl
-    by false = ap (held_items side (further text m.0) m.1) is
+    by false = ap (step_items side text m.0 m.1) is ∙ beside_items side text m.0 m.1 m.1
         ∙ held_same side (further text m.0) m.1.0 m.1.1 apart
 
 -- ** attributes with one row and one payload

@@ -59,6 +59,16 @@ is_step Step.repeated Step.repeated = true
 is_step Step.other Step.other = true
 is_step _ _ = false
 
+-- a label stands right behind the list that it is of
+abbrev pub is_label : Step → Bool
+is_label (Step.label a l) = true
+is_label (Step.part n a) = false
+is_label (Step.name a) = false
+is_label (Step.array a) = false
+is_label (Step.place n) = false
+is_label Step.repeated = false
+is_label Step.other = false
+
 abbrev pub is_path : Path → Path → Bool
 is_path [] [] = true
 is_path [] (t ∷ q) = false

@@ -17,9 +17,10 @@ use Rattle.frame_diff.specs.Forests.{Forest, Held, Member, Step, entries_step, f
 use Rattle.frame_diff.specs.Inside.{above}
 use Rattle.frame_diff.specs.Items.{joined}
 use Rattle.frame_diff.specs.Keys.{key_at, number_in}
-use Rattle.frame_diff.specs.Members.{Reading, are_plain, entries_in, entry_with, frame_member, inside_of, list_at}
+use Rattle.frame_diff.specs.Members.{Reading, are_plain, entries_in, entry_with, frame_member, inside_of, list_by}
 use Rattle.frame_diff.specs.Members.{named_in, numbers_by, value_in, value_with, values_inside, values_with}
-use Rattle.frame_diff.specs.Values.{array_shown, kept_at, listed_shown}
+use Rattle.frame_diff.specs.Settled.{settled}
+use Rattle.frame_diff.specs.Values.{array_shown, kept_at, kept_inside_at, listed_shown}
 use Rattle.frame_diff.specs.Walked.{Holding, Showing, held_at, held_items, reading_at}
 use Rattle.frame_diff.specs.declared.side.Side.{Side}
 use Rattle.frame_diff.specs.declared.walk.Attribute.{Attribute}
@@ -146,14 +147,12 @@ flat_shown nest cx (Some n) list p = array_shown nest cx list n p
 -- ** one of them
 
 -- a list of attributes as a value
-abbrev pub list_held : Showing → Holding → Bool → Attributes → Held
-list_held nest inner is_state a = (
-  list_shown (nest a.around.now) a.around.now a.list a.bytes.now,
-  above nest inner is_state a.around.now a.list a.bytes.now,
-)
-
 abbrev pub entry_held : Showing → Holding → Bool → Around → Shape → List ℕ → Held
-entry_held nest inner is_state cx list p = (list_shown (nest cx) cx list p, above nest inner is_state cx list p)
+entry_held nest inner is_state cx list p =
+    (list_shown (nest cx) cx list (settled is_state list p), above nest inner is_state cx list p)
+
+abbrev pub list_held : Showing → Holding → Bool → Attributes → Held
+list_held nest inner is_state a = entry_held nest inner is_state a.around.now a.list a.bytes.now
 
 -- beside a list stands another one with its rows and its bytes
 abbrev pub IsSameEntry : Attributes → Option Attributes → Type 0
@@ -210,4 +209,5 @@ next_place (Some a) n = n + 1
 -- ** those that are kept beside a list of values
 
 abbrev pub rest_forest : Bool → Attributes → Forest
-rest_forest is_state a = forest (list_at (rest_step (codes "other")) (kept_at is_state a))
+rest_forest is_state a =
+    forest (list_by (rest_step (codes "other")) (kept_at is_state a) (kept_inside_at is_state a))

@@ -3,9 +3,10 @@ use Rattle.std.specs.Prelude.{ℕ, List, [], ◌∷◌, ◌++◌, Bool, true, fa
 use Rattle.json.specs.Token.{Token, string}
 use Rattle.shown.specs.Drafts.{Members}
 use Rattle.frame_diff.specs.Differences.{Change, inside_in, is_shown_same, leaf_in}
-use Rattle.frame_diff.specs.Forests.{Forest, Held, Path, Step, find}
+use Rattle.frame_diff.specs.Forests.{Forest, Held, Path, Step, find, is_label}
 use Rattle.frame_diff.specs.Labels.{label_text}
 use Rattle.frame_diff.specs.Sides.{side_name}
+use Rattle.frame_diff.specs.Wholes.{cut}
 use Rattle.frame_diff.specs.declared.side.Side.{Side}
 use Rattle.frame_diff.specs.declared.side.Side.TheVariants.{Old, New}
 
@@ -24,16 +25,6 @@ step_text Step.other = codes "other"
 abbrev pub joined : List ℕ → List ℕ → List ℕ
 joined [] step = step
 joined (x ∷ text) step = (x ∷ text) ++ 46 ∷ step
-
--- a label stands right behind the list that it is of
-abbrev pub is_label : Step → Bool
-is_label (Step.label name label) = true
-is_label (Step.part sort text) = false
-is_label (Step.name text) = false
-is_label (Step.array text) = false
-is_label (Step.place n) = false
-is_label Step.repeated = false
-is_label Step.other = false
 
 abbrev pub further : List ℕ → Step → List ℕ
 further text s = cond (is_label s) (text ++ step_text s) (joined text (step_text s))
@@ -81,9 +72,10 @@ member_items side text v Forest.none items beside = leaf_items side text v (leaf
 member_items side text v Forest.passed items beside = []
 member_items side text v (Forest.tree a b c d) items beside = items (inside_in beside)
 
+-- a value with a label that stands alone is told as a whole
 abbrev pub items_told : Side → List ℕ → Forest → Forest → List Members
 items_told side text Forest.none others = []
 items_told side text Forest.passed others = []
 items_told side text (Forest.tree s v i rest) others =
-    member_items side (further text s) v i (items_told side (further text s) i) (find s others)
+    member_items side (further text s) v (cut s (find s others) i) (items_told side (further text s) i) (find s others)
     ++ items_told side text rest others

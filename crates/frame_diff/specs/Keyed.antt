@@ -2,14 +2,18 @@
 use Rattle.std.specs.Prelude.{◌≡◌, ℕ, List, [], ◌∷◌, Bool, Option, None, Some, map, option_and_then, option_map}
 use Rattle.std.specs.Prelude.{slice_get}
 use Rattle.std.specs.List.{AllByRecursion}
+use Rattle.shown.specs.Drafts.{Members}
 use Rattle.frame_diff.specs.Forests.{Held, Step, find}
 use Rattle.frame_diff.specs.Groups.{group_at, group_inside, is_entries, numbers_at, value_at}
 use Rattle.frame_diff.specs.Keys.{number_of}
 use Rattle.frame_diff.specs.Labels.{place_of}
-use Rattle.frame_diff.specs.Walked.{AreBeside, Holding, Showing}
+use Rattle.frame_diff.specs.Values.{kept_at, kept_held, kept_numbers}
+use Rattle.frame_diff.specs.Walked.{AreBeside, Holding, Showing, step_items}
+use Rattle.frame_diff.specs.declared.kept.Kept.{Kept}
 use Rattle.frame_diff.specs.declared.keyed.Labelled.{Labelled}
 use Rattle.frame_diff.specs.declared.keys.Key.{Key}
 use Rattle.frame_diff.specs.declared.labels.Label.{Label}
+use Rattle.frame_diff.specs.declared.side.Side.{Side}
 use Rattle.frame_diff.specs.declared.walk.Attribute.{Attribute}
 use Rattle.frame_diff.specs.declared.walk.Attributes.{Attributes}
 
@@ -20,27 +24,40 @@ picked_numbers key (Some a) = number_of key a ∷ []
 
 -- ** values with labels
 
-abbrev pub labels_now : List Labelled → List Label
-labels_now vs = map (λ (v : Labelled). v.label) vs
+abbrev pub labels_now : {X : Type 0} → List (Labelled X) → List Label
+labels_now {X} vs = map (λ (v : Labelled X). v.label) vs
 
-abbrev pub numbers_now : List Labelled → List (Option ℕ)
-numbers_now vs = map (λ (v : Labelled). v.label.number) vs
+abbrev pub values_now : {X : Type 0} → List (Labelled X) → List X
+values_now {X} vs = map (λ (v : Labelled X). v.value) vs
 
-abbrev pub helds_now : Showing → Holding → Bool → List Labelled → List (Option Held)
-helds_now nest inner is_state vs = map (λ (v : Labelled). Some (value_at nest inner is_state v.value)) vs
+abbrev pub numbers_now : {X : Type 0} → List (Labelled X) → List (Option ℕ)
+numbers_now {X} vs = map (λ (v : Labelled X). v.label.number) vs
+
+-- they are these ones, with these labels
+abbrev pub AreAll : {X : Type 0} → (X → Option Held) → List Label → List (Option Held) → List (Labelled X) → Type 0
+AreAll value labels hs vs = (labels_now vs ≡ labels) × (map value (values_now vs) ≡ hs)
+
+abbrev pub helds_now : Showing → Holding → Bool → List (Labelled Attribute) → List (Option Held)
+helds_now nest inner is_state vs = map (λ a. Some (value_at nest inner is_state a)) (values_now vs)
 
 -- an attribute has the rows of this list
 abbrev pub IsIn : Attributes → Attribute → Type 0
 IsIn list a = (a.list ≡ list.list) × (a.around.now ≡ list.around.now)
 
-abbrev pub AreIn : Attributes → List Labelled → Type 0
-AreIn list vs = AllByRecursion (λ (v : Labelled). IsIn list v.value) vs
+abbrev pub AreIn : Attributes → List (Labelled Attribute) → Type 0
+AreIn list vs = AllByRecursion (IsIn list) (values_now vs)
 
 -- they are the values of this list, with these labels of their numbers
-abbrev pub AreLabelled : Bool → Attributes → (List (Option ℕ) → List Label) → List Labelled → Type 0
+abbrev pub AreLabelled : Bool → Attributes → (List (Option ℕ) → List Label) → List (Labelled Attribute)
+    → Type 0
 AreLabelled is_state list labels vs = AreIn list vs × ((nest : Showing) (inner : Holding)
-    → (labels_now vs ≡ labels (numbers_at nest inner is_state list))
-    × (helds_now nest inner is_state vs ≡ group_at nest inner is_state list))
+    → AreAll (λ a. Some (value_at nest inner is_state a)) (labels (numbers_at nest inner is_state list))
+    (group_at nest inner is_state list) vs)
+
+-- those that are kept
+abbrev pub AreKept : Bool → Attributes → (List (Option ℕ) → List Label) → List (Labelled (Option Kept)) → Type 0
+AreKept is_state list labels vs =
+    AreAll kept_held (labels (kept_numbers is_state list)) (kept_at is_state list) vs
 
 -- ** beside each other
 
@@ -56,6 +73,11 @@ FindsAt {X} step others a = (nest : Showing) (inner : Holding) (is_state : Bool)
     → find (step x) (group_inside nest inner is_state a) ≡ find (step x) (group_inside nest inner is_state others)
 
 -- the value with a label
-abbrev pub value_of : Label → List Labelled → Option Attribute
-value_of l vs =
-    option_map (λ (v : Labelled). v.value) (option_and_then (λ n. slice_get vs n) (place_of l (labels_now vs)))
+abbrev pub value_of : {X : Type 0} → Label → List (Labelled X) → Option X
+value_of {X} l vs =
+    option_map (λ (v : Labelled X). v.value) (option_and_then (λ n. slice_get vs n) (place_of l (labels_now vs)))
+
+-- what one tells at its label; one that is passed over tells nothing
+abbrev pub label_items : Side → List ℕ → Step → Option Held → Option Held → List Members
+label_items side text s None beside = []
+label_items side text s (Some held) beside = step_items side text s held beside

@@ -37,12 +37,14 @@ key_name Keys.Vid = codes "vid"
 key_name Keys.Msti = codes "msti"
 key_name Keys.From = codes "from"
 key_name Keys.Vf = codes "vf"
+key_name Keys.Number = codes "number"
 
 abbrev pub is_key : Key → Option Key → Bool
 is_key Keys.Vid (Some Keys.Vid) = true
 is_key Keys.Msti (Some Keys.Msti) = true
 is_key Keys.From (Some Keys.From) = true
 is_key Keys.Vf (Some Keys.Vf) = true
+is_key Keys.Number (Some Keys.Number) = true
 is_key _ _ = false
 
 -- of the values of the list of a number, or of all

@@ -88,10 +88,6 @@ label_cmp a b = ordering_then (number_cmp a.number b.number) (nat_cmp a.again b.
 abbrev pub count_in : BTreeMap (Option ℕ) ℕ → Option ℕ → ℕ
 count_in counts n = unwrap_or (get number_cmp counts n) 0
 
--- the labels of those behind values that are counted
-abbrev pub labels_by : BTreeMap (Option ℕ) ℕ → List (Option ℕ) → List Label
-labels_by counts ns = map (λ n. record { number = n; again = count_in counts n }) ns
-
 -- the place of a label
 abbrev pub place_of : Label → List Label → Option ℕ
 place_of l [] = None

@@ -1,5 +1,6 @@
 -- What is told of members beside others is what differs between the leaves of both.
 use Rattle.std.specs.Prelude.{◌≡◌, ℕ, Bool, true, false, List, [], ◌∷◌, Some, map}
+use Rattle.std.specs.List.{flat_map}
 use Rattle.nla_wire.specs.Frames.{Frame, number}
 use Rattle.frame_shown.specs.Tables.{is_each, row_in}
 use Rattle.frame_shown.specs.declared.form.Around.{Around}
@@ -10,6 +11,7 @@ use Rattle.frame_diff.specs.Differences.{Change, both_told, changes, is_told, pa
 use Rattle.frame_diff.specs.Forests.{AreApart, Forest, Path, Step, leaves}
 use Rattle.frame_diff.specs.Items.{change_item, items_told, path_text}
 use Rattle.frame_diff.specs.Members.{Parts, Reading, frame_member, is_unnamed, message_forest, value_with, way_inside}
+use Rattle.frame_diff.specs.Wholes.{between, opened, wholes}
 use Rattle.frame_diff.specs.declared.side.Side.{Side}
 
 abbrev pub WhatDiffersIsTold : Type 0
@@ -28,22 +30,32 @@ EachIsToldOnce = (old new : Forest) → AreApart old → AreApart new → AreOnc
 abbrev pub SameIsSilent : Type 0
 SameIsSilent = (side : Side) (path : Path) (f : Forest) → AreApart f → told side path f f ≡ []
 
--- so it is written: a change for each
+-- so it is written: a change for each, where values that are told as a whole are leaves
 abbrev pub ItemsAreChanges : Type 0
 ItemsAreChanges = (side : Side) (path : Path) (f g : Forest)
-    → items_told side (path_text path) f g ≡ map change_item (told side path f g)
+    → items_told side (path_text path) f g ≡ map change_item (told side path (wholes f g) g)
+
+-- leaf by leaf, what is told of two is what differs between the leaves of both
+abbrev pub WholesAreLeaves : Type 0
+WholesAreLeaves = (old new : Forest) → AreApart old → AreApart new
+    → flat_map (opened old new) (between old new) ≡ changes (leaves old) (leaves new)
 
 -- ** of messages
 
 -- what is told of two messages, or of two states: the order of the counters of IPv6 may be known of each
 abbrev pub messages_told : Bool → Around → Around → Parts → Parts → List Change
 messages_told is_state cx other old new =
-    both_told (message_forest is_state cx old) (message_forest is_state other new)
+    between (message_forest is_state cx old) (message_forest is_state other new)
 
--- it is what differs between all leaves of both, each path once
+-- it is what differs between all leaves of both, where a value with a label that stands alone is a leaf; leaf by leaf
+-- it is what differs between all leaves; and each path is told once
 pub record MessagesAreTold : Type 0 where
-  pub all : (is_state : Bool) (cx other : Around) (old new : Parts) → messages_told is_state cx other old new
-      ≡ changes (leaves (message_forest is_state cx old)) (leaves (message_forest is_state other new))
+  pub all : (is_state : Bool) (cx other : Around) (old new : Parts)
+      → let f = message_forest is_state cx old in let g = message_forest is_state other new in
+      messages_told is_state cx other old new ≡ changes (leaves (wholes f g)) (leaves (wholes g f))
+  pub by_leaves : (is_state : Bool) (cx other : Around) (old new : Parts)
+      → let f = message_forest is_state cx old in let g = message_forest is_state other new in
+      flat_map (opened f g) (messages_told is_state cx other old new) ≡ changes (leaves f) (leaves g)
   pub once : (is_state : Bool) (cx other : Around) (old new : Parts)
       → AreOnce (messages_told is_state cx other old new)
   pub silent : (is_state : Bool) (cx : Around) (m : Parts) → messages_told is_state cx cx m m ≡ []

@@ -1,7 +1,9 @@
 pub mod Sides
 pub mod Forests
 pub mod Differences
+pub mod Wholes
 pub mod Counters
+pub mod Settled
 pub mod Named
 pub mod Keys
 pub mod Labels
@@ -10,6 +12,7 @@ pub mod Beside
 pub mod Items
 pub mod Shown
 pub mod Names
+pub mod Still
 pub mod Walked
 pub mod Values
 pub mod Repeated

@@ -40,7 +40,9 @@ use Rattle.frame_diff.specs.Forests.{rest_step, values_step}
 use Rattle.frame_diff.specs.Keys.{key_at, number_in}
 use Rattle.frame_diff.specs.Labels.{keyed}
 pub use Rattle.frame_diff.specs.Named.{is_unnamed}
+use Rattle.frame_diff.specs.Settled.{settled}
 use Rattle.frame_diff.specs.declared.keys.Key.{Key}
+use Rattle.frame_diff.specs.declared.keys.Key.TheVariants as Keys
 
 -- the members inside a list of attributes
 abbrev pub Inner : Type 0
@@ -209,9 +211,12 @@ abbrev pub kept_by : Bool → Around → Known → Frame → List (Option Held)
 kept_by is_passed cx row f = cond (is_kept row.1 f.payload)
     (cond is_passed None (Some (as_object (frame_members row.0 (kind_shown row.1 f.kind) f.payload))) ∷ []) []
 
+abbrev pub kept_with : Reading → Shape → Frame → List (Option Held)
+kept_with r list f =
+    kept_by (is_passed r.is_state list (number f)) r.around (row_in r.around list (number f)) f
+
 abbrev pub kept_in : Reading → Shape → List Frame → List (Option Held)
-kept_in r list fs =
-    flat_map (λ f. kept_by (is_passed r.is_state list (number f)) r.around (row_in r.around list (number f)) f) fs
+kept_in r list fs = flat_map (kept_with r list) fs
 
 -- ** lists of values
 
@@ -224,9 +229,12 @@ unless_none s value Forest.none = []
 unless_none s value Forest.passed = []
 unless_none s value (Forest.tree a b c d) = (s, (value, Forest.tree a b c d)) ∷ []
 
--- at a step, where there are any
+-- at a step, where there are any: each at its place, or by its number
+abbrev pub list_by : Step → List (Option Held) → Forest → List Member
+list_by s hs inside = unless_none s (list_of (flat_map value_in hs)) inside
+
 abbrev pub list_at : Step → List (Option Held) → List Member
-list_at s hs = unless_none s (list_of (flat_map value_in hs)) (places hs)
+list_at s hs = list_by s hs (places hs)
 
 -- one list of values, at a step
 abbrev pub group_of : Step → List (Option Held) → Forest → Member
@@ -235,6 +243,14 @@ group_of s hs inside = (s, (list_of (flat_map value_in hs), values_inside hs ins
 -- the number of each value of a list, by the attribute that it is of
 abbrev pub numbers_by : (Frame → Option ℕ) → (Frame → List (Option Held)) → List Frame → List (Option ℕ)
 numbers_by number_of values fs = flat_map (λ f. map (λ h. number_of f) (values f)) fs
+
+-- those that are kept, by the number of each
+abbrev pub kept_inside : Reading → Shape → List Frame → Forest
+kept_inside r list fs =
+    keyed Keys.Number (numbers_by (λ f. Some (number f)) (kept_with r list) fs) (kept_in r list fs)
+
+abbrev pub others_at : Step → Reading → Shape → List Frame → List Member
+others_at s r list fs = list_by s (kept_in r list fs) (kept_inside r list fs)
 
 -- ** attributes that are the values of lists
 
@@ -272,19 +288,19 @@ arrays_in r list fs = arrays_of r list (lists_in r.around list) fs
 abbrev pub members_in : Reading → Shape → List Frame → List Member
 members_in r list fs =
     named_in r list fs ++ arrays_in r list fs ++ list_at Step.repeated (earlier (named_in r list fs))
-    ++ list_at Step.other (kept_in r list fs)
+    ++ others_at Step.other r list fs
 
 -- those that have a name in one list
 abbrev pub listed_in : Reading → Group → Shape → List Frame → List Member
 listed_in r group list fs =
     let hs = map (λ (m : Member). Some m.1) (named_in r list fs) in
     group_of (values_step (group_name group)) hs (places hs)
-    ∷ list_at (rest_step (codes "other")) (kept_in r list fs)
+    ∷ others_at (rest_step (codes "other")) r list fs
 
--- the objects in the attributes of number 1
+-- the objects in the attributes of number 1: as they are shown where they are told as a whole, and what stands inside
 abbrev pub entry_of : Reading → Shape → List ℕ → Held
 entry_of r list p = (
-  object_of (members_of (lists_in r.around list) (items_in r.nest r.around list (items p))),
+  object_of (members_of (lists_in r.around list) (items_in r.nest r.around list (items (settled r.is_state list p)))),
   left_of (is_some (frames_in (items p))) (members_in r list (frames_in (items p))),
 )
 

@@ -1,12 +1,12 @@
 -- What values that hold no others are shown as, and attributes that are kept as they are.
-use Rattle.std.specs.Prelude.{◌≡◌, ℕ, zero, suc, ◌+◌, List, [], ◌∷◌, Bool, true, false, Option, None, Some, bit_and}
-use Rattle.std.specs.Prelude.{decimal, option_map}
+use Rattle.std.specs.Prelude.{◌≡◌, ℕ, zero, suc, List, [], ◌∷◌, Bool, Option, None, Some, bit_and}
+use Rattle.std.specs.Prelude.{decimal}
 use Rattle.std.specs.List.{flat_map}
 use Rattle.json.specs.Token.{Token, number as number_token, string}
 use Rattle.nla_wire.specs.Frames.{Frame, number}
 use Rattle.nla_wire.specs.Items.{items}
 use Rattle.link_info.specs.Tables.{frames_in}
-use Rattle.shown.specs.Drafts.{Members, list_of}
+use Rattle.shown.specs.Drafts.{Members, list_of, object_of}
 use Rattle.shown.specs.Values.{flags_of}
 use Rattle.frame_shown.specs.Frames.{items_in, way_shown}
 use Rattle.frame_shown.specs.Items.{named_ones, values_of, values_with}
@@ -17,16 +17,15 @@ use Rattle.frame_shown.specs.Values.{Nesting, field_shown, hexadecimal, number_t
 use Rattle.frame_shown.specs.declared.form.Around.{Around}
 use Rattle.frame_shown.specs.declared.form.List.{List as Shape}
 use Rattle.frame_diff.specs.Counters.{is_passed}
-use Rattle.frame_diff.specs.Differences.{inside_in}
 use Rattle.frame_diff.specs.Forests.{Forest, Held}
-use Rattle.frame_diff.specs.Items.{items_told, joined}
-use Rattle.frame_diff.specs.Members.{as_object, fields, kept_by}
+use Rattle.frame_diff.specs.Labels.{keyed}
+use Rattle.frame_diff.specs.Members.{as_object, kept_by, numbers_by}
 use Rattle.frame_diff.specs.declared.kept.Entry.{Entry}
 use Rattle.frame_diff.specs.declared.kept.Entry.TheVariants as Entries
 use Rattle.frame_diff.specs.declared.kept.Kept.{Kept}
+use Rattle.frame_diff.specs.declared.keys.Key.TheVariants as Keys
 use Rattle.frame_diff.specs.declared.leaf.Value.{Value}
 use Rattle.frame_diff.specs.declared.leaf.Value.TheVariants as Values
-use Rattle.frame_diff.specs.declared.side.Side.{Side}
 use Rattle.frame_diff.specs.declared.walk.Attributes.{Attributes}
 
 -- the values of the attributes of a list that have a name
@@ -50,6 +49,7 @@ value_shown nest cx (Values.Octets bytes) = hexadecimal bytes.now
 value_shown nest cx (Values.LinkFlags bits) = flags_of link_flag_names bits
 value_shown nest cx (Values.Listed list p) = listed_shown nest cx list p.now
 value_shown nest cx (Values.Array list n p) = array_shown nest cx list n p.now
+value_shown nest cx (Values.Kept name kind p) = object_of (frame_members name.now kind p.now)
 
 -- two values are shown as the same, whatever they are shown by
 abbrev pub AreShownAlike : Value → Value → Type 0
@@ -60,14 +60,9 @@ AreShownAlike v w = (nest other : Nesting) (cx theirs : Around) → value_shown 
 abbrev pub kept_members : Kept → Members
 kept_members k = frame_members k.name.now k.kind k.payload.now
 
-abbrev pub kept_forest : Option Kept → Forest
-kept_forest None = Forest.none
-kept_forest (Some k) = fields (kept_members k)
-
--- beside one stands another one that says the same
-abbrev pub IsSameKept : Kept → Option Kept → Type 0
-IsSameKept own None = ⊥
-IsSameKept own (Some k) = (k.kind ≡ own.kind) × (own.name.now ≡ k.name.now) × (own.payload.now ≡ k.payload.now)
+-- another one says the same
+abbrev pub IsSameKept : Kept → Kept → Type 0
+IsSameKept own k = (k.kind ≡ own.kind) × (own.name.now ≡ k.name.now) × (own.payload.now ≡ k.payload.now)
 
 -- ** the list of those that are kept
 
@@ -77,53 +72,33 @@ entry_held Entries.Named = []
 entry_held Entries.Passed = None ∷ []
 entry_held (Entries.Kept k) = Some (as_object (kept_members k)) ∷ []
 
+-- one of them, unless it is passed over
+abbrev pub kept_held : Option Kept → Option Held
+kept_held None = None
+kept_held (Some k) = Some (as_object (kept_members k))
+
+abbrev pub kept_one : Bool → Around → Shape → Frame → List (Option Held)
+kept_one is_state cx list f = kept_by (is_passed is_state list (number f)) cx (row_in cx list (number f)) f
+
 abbrev pub kept_among : Bool → Around → Shape → List Frame → List (Option Held)
-kept_among is_state cx list fs =
-    flat_map (λ f. kept_by (is_passed is_state list (number f)) cx (row_in cx list (number f)) f) fs
+kept_among is_state cx list fs = flat_map (kept_one is_state cx list) fs
 
 abbrev pub kept_at : Bool → Attributes → List (Option Held)
 kept_at is_state list = kept_among is_state list.around.now list.list (frames_in (items list.bytes.now))
+
+-- the number of each
+abbrev pub numbers_among : Bool → Around → Shape → List Frame → List (Option ℕ)
+numbers_among is_state cx list fs = numbers_by (λ f. Some (number f)) (kept_one is_state cx list) fs
+
+abbrev pub kept_numbers : Bool → Attributes → List (Option ℕ)
+kept_numbers is_state list = numbers_among is_state list.around.now list.list (frames_in (items list.bytes.now))
+
+-- each by its number
+abbrev pub kept_inside_at : Bool → Attributes → Forest
+kept_inside_at is_state list = keyed Keys.Number (kept_numbers is_state list) (kept_at is_state list)
 
 -- the one at a place
 abbrev pub nth : ℕ → List (Option Held) → Option Held
 nth n [] = None
 nth zero (h ∷ hs) = h
 nth (suc n) (h ∷ hs) = nth n hs
-
--- what it tells at its place
-abbrev pub entry_items : Side → List ℕ → ℕ → List (Option Held) → Entry → List Members
-entry_items side text n others Entries.Named = []
-entry_items side text n others Entries.Passed = []
-entry_items side text n others (Entries.Kept k) =
-    items_told side (joined text (decimal n)) (fields (kept_members k)) (inside_in (nth n others))
-
--- ** for the calls that go over them
-
-abbrev pub has_place : Entry → Bool
-has_place Entries.Named = false
-has_place Entries.Passed = true
-has_place (Entries.Kept k) = true
-
-abbrev pub kept_of : Entry → Option Kept
-kept_of Entries.Named = None
-kept_of Entries.Passed = None
-kept_of (Entries.Kept k) = Some k
-
--- those of these bytes, by the rows of a list
-abbrev pub kept_from : Bool → Attributes → List ℕ → List (Option Held)
-kept_from is_state list bytes = kept_among is_state list.around.now list.list (frames_in (items bytes))
-
--- from this place on they are those of these bytes
-abbrev pub KeepsOnAt : Bool → Attributes → ℕ → List ℕ → Type 0
-KeepsOnAt is_state list n bytes =
-    (k : ℕ) → nth (n + k) (kept_at is_state list) ≡ nth k (kept_from is_state list bytes)
-
--- where one has a place, this stands at that place of the other list
-abbrev pub IsKeptBeside : Bool → Attributes → ℕ → Entry → Entry → Type 0
-IsKeptBeside is_state others n own beside = has_place own ≡ true
-    → nth n (kept_at is_state others) ≡ option_map (λ k. as_object (kept_members k)) (kept_of beside)
-
-abbrev pub more_by : Entry → ℕ → ℕ
-more_by Entries.Named n = n
-more_by Entries.Passed n = n + 1
-more_by (Entries.Kept k) n = n + 1

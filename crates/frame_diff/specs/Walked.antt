@@ -19,6 +19,7 @@ use Rattle.frame_diff.specs.Forests.{AreApart, Forest, Held, Member, Step, comes
 use Rattle.frame_diff.specs.Items.{further, items_told, member_items}
 use Rattle.frame_diff.specs.Members.{Inner, Reading, held_by, is_unnamed, named_in}
 use Rattle.frame_diff.specs.Shown.{HasNamesApart}
+use Rattle.frame_diff.specs.Wholes.{cut}
 use Rattle.frame_diff.specs.declared.side.Side.{Side}
 use Rattle.frame_diff.specs.declared.walk.Attribute.{Attribute}
 use Rattle.frame_diff.specs.declared.walk.Attributes.{Attributes}
@@ -156,10 +157,14 @@ AreOfFrame (Some a) (Some g) = (a.number ≡ number g) × (a.payload.now ≡ g.p
 abbrev pub held_items : Side → List ℕ → Held → Option Held → List Members
 held_items side text held beside = member_items side text held.0 held.1 (items_told side text held.1) beside
 
+-- of a value one step further: as a whole, where it has a label and stands alone
+abbrev pub step_items : Side → List ℕ → Step → Held → Option Held → List Members
+step_items side text s held beside =
+    member_items side (further text s) held.0 (cut s beside held.1) (items_told side (further text s) held.1) beside
+
 -- of a member: nothing, where another one of its step comes behind it
 abbrev pub last_items : Side → List ℕ → List Member → Member → Option Held → List Members
-last_items side text behind m beside =
-    cond (comes m.0 behind) [] (held_items side (further text m.0) m.1 beside)
+last_items side text behind m beside = cond (comes m.0 behind) [] (step_items side text m.0 m.1 beside)
 
 -- nothing, where it has no name
 abbrev pub row_items : Side → List ℕ → Forest → List Member → List ℕ → Way → List ℕ → Held → List Members

@@ -1,7 +1,10 @@
 //! What a list of values tells beside another one, place by place.
 
-ghost use Rattle.std.specs.Prelude.{◌≡◌, ◌<◌, ◌+◌, ◌^◌, ℕ, Bool, IfSome, None, OnOk, Some, decimal, false, not};
+ghost use Rattle.std.specs.Prelude.{◌≡◌, ◌<◌, ◌+◌, ◌^◌, ◌∷◌, [], ℕ, Bool, IfSome, None, OnOk, Some, decimal, false};
+ghost use Rattle.std.specs.Prelude.{not};
 ghost use Rattle.std.specs.Prelude.{map, option_map, true};
+ghost use Rattle.nla_wire.specs.Items.{items};
+ghost use Rattle.link_info.specs.Tables.{frames_in};
 ghost use Rattle.shown.specs.Drafts.{with_members};
 ghost use Rattle.frame_shown.specs.Items.{objects};
 ghost use Rattle.frame_shown.specs.Values.{Nesting};
@@ -15,10 +18,10 @@ ghost use Rattle.frame_diff.specs.Groups.{IsFlat, IsSameEntry, is_group, is_same
 ghost use Rattle.frame_diff.specs.Groups.{next_place};
 ghost use Rattle.frame_diff.specs.Groups.{picked, place_items, rest_by, rest_of, value_at, values_by};
 ghost use Rattle.frame_diff.specs.Inside.{above, inside_list};
-ghost use Rattle.frame_diff.specs.Items.{items_told, joined, leaf_items, step_text};
+ghost use Rattle.frame_diff.specs.Items.{alone_item, items_told, joined, leaf_items, step_text};
 ghost use Rattle.frame_diff.specs.Keyed.{FindsAt, StandsFor, picked_numbers};
 ghost use Rattle.frame_diff.specs.Keys.{key_at, number_in};
-ghost use Rattle.frame_diff.specs.Members.{are_plain, places, value_with};
+ghost use Rattle.frame_diff.specs.Members.{are_plain, is_some, places, value_with};
 ghost use Rattle.frame_diff.specs.Values.{value_shown};
 ghost use Rattle.frame_diff.specs.Walked.{AreBeside, HasNames, Holding, Showing, StandBeside, held_items};
 ghost use Rattle.frame_diff.specs.Walked.{reading_at};
@@ -28,7 +31,7 @@ ghost use Rattle.frame_diff.specs.declared.walk.Attributes.{Attributes as Lists}
 
 use crate::keyed::{keyed_beside, tell_keyed};
 use crate::keys::{Key, key_in};
-use crate::leaf::{Texts, Value, is_same, tell_leaf};
+use crate::leaf::{Texts, Value, is_same, put_alone, tell_leaf};
 use crate::list::behind;
 use crate::lists::{is_without, none_of, tell_object};
 use crate::named::{is_each, is_unnamed};
@@ -37,6 +40,7 @@ use crate::path::{join, join_place};
 use crate::same::is_same_list;
 use crate::value::tell_value;
 use crate::walk::{Attribute, Attributes, Pass, Walk};
+use crate::wholes::put_entry;
 use frame_shown::depth::Above;
 use frame_shown::form::{Form, List, Table, Way, row_in};
 use nla_wire::{NlaBuffer, NlasIterator};
@@ -278,9 +282,10 @@ fn entry_beside<'a>(beside: Option<Attribute<'a>>) -> Option<Attributes<'a>>
 
 /// A list, where it holds no member.
 fn bare_beside<'a>(beside: Option<Attributes<'a>>) -> Option<Attributes<'a>>
-    ensures { (nest : Showing) (inner : Holding) (is_state : Bool)
+    ensures value { (nest : Showing) (inner : Holding) (is_state : Bool)
         → option_map (λ a. (list_held nest inner is_state a).0) result
         ≡ leaf_in (option_map (list_held nest inner is_state) beside.entry) }
+    ensures none { IfSome result (λ a. is_some (frames_in (items a.bytes.now)) ≡ false) }
 {
     match beside {
         Some(other) => { if is_without(other) { Some(other) } else { None } }
@@ -289,6 +294,7 @@ fn bare_beside<'a>(beside: Option<Attributes<'a>>) -> Option<Attributes<'a>>
 }
 
 /// Tells of a list that holds no member beside another one.
+#[tactic(auto, using(crate::proofs::Settled::bare_shown))]
 fn tell_bare<W: Walk>(
     texts: &mut Texts,
     pass: Pass,
@@ -297,6 +303,7 @@ fn tell_bare<W: Walk>(
     own: Attributes<'_>,
     beside: Option<Attributes<'_>>,
 ) -> Result<(), AllocError>
+    requires { is_some (frames_in (items own.bytes.now)) ≡ false }
     ensures { OnOk result (page.new ≡ with_members (objects (leaf_items pass.side path.now
         (list_held W.nest W.inner pass.is_state own.entry).0
         (leaf_in (option_map (list_held W.nest W.inner pass.is_state) beside.entry)))) page.old) }
@@ -401,6 +408,21 @@ fn tell_picked<W: Walk>(
     tell_alone::<W>(texts, pass, page, path, own, beside)
 }
 
+/// Adds the change of an attribute that one side alone has.
+fn put_attribute<W: Walk>(
+    pass: Pass,
+    page: &mut Page,
+    path: &str,
+    own: Attribute<'_>,
+) -> Result<(), AllocError>
+    requires { is_entries own.list ≡ false }
+    ensures { OnOk result (page.new ≡ with_members (objects (alone_item path.now pass.side
+        (value_at W.nest W.inner pass.is_state own.entry).0 ∷ [])) page.old) }
+{
+    let value = Value::Payload(own.way, own.payload);
+    put_alone::<W>(own.around, page, path, pass.side, value)
+}
+
 /// What the values of a list are.
 pub(crate) trait Values {
     /// Which lists they may be of.
@@ -422,6 +444,18 @@ pub(crate) trait Values {
         ensures { OnOk result (page.new ≡ with_members (objects (held_items pass.side path.now
             (value_at W.nest W.inner pass.is_state own.entry)
             (option_map (value_at W.nest W.inner pass.is_state) beside.entry))) page.old) };
+
+    /// Tells of one of them that one side alone has, as a whole.
+    fn tell_whole<W: Walk>(
+        texts: &mut Texts,
+        pass: Pass,
+        page: &mut Page,
+        path: &str,
+        own: Attribute<'_>,
+    ) -> Result<(), AllocError>
+        requires fits { fits own.list }
+        ensures { OnOk result (page.new ≡ with_members (objects (alone_item path.now pass.side
+            (value_at W.nest W.inner pass.is_state own.entry).0 ∷ [])) page.old) };
 }
 
 /// Entries, or attributes that have a name.
@@ -441,6 +475,19 @@ impl Values for Group {
     ) -> Result<(), AllocError> {
         tell_picked::<W>(texts, pass, page, path, own, beside)
     }
+
+    fn tell_whole<W: Walk>(
+        texts: &mut Texts,
+        pass: Pass,
+        page: &mut Page,
+        path: &str,
+        own: Attribute<'_>,
+    ) -> Result<(), AllocError> {
+        match own.list {
+            List::Entries(group) => put_entry::<W>(texts, pass, page, path, group, own),
+            _ => put_attribute::<W>(pass, page, path, own),
+        }
+    }
 }
 
 /// Attributes that are the values of a list.
@@ -459,6 +506,16 @@ impl Values for Array {
         beside: Option<Attribute<'_>>,
     ) -> Result<(), AllocError> {
         tell_alone::<W>(texts, pass, page, path, own, beside)
+    }
+
+    fn tell_whole<W: Walk>(
+        _texts: &mut Texts,
+        pass: Pass,
+        page: &mut Page,
+        path: &str,
+        own: Attribute<'_>,
+    ) -> Result<(), AllocError> {
+        put_attribute::<W>(pass, page, path, own)
     }
 }
 

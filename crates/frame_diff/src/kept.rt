@@ -1,30 +1,35 @@
 //! What attributes tell that are kept as they are.
 
-ghost use Rattle.std.specs.Prelude.{◌≡◌, ◌<◌, ◌+◌, ◌++◌, ◌^◌, ℕ, [], ◌∷◌, IfOk, OnOk, codes, decimal, map};
-ghost use Rattle.std.specs.Prelude.{not, option_map, true};
+ghost use Rattle.std.specs.Prelude.{◌≡◌, ◌++◌, [], ◌∷◌, IfOk, OnOk, Option as Maybe, Some, codes, map, not};
+ghost use Rattle.std.specs.Prelude.{option_and_then, true};
 ghost use Rattle.nla_wire.specs.Frames.{number};
-ghost use Rattle.shown.specs.Drafts.{with_members};
+ghost use Rattle.shown.specs.Drafts.{object_of, with_members};
 ghost use Rattle.frame_shown.specs.Items.{objects};
 ghost use Rattle.frame_shown.specs.Kept.{text_unless_empty};
 ghost use Rattle.frame_shown.specs.Tables.{is_kept, kind_shown, row_in};
 ghost use Rattle.frame_shown.specs.Values.{hexadecimal};
 ghost use Rattle.frame_shown.specs.declared.form.Around.{Around as Beside};
-ghost use Rattle.frame_diff.specs.Counters.{is_passed};
-ghost use Rattle.frame_diff.specs.Items.{items_told, joined};
-ghost use Rattle.frame_diff.specs.Members.{as_object, fields, kept_by, places};
+ghost use Rattle.frame_diff.specs.Forests.{Held};
+ghost use Rattle.frame_diff.specs.Items.{alone_item, items_told, joined};
+ghost use Rattle.frame_diff.specs.Keyed.{AreKept, label_items, labels_now, values_now};
+ghost use Rattle.frame_diff.specs.Labels.{first_labels, label_step, labels_of};
+ghost use Rattle.frame_diff.specs.Members.{as_object, fields};
 ghost use Rattle.frame_diff.specs.Rows.{row_shown};
-ghost use Rattle.frame_diff.specs.Values.{IsKeptBeside, IsSameKept, KeepsOnAt, entry_held, entry_items, has_place};
-ghost use Rattle.frame_diff.specs.Values.{kept_at, kept_forest, kept_from, kept_members, kept_of, more_by};
+ghost use Rattle.frame_diff.specs.Values.{IsSameKept, entry_held, kept_held, kept_inside_at, kept_members, kept_one};
 ghost use Rattle.frame_diff.specs.Values.{value_shown};
-ghost use Rattle.frame_diff.specs.declared.kept.Entry.TheVariants as Entries;
+ghost use Rattle.frame_diff.specs.Walked.{step_items};
+ghost use Rattle.frame_diff.specs.declared.keys.Key.TheVariants as Keys;
 
 use crate::counters::is_passed;
-use crate::leaf::{Texts, Value, is_same};
-use crate::list::behind;
-use crate::path::{join, join_place};
+use crate::keyed::{Labelled, label_all, places_unless_same, push_labelled, value_beside};
+use crate::keys::Key;
+use crate::labels::Label;
+use crate::leaf::{Texts, Value, is_same, put_alone};
+use crate::path::{join, join_label};
 use crate::rows::{Row, tell_rows};
 use crate::side::Side;
 use crate::walk::{Attributes, Pass};
+use frame_shown::depth::Bottom;
 use frame_shown::form::{Around, Form, Way, name_in, row_in};
 use nla_wire::{NLA_TYPE_MASK, NlaBuffer, NlasIterator};
 use shown::Page;
@@ -90,19 +95,8 @@ fn rows_of<'a>(alloc: Global, kept: Kept<'a>) -> Result<Vec<Row<'a>>, AllocError
     Ok(rows)
 }
 
-/// What one says, if there is one.
-fn rows_beside<'a>(alloc: Global, kept: Option<Kept<'a>>) -> Result<Vec<Row<'a>>, AllocError>
-    ensures { IfOk result (λ rows. (cx : Beside) → fields (map (row_shown cx) rows.items)
-        ≡ kept_forest kept.entry) }
-{
-    match kept {
-        Some(kept) => rows_of(alloc, kept),
-        None => Ok(Vec::new(alloc)),
-    }
-}
-
-/// Tells of an attribute that is kept beside another one, if there is one.
-fn tell_kept(
+/// Tells of an attribute that is kept beside another one, by what both say.
+fn tell_both(
     texts: &mut Texts,
     cx: &Around<'_>,
     theirs: &Around<'_>,
@@ -110,14 +104,29 @@ fn tell_kept(
     path: &str,
     side: Side,
     own: Kept<'_>,
-    beside: Option<Kept<'_>>,
+    other: Kept<'_>,
 ) -> Result<(), AllocError>
     ensures { OnOk result (page.new ≡ with_members (objects (items_told side path.now
-        (fields (kept_members own.entry)) (kept_forest beside.entry))) page.old) }
+        (fields (kept_members own.entry)) (fields (kept_members other.entry)))) page.old) }
 {
     let own = rows_of(texts.alloc, own)?;
-    let there = rows_beside(texts.alloc, beside)?;
+    let there = rows_of(texts.alloc, other)?;
     tell_rows(texts, cx, theirs, page, path, side, &own, &there)
+}
+
+/// Adds the change of one that one side alone has, with all that it says.
+fn put_kept(
+    cx: &Around<'_>,
+    page: &mut Page,
+    path: &str,
+    side: Side,
+    own: Kept<'_>,
+) -> Result<(), AllocError>
+    ensures { OnOk result (page.new ≡ with_members (objects (alone_item path.now side
+        (object_of (kept_members own.entry)) ∷ [])) page.old) }
+{
+    let value = Value::Kept(own.name, own.kind, own.payload);
+    put_alone::<Bottom>(cx, page, path, side, value)
 }
 
 /// The kind that is shown of one that is kept.
@@ -143,9 +152,8 @@ fn is_some_name(list: Attributes<'_>, frame: &NlaBuffer<'_>) -> bool
 
 /// What an attribute is in the list of those that are kept.
 fn look_at<'a>(is_state: bool, list: Attributes<'a>, frame: &NlaBuffer<'a>) -> Entry<'a>
-    ensures { entry_held result ≡ kept_by (is_passed is_state list.entry.list (number frame.now))
-        list.entry.around.now (row_in list.entry.around.now list.entry.list (number frame.now))
-        frame.now }
+    ensures { entry_held result
+        ≡ kept_one is_state list.entry.around.now list.entry.list frame.now }
 {
     let number = frame.kind();
     if is_some_name(list, frame) {
@@ -162,141 +170,117 @@ fn look_at<'a>(is_state: bool, list: Attributes<'a>, frame: &NlaBuffer<'a>) -> E
     })
 }
 
-/// Whether it has a place.
-fn has_place(entry: Entry<'_>) -> bool
-    ensures { result ≡ has_place entry.entry }
+/// Adds what is kept of an attribute of a number, as if none before it had it.
+fn push_entry<'a>(
+    values: &mut Vec<Labelled<Option<Kept<'a>>>>,
+    number: u16,
+    entry: Entry<'a>,
+) -> Result<(), AllocError>
+    ensures labels { OnOk result (labels_now values.new.items ≡ labels_now values.old.items
+        ++ first_labels (map (λ (h : Maybe Held). Some number) (entry_held entry.entry))) }
+    ensures values { OnOk result (map kept_held (values_now values.new.items)
+        ≡ map kept_held (values_now values.old.items) ++ entry_held entry.entry) }
 {
     match entry {
-        Entry::Named => false,
-        Entry::Passed | Entry::Kept(_) => true,
+        Entry::Named => Ok(()),
+        Entry::Passed => push_labelled(values, Some(number.into()), None),
+        Entry::Kept(kept) => push_labelled(values, Some(number.into()), Some(kept)),
     }
 }
 
-/// The one that is kept.
-fn kept_of<'a>(entry: Entry<'a>) -> Option<Kept<'a>>
-    ensures { option_map (λ k. as_object (kept_members k)) result
-        ≡ option_map (λ k. as_object (kept_members k)) (kept_of entry.entry) }
+/// The attributes of a list that are kept, each with its label, as if no two had one number.
+fn first_kept<'a>(
+    alloc: Global,
+    is_state: bool,
+    list: Attributes<'a>,
+) -> Result<Vec<Labelled<Option<Kept<'a>>>>, AllocError>
+    ensures { IfOk result (λ values. AreKept is_state list.entry first_labels values.items) }
 {
-    match entry {
-        Entry::Kept(kept) => Some(kept),
-        Entry::Named | Entry::Passed => None,
-    }
-}
-
-/// The first one that has a place, and the bytes behind it; one with a name where there is none.
-fn next_entry<'a>(is_state: bool, list: Attributes<'a>) -> (Entry<'a>, &'a [u8])
-    ensures cut { kept_at is_state list.entry
-        ≡ entry_held result.0 ++ kept_from is_state list.entry result.1.now }
-    ensures last { result.0 ≡ Entries.Named → kept_from is_state list.entry result.1.now ≡ [] }
-{
-    let mut rest = list.bytes;
+    let mut values = Vec::new(alloc);
     for item in NlasIterator::new(list.bytes) {
         let Ok(frame) = item else {
             break;
         };
-        rest = behind(rest, &frame);
         let entry = look_at(is_state, list, &frame);
-        if has_place(entry) {
-            return (entry, rest);
-        }
+        push_entry(&mut values, frame.kind(), entry)?;
     }
-    (Entry::Named, b"")
+    Ok(values)
 }
 
-/// What stands beside one of them at its place in another list, where that goes on, and where it goes on behind it.
-fn beside_entry<'a>(
+/// The attributes of a list that are kept, each with its label. Where there are none, no memory is taken.
+fn kept_in<'a>(
+    alloc: Global,
     is_state: bool,
-    own: Entry<'_>,
-    others: Attributes<'a>,
-    there: &'a [u8],
-) -> (Entry<'a>, &'a [u8])
-    ensures { (place : ℕ) → KeepsOnAt is_state others.entry place there.entry.now
-        → IsKeptBeside is_state others.entry place own.entry result.0
-        × KeepsOnAt is_state others.entry (more_by own.entry place) result.1.now }
+    list: Attributes<'a>,
+) -> Result<Vec<Labelled<Option<Kept<'a>>>>, AllocError>
+    ensures { IfOk result (λ values. AreKept is_state list.entry labels_of values.items) }
 {
-    if !has_place(own) {
-        return (Entry::Named, there);
-    }
-    next_entry(
-        is_state,
-        Attributes {
-            bytes: there,
-            ..others
-        },
-    )
+    let mut values = first_kept(alloc, is_state, list)?;
+    label_all(alloc, &mut values)?;
+    Ok(values)
 }
 
-/// Whether what stands beside one that is kept says the same.
-fn is_same_kept(own: Kept<'_>, beside: Option<Kept<'_>>) -> bool
-    ensures { result ≡ true → IsSameKept own.entry beside.entry }
+/// Whether two that are kept say the same.
+fn is_same_kept(own: Kept<'_>, other: Kept<'_>) -> bool
+    ensures { result ≡ true → IsSameKept own.entry other.entry }
 {
-    let Some(other) = beside else {
-        return false;
-    };
     other.kind == own.kind && own.name == other.name && is_same(own.payload, other.payload)
 }
 
-/// Tells of one that is kept, beside the one at its place, if there is one. One that says the same costs a look.
-fn tell_placed(
+/// Tells of one that is kept at its label, beside the one with this label: by what both say, or as a whole, if there is
+/// none. One that says the same costs a look.
+fn tell_kept(
     texts: &mut Texts,
     cx: &Around<'_>,
     theirs: &Around<'_>,
     page: &mut Page,
     path: &str,
     side: Side,
-    place: usize,
+    label: Label,
     own: Kept<'_>,
     beside: Option<Kept<'_>>,
 ) -> Result<(), AllocError>
-    ensures { OnOk result (page.new ≡ with_members (objects (items_told side
-        (joined (joined path.now (codes "other")) (decimal place))
-        (fields (kept_members own.entry)) (kept_forest beside.entry))) page.old) }
+    ensures { OnOk result (page.new ≡ with_members (objects (step_items side path.now
+        (label_step Keys.Number label) (as_object (kept_members own.entry))
+        (kept_held beside.entry))) page.old) }
 {
-    if is_same_kept(own, beside) {
+    let Some(other) = beside else {
+        let text = join_label(texts.alloc, path, Key::Number.name(), label)?;
+        return put_kept(cx, page, text.as_str(), side, own);
+    };
+    if is_same_kept(own, other) {
         return Ok(());
     }
-    let list = join(texts.alloc, path, "other")?;
-    let text = join_place(texts.alloc, list.as_str(), place)?;
-    tell_kept(texts, cx, theirs, page, text.as_str(), side, own, beside)
+    let text = join_label(texts.alloc, path, Key::Number.name(), label)?;
+    tell_both(texts, cx, theirs, page, text.as_str(), side, own, other)
 }
 
-/// Tells of one in the list of those that are kept, beside the one at its place.
-fn tell_entry(
+/// Tells of one that is kept, unless it is passed over, beside the one with its label, if there is one.
+fn tell_labelled(
     texts: &mut Texts,
-    pass: Pass,
+    cx: &Around<'_>,
+    theirs: &Around<'_>,
     page: &mut Page,
     path: &str,
-    cx: &Around<'_>,
-    place: usize,
-    others: Attributes<'_>,
-    entry: Entry<'_>,
-    beside: Entry<'_>,
+    side: Side,
+    own: Labelled<Option<Kept<'_>>>,
+    beside: Option<Option<Kept<'_>>>,
 ) -> Result<(), AllocError>
-    requires { IsKeptBeside pass.is_state others place entry beside }
-    ensures { OnOk result (page.new ≡ with_members (objects (entry_items pass.side
-        (joined path.now (codes "other")) place
-        (kept_at pass.is_state others.entry) entry.entry)) page.old) }
+    ensures { OnOk result (page.new ≡ with_members (objects (label_items side path.now
+        (label_step Keys.Number own.entry.label) (kept_held own.entry.value)
+        (option_and_then kept_held beside.entry))) page.old) }
 {
-    let Entry::Kept(own) = entry else {
+    let Some(kept) = own.value else {
         return Ok(());
     };
-    let beside = kept_of(beside);
-    let theirs = others.around;
-    tell_placed(texts, cx, theirs, page, path, pass.side, place, own, beside)
+    let other = match beside {
+        Some(other) => other,
+        None => None,
+    };
+    tell_kept(texts, cx, theirs, page, path, side, own.label, kept, other)
 }
 
-/// The place of the next one.
-fn more_by(entry: Entry<'_>, place: usize) -> usize
-    requires { place + 1 < 2 ^ 64 }
-    ensures { result ≡ more_by entry.entry place }
-{
-    match entry {
-        Entry::Named => place,
-        Entry::Passed | Entry::Kept(_) => place + 1,
-    }
-}
-
-/// Tells of the attributes of a list that are kept, each beside the one at its place in another list, as members of a
+/// Tells of the attributes of a list that are kept, each beside the one of its number in another list, as members of a
 /// list of their own.
 pub(crate) fn tell_others(
     texts: &mut Texts,
@@ -308,22 +292,23 @@ pub(crate) fn tell_others(
 ) -> Result<(), AllocError>
     ensures { OnOk result (page.new
         ≡ with_members (objects (items_told pass.side (joined path.now (codes "other"))
-        (places (kept_at pass.is_state own.entry)) (places (kept_at pass.is_state others.entry))))
+        (kept_inside_at pass.is_state own.entry) (kept_inside_at pass.is_state others.entry)))
         page.old) }
 {
+    let values = kept_in(texts.alloc, pass.is_state, own)?;
+    if values.is_empty() {
+        return Ok(());
+    }
+    let theirs = kept_in(texts.alloc, pass.is_state, others)?;
+    let places = places_unless_same(texts.alloc, values.as_slice(), theirs.as_slice())?;
+    let list = join(texts.alloc, path, "other")?;
     let mut place = 0;
-    let mut there = others.bytes;
-    for item in NlasIterator::new(own.bytes) {
-        let Ok(frame) = item else {
-            break;
-        };
-        let entry = look_at(pass.is_state, own, &frame);
-        let (beside, next) = beside_entry(pass.is_state, entry, others, there);
-        there = next;
-        tell_entry(
-            texts, pass, page, path, own.around, place, others, entry, beside,
-        )?;
-        place = more_by(entry, place);
+    for one in values.as_slice() {
+        let beside = value_beside(&places, one.label, place, theirs.as_slice());
+        let cx = others.around;
+        let text = list.as_str();
+        tell_labelled(texts, own.around, cx, page, text, pass.side, *one, beside)?;
+        place += 1;
     }
     Ok(())
 }

@@ -1,17 +1,16 @@
 //! What lists tell whose values are told apart by a number that each says.
 
-ghost use Rattle.std.specs.Prelude.{◌≡◌, ◌<◌, ◌^◌, ◌+◌, ◌++◌, ℕ, Bool, IfOk, IfSome, List as Seq, None, OnOk};
-ghost use Rattle.std.specs.Prelude.{Option as Maybe, Some, option_map, true};
+ghost use Rattle.std.specs.Prelude.{◌≡◌, ◌++◌, [], ◌∷◌, Bool, IfOk, IfSome, List as Seq, None, OnOk};
+ghost use Rattle.std.specs.Prelude.{Some, option_map, true};
 ghost use Rattle.shown.specs.Drafts.{with_members};
 ghost use Rattle.frame_shown.specs.Items.{objects};
-ghost use Rattle.frame_diff.specs.Groups.{group_inside, is_entries, numbers_at, picked, value_at};
-ghost use Rattle.frame_diff.specs.Items.{further, items_told};
+ghost use Rattle.frame_diff.specs.Groups.{group_inside, is_entries, picked, value_at};
+ghost use Rattle.frame_diff.specs.Items.{items_told};
 ghost use Rattle.frame_diff.specs.Keyed.{AreIn, AreLabelled, FindsAt, IsIn, StandsFor, helds_now, labels_now};
-ghost use Rattle.frame_diff.specs.Keyed.{numbers_now, picked_numbers, value_of};
+ghost use Rattle.frame_diff.specs.Keyed.{numbers_now, picked_numbers, value_of, values_now};
 ghost use Rattle.frame_diff.specs.Keys.{key_at};
-ghost use Rattle.frame_diff.specs.Labels.{IsIndex, are_ascending, count, count_in, first_labels, label_step};
-ghost use Rattle.frame_diff.specs.Labels.{labels_by, labels_of, place_of};
-ghost use Rattle.frame_diff.specs.Walked.{AreBeside, HasNames, Holding, Showing, StandBeside, held_items};
+ghost use Rattle.frame_diff.specs.Labels.{IsIndex, are_ascending, first_labels, label_step, labels_of, place_of};
+ghost use Rattle.frame_diff.specs.Walked.{AreBeside, HasNames, Holding, Showing, StandBeside, step_items};
 ghost use Rattle.frame_diff.specs.declared.labels.Label.{Label as Mark};
 ghost use Rattle.frame_diff.specs.declared.walk.Attributes.{Attributes as Lists};
 
@@ -28,11 +27,72 @@ use std::alloc::{AllocError, Global};
 
 /// A value of a list, with its label.
 #[derive(Clone, Copy, Drop)]
-pub struct Labelled<'a> {
+pub struct Labelled<V> {
     /// The label.
     pub label: Label,
     /// The value.
-    pub value: Attribute<'a>,
+    pub value: V,
+}
+
+/// Adds a value, as if none before it had its number.
+pub(crate) fn push_labelled<V: Drop>(
+    values: &mut Vec<Labelled<V>>,
+    number: Option<u64>,
+    value: V,
+) -> Result<(), AllocError>
+    ensures labels { OnOk result (labels_now values.new.items
+        ≡ labels_now values.old.items ++ first_labels (number ∷ [])) }
+    ensures values { OnOk result (values_now values.new.items
+        ≡ values_now values.old.items ++ value ∷ []) }
+{
+    let label = Label { number, again: 0 };
+    values.push(Labelled { label, value })?;
+    Ok(())
+}
+
+/// Whether the numbers of all values ascend.
+fn are_ascending<V>(values: &[Labelled<V>]) -> bool
+    ensures { are_ascending None (numbers_now values.now) ≡ result }
+{
+    let mut before = None;
+    for one in values {
+        let number = one.label.number;
+        if !is_above(before, number) {
+            return false;
+        }
+        before = number;
+    }
+    true
+}
+
+/// Counts of each value those before it with its number.
+fn count_each<V>(alloc: Global, values: &mut Vec<Labelled<V>>) -> Result<(), AllocError>
+    ensures labels { OnOk result (labels_now values.new.items
+        ≡ labels_of (numbers_now values.old.items)) }
+    ensures values { OnOk result (values_now values.new.items ≡ values_now values.old.items) }
+{
+    let mut counts = Counts::new(alloc);
+    let mut place = 0;
+    while place < values.len() {
+        let number = values[place].label.number;
+        let again = count(&mut counts, number)?;
+        values[place].label = Label { number, again };
+        place += 1;
+    }
+    Ok(())
+}
+
+/// Labels values that have labels as if no two had one number. Where their numbers ascend, none is counted.
+pub(crate) fn label_all<V>(alloc: Global, values: &mut Vec<Labelled<V>>) -> Result<(), AllocError>
+    requires { labels_now values.now.items ≡ first_labels (numbers_now values.now.items) }
+    ensures labels { OnOk result (labels_now values.new.items
+        ≡ labels_of (numbers_now values.old.items)) }
+    ensures values { OnOk result (values_now values.new.items ≡ values_now values.old.items) }
+{
+    if are_ascending(values.as_slice()) {
+        return Ok(());
+    }
+    count_each(alloc, values)
 }
 
 /// Another list with this key; a list without values where it has none, or another one.
@@ -55,7 +115,7 @@ pub(crate) fn keyed_beside<'a>(
 
 /// Adds a value, if there is one, as if none before it had its number.
 fn push_first<'a>(
-    values: &mut Vec<Labelled<'a>>,
+    values: &mut Vec<Labelled<Attribute<'a>>>,
     key: Key,
     value: Option<Attribute<'a>>,
 ) -> Result<(), AllocError>
@@ -70,10 +130,7 @@ fn push_first<'a>(
     let Some(value) = value else {
         return Ok(());
     };
-    let number = number_of(key, value);
-    let label = Label { number, again: 0 };
-    values.push(Labelled { label, value })?;
-    Ok(())
+    push_labelled(values, number_of(key, value), value)
 }
 
 /// The values of a list, each with its label, as if no two had one number.
@@ -82,7 +139,7 @@ fn first_values<'a>(
     is_state: bool,
     key: Key,
     list: Attributes<'a>,
-) -> Result<Vec<Labelled<'a>>, AllocError>
+) -> Result<Vec<Labelled<Attribute<'a>>>, AllocError>
     requires { key_at list.number list.list ≡ Some key }
     ensures { IfOk result (λ values. AreLabelled is_state list.entry first_labels values.items) }
 {
@@ -96,89 +153,23 @@ fn first_values<'a>(
     Ok(values)
 }
 
-/// Adds a value, if there is one, of whose number those before it are counted.
-fn push_counted<'a>(
-    counts: &mut Counts,
-    values: &mut Vec<Labelled<'a>>,
-    key: Key,
-    value: Option<Attribute<'a>>,
-) -> Result<(), AllocError>
-    requires { (n : Maybe ℕ) → count_in counts.now n + 1 < 2 ^ 64 }
-    ensures labels { OnOk result (labels_now values.new.items
-        ≡ labels_now values.old.items ++ labels_by counts.old (picked_numbers key value.entry)) }
-    ensures values { OnOk result ((nest : Showing) (inner : Holding) (is_state : Bool)
-        → helds_now nest inner is_state values.new.items
-        ≡ helds_now nest inner is_state values.old.items ++ picked nest inner is_state value.entry) }
-    ensures list { OnOk result ((list : Lists) → AreIn list values.old.items
-        → IfSome value.entry (IsIn list) → AreIn list values.new.items) }
-    ensures counts { OnOk result ((n : Maybe ℕ) → count_in counts.new n
-        ≡ count n (picked_numbers key value.entry) + count_in counts.old n) }
-{
-    let Some(value) = value else {
-        return Ok(());
-    };
-    let number = number_of(key, value);
-    let again = count(counts, number)?;
-    let label = Label { number, again };
-    values.push(Labelled { label, value })?;
-    Ok(())
-}
-
 /// The values of a list, each with its label.
-fn counted_values<'a>(
-    alloc: Global,
-    is_state: bool,
-    key: Key,
-    list: Attributes<'a>,
-) -> Result<Vec<Labelled<'a>>, AllocError>
-    requires { key_at list.number list.list ≡ Some key }
-    ensures { IfOk result (λ values. AreLabelled is_state list.entry labels_of values.items) }
-{
-    let mut counts = Counts::new(alloc);
-    let mut values = Vec::new(alloc);
-    for item in NlasIterator::new(list.bytes) {
-        let Ok(frame) = item else {
-            break;
-        };
-        push_counted(&mut counts, &mut values, key, pick(is_state, list, &frame))?;
-    }
-    Ok(values)
-}
-
-/// Whether the numbers of all values ascend.
-fn are_ascending(values: &[Labelled<'_>]) -> bool
-    ensures { are_ascending None (numbers_now values.now) ≡ result }
-{
-    let mut before = None;
-    for one in values {
-        let number = one.label.number;
-        if !is_above(before, number) {
-            return false;
-        }
-        before = number;
-    }
-    true
-}
-
-/// The values of a list, each with its label. Where their numbers ascend, none is counted.
 fn values_in<'a>(
     alloc: Global,
     is_state: bool,
     key: Key,
     list: Attributes<'a>,
-) -> Result<Vec<Labelled<'a>>, AllocError>
+) -> Result<Vec<Labelled<Attribute<'a>>>, AllocError>
     requires { key_at list.number list.list ≡ Some key }
     ensures { IfOk result (λ values. AreLabelled is_state list.entry labels_of values.items) }
 {
-    let values = first_values(alloc, is_state, key, list)?;
-    if are_ascending(values.as_slice()) {
-        return Ok(values);
-    }
-    counted_values(alloc, is_state, key, list)
+    let mut values = first_values(alloc, is_state, key, list)?;
+    label_all(alloc, &mut values)?;
+    Ok(values)
 }
 
 /// Whether two lists have the same labels, in the same order.
-fn are_same(own: &[Labelled<'_>], others: &[Labelled<'_>]) -> bool
+fn are_same<V>(own: &[Labelled<V>], others: &[Labelled<V>]) -> bool
     ensures { result ≡ true → labels_now own.now ≡ labels_now others.now }
 {
     if own.len() != others.len() {
@@ -195,7 +186,7 @@ fn are_same(own: &[Labelled<'_>], others: &[Labelled<'_>]) -> bool
 }
 
 /// Where each of these labels stands: the first of those that are the same.
-fn places_of(alloc: Global, values: &[Labelled<'_>]) -> Result<Places, AllocError>
+fn places_of<V>(alloc: Global, values: &[Labelled<V>]) -> Result<Places, AllocError>
     ensures { IfOk result (λ places. (own : Seq Mark) → IsIndex (Some places) own (labels_now values.now)) }
 {
     let mut places = Places::new(alloc);
@@ -208,10 +199,10 @@ fn places_of(alloc: Global, values: &[Labelled<'_>]) -> Result<Places, AllocErro
 }
 
 /// Where each of the other labels stands, unless both lists have the same ones in the same order.
-fn places_unless_same(
+pub(crate) fn places_unless_same<V>(
     alloc: Global,
-    own: &[Labelled<'_>],
-    others: &[Labelled<'_>],
+    own: &[Labelled<V>],
+    others: &[Labelled<V>],
 ) -> Result<Option<Places>, AllocError>
     ensures { IfOk result (λ places. IsIndex places (labels_now own.now) (labels_now others.now)) }
 {
@@ -223,15 +214,14 @@ fn places_unless_same(
 }
 
 /// The other value with the label of one at a place, if there is one.
-fn value_beside<'a>(
+pub(crate) fn value_beside<V: Copy>(
     places: &Option<Places>,
     label: Label,
     place: usize,
-    others: &[Labelled<'a>],
-) -> Option<Attribute<'a>>
-    ensures value { (own : Seq Mark) → place_of label own ≡ Some place
+    others: &[Labelled<V>],
+) -> Option<V>
+    ensures { (own : Seq Mark) → place_of label own ≡ Some place
         → IsIndex places.now own (labels_now others.now) → result ≡ value_of label others.now }
-    ensures list { (list : Lists) → AreIn list others.now → IfSome result (IsIn list) }
 {
     let there = match places {
         Some(places) => *places.get(&label)?,
@@ -241,14 +231,14 @@ fn value_beside<'a>(
     Some(other.value)
 }
 
-/// Tells of a value beside the one with its label.
+/// Tells of a value beside the one with its label, or of all of it as a whole, if there is none.
 fn tell_labelled<W: Walk, V: Values>(
     texts: &mut Texts,
     pass: Pass,
     page: &mut Page,
     path: &str,
     key: Key,
-    own: Labelled<'_>,
+    own: Labelled<Attribute<'_>>,
     beside: Option<Attribute<'_>>,
 ) -> Result<(), AllocError>
     requires fits { V.fits own.value.list }
@@ -256,12 +246,16 @@ fn tell_labelled<W: Walk, V: Values>(
     requires entries { IfSome beside (λ a. is_entries a.list ≡ is_entries own.value.list) }
     requires alike { pass.is_alike ≡ true → StandBeside own.value beside }
     ensures { OnOk result (page.new
-        ≡ with_members (objects (held_items pass.side (further path.now (label_step key own.entry.label))
+        ≡ with_members (objects (step_items pass.side path.now (label_step key own.entry.label)
         (value_at W.nest W.inner pass.is_state own.entry.value)
         (option_map (value_at W.nest W.inner pass.is_state) beside.entry))) page.old) }
 {
     let text = join_label(texts.alloc, path, key.name(), own.label)?;
-    V::tell_one::<W>(texts, pass, page, text.as_str(), own.value, beside)
+    if beside.is_some() {
+        V::tell_one::<W>(texts, pass, page, text.as_str(), own.value, beside)
+    } else {
+        V::tell_whole::<W>(texts, pass, page, text.as_str(), own.value)
+    }
 }
 
 /// Tells of the values of a list, each beside the one with its label in another list with the same key.

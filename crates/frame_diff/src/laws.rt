@@ -1,10 +1,11 @@
 //! What is told of two messages is what differs between all their leaves.
 
 ghost use Rattle.frame_diff.specs.Laws.{CountersArePassed, EachIsToldOnce, ItemsAreChanges, MessagesAreTold};
-ghost use Rattle.frame_diff.specs.Laws.{SameIsSilent, WhatDiffersIsTold};
+ghost use Rattle.frame_diff.specs.Laws.{SameIsSilent, WhatDiffersIsTold, WholesAreLeaves};
 ghost use Rattle.frame_diff.specs.Names.{NamesAreApart};
 ghost use Rattle.frame_diff.specs.PathTexts.{PathTextsAreApart};
 ghost use Rattle.frame_diff.specs.Shown.{MembersAreShown, WholeIsShown};
+ghost use Rattle.frame_diff.specs.Still.{WholesStandStill};
 
 /// What is told of members beside others is what differs between the leaves of both.
 pub fn law_told()
@@ -21,8 +22,15 @@ pub fn law_silent()
     ensures { SameIsSilent }
 {}
 
-/// What is told of two messages, or of two states, is what differs between all leaves of both, each path once; of a
-/// message beside itself nothing.
+/// Leaf by leaf, what is told where values with labels that stand alone are told as a whole is what differs between the
+/// leaves of both.
+pub fn law_wholes()
+    ensures { WholesAreLeaves }
+{}
+
+/// What is told of two messages, or of two states, is what differs between all leaves of both, where a value with a
+/// label that stands alone is a leaf. Leaf by leaf it is what differs between all leaves. Each path is told once. Of a
+/// message beside itself nothing is told.
 pub fn law_messages()
     ensures { MessagesAreTold }
 {}
@@ -30,6 +38,11 @@ pub fn law_messages()
 /// A state passes over the attributes that the table of `link_state` clears, and no other.
 pub fn law_counters()
     ensures { CountersArePassed }
+{}
+
+/// Nothing that a state clears is in what is told of it as a whole.
+pub fn law_settled()
+    ensures { WholesStandStill }
 {}
 
 /// What is written behind the text of a path is an object for each change that is told.

@@ -1,11 +1,11 @@
 //! What values that hold no others tell.
 
-ghost use Rattle.std.specs.Prelude.{◌≡◌, ◌++◌, [], ◌∷◌, IfOk, OnOk, Some, bit_and, option_map, true};
+ghost use Rattle.std.specs.Prelude.{◌≡◌, ◌++◌, [], ◌∷◌, IfOk, OnOk, Some, bit_and, codes, option_map, true};
 ghost use Rattle.shown.specs.Drafts.{object_of, with_members, with_value};
 ghost use Rattle.shown.specs.Keys.{IsKey};
 ghost use Rattle.shown.specs.Values.{flags_of};
 ghost use Rattle.frame_shown.specs.Items.{objects};
-ghost use Rattle.frame_shown.specs.Kept.{frame_flags};
+ghost use Rattle.frame_shown.specs.Kept.{frame_flags, frame_members, text_unless_empty};
 ghost use Rattle.frame_shown.specs.Messages.{link_flag_names};
 ghost use Rattle.frame_diff.specs.Differences.{is_shown_same, text_of};
 ghost use Rattle.frame_diff.specs.Forests.{is_text};
@@ -53,6 +53,8 @@ pub enum Value<'a> {
     Listed(List, &'a [u8]),
     /// The attributes of a list that are the values of the list of a number.
     Array(List, u16, &'a [u8]),
+    /// An attribute that is kept as it is: the name that its number has all the same, if any, its kind and its payload.
+    Kept(&'a str, u16, &'a [u8]),
 }
 
 /// Room for the texts that are compared.
@@ -152,6 +154,36 @@ fn show_array<D: Depth>(
     show_one_array::<D>(cx, page, name, &list, number, bytes)
 }
 
+/// Adds a name where it is not empty.
+fn show_name(page: &mut Page, text: &str) -> Result<(), AllocError>
+    ensures { OnOk result
+        (page.new ≡ with_members (text_unless_empty (codes "name") text.now) page.old) }
+{
+    if text.is_empty() {
+        return Ok(());
+    }
+    page.string("name", text)
+}
+
+/// Adds an attribute that is kept as it is.
+fn show_kept(
+    page: &mut Page,
+    name: &str,
+    text: &str,
+    kind: u16,
+    payload: &[u8],
+) -> Result<(), AllocError>
+    ensures { OnOk result (page.new
+        ≡ with_value name.now (object_of (frame_members text.now kind payload.now)) page.old) }
+{
+    page.begin(name, Nest::Object)?;
+    page.number("number", (kind & NLA_TYPE_MASK).into())?;
+    show_name(page, text)?;
+    show_flags(page, "flags", kind)?;
+    page.hex("payload", payload)?;
+    page.end()
+}
+
 /// Adds a value.
 fn show_value<D: Depth>(
     cx: &Around<'_>,
@@ -178,6 +210,7 @@ fn show_value<D: Depth>(
         Value::Array(list, number, bytes) => {
             show_array::<D>(cx, page, name, list, number, bytes)
         }
+        Value::Kept(text, kind, payload) => show_kept(page, name, text, kind, payload),
     }
 }
 
@@ -257,7 +290,7 @@ pub(crate) fn is_shown_same<D: Depth>(
 }
 
 /// Adds the change of a value that one side alone has.
-fn put_alone<D: Depth>(
+pub(crate) fn put_alone<D: Depth>(
     cx: &Around<'_>,
     page: &mut Page,
     path: &str,

@@ -47,8 +47,9 @@ fn is_any(bytes: &[u8]) -> bool
 
 /// Whether a list holds no member at all.
 pub(crate) fn is_without(own: Attributes<'_>) -> bool
-    ensures { (nest : Showing) (inner : Holding) (is_state : Bool) → has_none
+    ensures value { (nest : Showing) (inner : Holding) (is_state : Bool) → has_none
         (above nest inner is_state own.entry.around.now own.entry.list own.entry.bytes.now) ≡ result }
+    ensures none { result ≡ true → is_some (frames_in (items own.entry.bytes.now)) ≡ false }
 {
     is_object(own.list) && !is_any(own.bytes)
 }

@@ -28,7 +28,7 @@ fn is_accepted(frame: &NlaBuffer<'_>, family: u8) -> bool
 }
 
 /// Adds an attribute as it is spelled, with zeros for its padding.
-fn push_frame(out: &mut Vec<u8>, frame: &NlaBuffer<'_>) -> Result<(), AllocError>
+pub fn push_frame(out: &mut Vec<u8>, frame: &NlaBuffer<'_>) -> Result<(), AllocError>
     ensures { OnOk result (out.new.items ≡ out.old.items ++ canon frame.now) }
 {
     let end = out.len() + padded_len(frame.value().len());

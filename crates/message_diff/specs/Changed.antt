@@ -8,10 +8,11 @@ use Rattle.line_filter.specs.Lines.{with_lf}
 use Rattle.shown.specs.Drafts.{Members, list_of, object_of}
 use Rattle.frame_shown.specs.Plain.{plain}
 use Rattle.frame_shown.specs.declared.form.Order.{Order}
-use Rattle.frame_diff.specs.Differences.{Change, both_told}
+use Rattle.frame_diff.specs.Differences.{Change}
 use Rattle.frame_diff.specs.Forests.{Forest, Step}
 use Rattle.frame_diff.specs.Items.{change_item}
 use Rattle.frame_diff.specs.Members.{message_forest}
+use Rattle.frame_diff.specs.Wholes.{between}
 use Rattle.message_diff.specs.declared.snapshot.Compared.{Compared}
 use Rattle.message_diff.specs.Alone.{change_member, told_words}
 use Rattle.message_diff.specs.Compared.{HasTextBy, is_state, parts_by}
@@ -26,7 +27,7 @@ forest_by by shot = message_forest (is_state by) (plain shot.order) (parts_by by
 
 -- what differs between those of two
 abbrev pub changes_between : Compared → Shot → Shot → List Change
-changes_between by old new = both_told (forest_by by old) (forest_by by new)
+changes_between by old new = between (forest_by by old) (forest_by by new)
 
 -- where nothing does, both encodings in hexadecimal
 abbrev pub state_change : List ℕ → List ℕ → Change

@@ -1,21 +1,28 @@
 -- What is told of two encodings is what differs between all their leaves, and which interface one is of is what its
 -- message says.
 use Rattle.std.specs.Prelude.{◌≡◌, ℕ, List, []}
+use Rattle.std.specs.List.{flat_map}
 use Rattle.link_msg.specs.Lenient.{MeansLeniently}
 use Rattle.link_msg.specs.declared.message.LinkMessage.{LinkMessage}
 use Rattle.frame_diff.specs.Differences.{changes}
 use Rattle.frame_diff.specs.Forests.{leaves}
 use Rattle.frame_diff.specs.Laws.{AreOnce}
+use Rattle.frame_diff.specs.Wholes.{opened, wholes}
 use Rattle.message_diff.specs.declared.snapshot.Compared.{Compared}
 use Rattle.message_diff.specs.Alone.{head_in}
 use Rattle.message_diff.specs.Changed.{changes_between, forest_by}
 use Rattle.message_diff.specs.Named.{head_of}
 use Rattle.message_diff.specs.Shots.{Shot}
 
--- of an encoding beside itself, in one order, nothing is told; and each path is told once
+-- a value with a label that stands alone is one leaf; leaf by leaf, what is told is what differs between all leaves. Of
+-- an encoding beside itself, in one order, nothing is told; and each path is told once
 pub record ChangesAreTold : Type 0 where
-  pub all : (by : Compared) (old new : Shot)
-      → changes_between by old new ≡ changes (leaves (forest_by by old)) (leaves (forest_by by new))
+  pub all : (by : Compared) (old new : Shot) → changes_between by old new
+      ≡ changes (leaves (wholes (forest_by by old) (forest_by by new)))
+      (leaves (wholes (forest_by by new) (forest_by by old)))
+  pub by_leaves : (by : Compared) (old new : Shot)
+      → flat_map (opened (forest_by by old) (forest_by by new)) (changes_between by old new)
+      ≡ changes (leaves (forest_by by old)) (leaves (forest_by by new))
   pub once : (by : Compared) (old new : Shot) → AreOnce (changes_between by old new)
   pub silent : (by : Compared) (shot : Shot) → changes_between by shot shot ≡ []
 

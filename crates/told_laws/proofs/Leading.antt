@@ -1,14 +1,16 @@
 -- Changes that are applied lead from the old leaves to the new ones.
 use Rattle.std.proofs.Common.{◌≡◌, ◌++◌, ℕ, Bool, true, false, List, [], ◌∷◌, refl, sym, ap, ◌∙◌, subst}
 use Rattle.std.specs.Prelude.{Option, None, Some, codes, cond, option_map}
+use Rattle.std.specs.List.{flat_map}
 use Rattle.json.specs.Token.{Token}
 use Rattle.frame_diff.specs.Differences.{Change, changes, is_shown_same, leaf_change, path_of, side_changes, text_of}
-use Rattle.frame_diff.specs.Forests.{Leaf, Path, Step, is_path, leaves, value_at}
+use Rattle.frame_diff.specs.Forests.{Forest, Leaf, Path, Step, is_path, leaves, value_at}
 use Rattle.frame_diff.specs.Members.{message_forest}
+use Rattle.frame_diff.specs.Wholes.{opened}
 use Rattle.frame_diff.specs.declared.side.Side.{Side}
 use Rattle.frame_diff.specs.declared.side.Side.TheVariants.{Old, New}
 use Rattle.frame_diff.proofs.Apart.{message_apart}
-use Rattle.frame_diff.proofs.Leaves.{all_told}
+use Rattle.frame_diff.proofs.Messages.{messages_told}
 use Rattle.frame_diff.proofs.Once.{StandOnce, leaves_once}
 use Rattle.frame_diff.proofs.Steps.{path_same, text_same}
 use Rattle.message_diff.specs.declared.snapshot.Compared.{Compared}
@@ -18,7 +20,7 @@ use Rattle.message_diff.specs.Shots.{Shot}
 use Rattle.frame_shown.specs.Plain.{plain}
 use Rattle.frame_shown.specs.declared.form.Order.{Order}
 use Rattle.told_laws.specs.Leading.{Follow, IsAgain, Lead, LeadThere, LeadsAt, Turn, behind}
-use Rattle.told_laws.specs.Leading.{text_at, text_in, told_by}
+use Rattle.told_laws.specs.Leading.{leaves_told, text_at, text_in, told_by}
 use Rattle.told_laws.proofs.Orders.{order_alone}
 
 abbrev pub Text : Type 0
@@ -181,26 +183,29 @@ module _ (q : Path) where
 -- ** a line
 
 module _ (by : Compared) (q : Path) (other : is_path (Step.name (codes "state") ∷ []) q ≡ false) where
-  between_leads : (was is : Shot) → Lead q (text_at by was q) (text_at by is q) (changes_between by was is)
+  between_leads : (was is : Shot) → Lead q (text_at by was q) (text_at by is q)
+      (flat_map (opened (forest_by by was) (forest_by by is)) (changes_between by was is))
   between_leads was is =
       let old_apart = message_apart (is_state by) (plain was.order) (parts_by by was.text) in
       let new_apart = message_apart (is_state by) (plain is.order) (parts_by by is.text) in
       subst (Lead q (text_at by was q) (text_at by is q))
-      (sym (all_told (forest_by by was) (forest_by by is) old_apart new_apart))
+      (sym (messages_told.by_leaves (is_state by) (plain was.order) (plain is.order) (parts_by by was.text)
+      (parts_by by is.text)))
       (all_lead q (leaves (forest_by by was)) (leaves (forest_by by is)) (leaves_once (forest_by by was) old_apart)
       (leaves_once (forest_by by is) new_apart))
 
-  or_leads : (o v : Text) (was is : List ℕ) (cs : List Change) → Lead q o v cs
-      → Lead q o v (changes_or (state_change was is) cs)
-  or_leads o v was is [] h =
+  or_leads : (o v : Text) (f g : Forest) (was is : List ℕ) (cs : List Change)
+      → Lead q o v (flat_map (opened f g) cs)
+      → Lead q o v (flat_map (opened f g) (changes_or (state_change was is) cs))
+  or_leads o v f g was is [] h =
       subst (λ t. Lead q o t (state_change was is ∷ [])) h.leads (other_leads q o (state_change was is) other)
-  or_leads o v was is (c ∷ cs) h = h
+  or_leads o v f g was is (c ∷ cs) h = h
 
-  line_leads : (was is : Shot) → Lead q (text_at by was q) (text_at by is q) (told_changes by was is)
+  line_leads : (t : Turn) → Lead q (text_at by t.was q) (text_at by t.is q) (leaves_told by t)
   unfolding told_changes
-  line_leads was is =
-      or_leads (text_at by was q) (text_at by is q) was.text is.text (changes_between by was is)
-      (between_leads was is)
+  line_leads t =
+      or_leads (text_at by t.was q) (text_at by t.is q) (forest_by by t.was) (forest_by by t.is) t.was.text t.is.text
+      (changes_between by t.was t.is) (between_leads t.was t.is)
 
   -- ** one after another
 
@@ -222,10 +227,8 @@ module _ (by : Compared) (q : Path) (other : is_path (Step.name (codes "state") 
   lead_from shot [] follow last same =
       subst (λ v. Lead q (text_at by shot q) v []) (sym (again shot last same)) (none_lead q (text_at by shot q))
   lead_from shot (t ∷ ts) follow last same =
-      both_lead q (text_at by shot q) (text_at by t.is q) (text_at by last q) (told_changes by t.was t.is)
-      (told_by by ts)
-      (subst (λ v. Lead q v (text_at by t.is q) (told_changes by t.was t.is)) (again shot t.was follow.0)
-      (line_leads t.was t.is))
+      both_lead q (text_at by shot q) (text_at by t.is q) (text_at by last q) (leaves_told by t) (told_by by ts)
+      (subst (λ v. Lead q v (text_at by t.is q) (leaves_told by t)) (again shot t.was follow.0) (line_leads t))
       (lead_from t.is ts follow.1 last same)
 
 pub lead_there : LeadThere

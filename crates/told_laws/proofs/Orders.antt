@@ -1,6 +1,6 @@
 -- No leaf of a state depends on the order of the counters of IPv6.
-use Rattle.std.proofs.Common.{◌≡◌, ◌==◌, ℕ, zero, suc, ◌+◌, Bool, true, false, List, [], ◌∷◌, ◌++◌, map, refl, sym, ap}
-use Rattle.std.proofs.Common.{◌∙◌, length, length-append}
+use Rattle.std.proofs.Common.{◌≡◌, ◌==◌, ℕ, zero, suc, Bool, true, false, List, [], ◌∷◌, ◌++◌, map, refl, sym, ap}
+use Rattle.std.proofs.Common.{◌∙◌}
 use Rattle.std.specs.Int.{w32}
 use Rattle.std.specs.Prelude.{Option, None, Some, ◌&&◌, codes, cond, not, slice_index}
 use Rattle.std.specs.List.{flat_map, list_any}
@@ -40,14 +40,17 @@ use Rattle.frame_diff.specs.Members.{Inner, Parts, Reading, attributes_in, earli
 use Rattle.frame_diff.specs.Members.{entry_of}
 use Rattle.frame_diff.specs.Members.{entry_with, form_inside, group_of, inside_of, inside_with, numbers_by, places}
 use Rattle.frame_diff.specs.Members.{is_unnamed, array_at, arrays_in, arrays_of, value_with, values_with}
-use Rattle.frame_diff.specs.Members.{frame_member, held_by, inner_by, is_nest, is_some, kept_in}
+use Rattle.frame_diff.specs.Members.{frame_member, held_by, inner_by, is_nest, is_some, others_at}
 use Rattle.frame_diff.specs.Members.{list_at, listed_in}
 use Rattle.frame_diff.specs.Members.{list_members, meaning_inside, members_in, message_forest, message_members}
 use Rattle.frame_diff.specs.Members.{way_inside}
 use Rattle.frame_diff.specs.Named.{is_named, last_named}
 use Rattle.frame_diff.specs.Members.{named, named_by, named_in, reading, refused_in, refused_step, unless_none}
 use Rattle.frame_diff.specs.Messages.{with_order}
+use Rattle.frame_diff.specs.Settled.{settled}
 use Rattle.frame_diff.specs.declared.keys.Key.{Key}
+use Rattle.frame_diff.proofs.Numbered.{numbers_long}
+use Rattle.frame_diff.proofs.Settled.{settled_none}
 use Rattle.told_laws.proofs.Bare.{HoldsSome, bare, bare_all, bare_append, bare_held, bare_one, bare_opts, earlier_same}
 use Rattle.told_laws.proofs.Bare.{forest_bare, group_same, leaves_bare, left_same, list_same, opts_append}
 use Rattle.told_laws.proofs.Bare.{of_same, of_some, passed_same, placed_some, unless_bare}
@@ -88,18 +91,6 @@ numbers_same num other F G [] one same = refl
 numbers_same num other F G (f ∷ fs) one same = λ k. (sym (const_of (num f) (F f))
     ∙ (λ j. map (λ h. one f j) (same f j))
     ∙ const_of (other f) (G f)) k ++ numbers_same num other F G fs one same k
-
-const_many : (n : Option ℕ) (hs : List (Option Held)) → length (map (λ h. n) hs) ≡ length hs
-const_many n [] = refl
-const_many n (h ∷ hs) = ap (λ m. suc m) (const_many n hs)
-
-numbers_many : (num : Frame → Option ℕ) (F : Frame → List (Option Held)) (fs : List Frame)
-    → length (numbers_by num F fs) ≡ length (flat_map F fs)
-numbers_many num F [] = refl
-numbers_many num F (f ∷ fs) =
-    length-append (map (λ h. num f) (F f)) (numbers_by num F fs)
-    ∙ (λ k. const_many (num f) (F f) k + numbers_many num F fs k)
-    ∙ sym (length-append (F f) (flat_map F fs))
 
 -- ** what a list is shown as
 
@@ -315,7 +306,7 @@ module _ (cx : Around) (order : Order) (nest other : Nesting) (inner theirs : In
         → HoldsSome (flat_map F fs) (inside_of key (numbers_by (number_in cx key list) F fs) (flat_map F fs))
     inside_some cx key list F fs =
         of_some key (numbers_by (number_in cx key list) F fs) (flat_map F fs)
-        (numbers_many (number_in cx key list) F fs)
+        (numbers_long (number_in cx key list) F fs)
 
     array_same : (name : List ℕ) (hs js : List (Option Held)) (f g : Forest) → HoldsSome hs f → HoldsSome js g
         → bare_opts hs ≡ bare_opts js → bare f ≡ bare g
@@ -346,7 +337,7 @@ module _ (cx : Around) (order : Order) (nest other : Nesting) (inner theirs : In
         let ones = named_in s list fs in
         let lists = arrays_in r list fs in
         let lists_too = arrays_in s list fs in
-        let kept = list_at Step.other (kept_in r list fs) in
+        let kept = others_at Step.other r list fs in
         bare_append (own ++ lists ++ list_at Step.repeated (earlier own)) kept
         ∙ ap (λ ms. ms ++ bare_all kept) (bare_append (own ++ lists) (list_at Step.repeated (earlier own))
         ∙ ap (λ ms. ms ++ bare_all (list_at Step.repeated (earlier own))) (bare_append own lists))
@@ -373,22 +364,25 @@ module _ (cx : Around) (order : Order) (nest other : Nesting) (inner theirs : In
         let same = opts_same own ones (named_same list fs h) in
         (λ k. group_same (values_step (group_name group)) hs js (places hs) (places js) (placed_some 0 hs)
         (placed_some 0 js) same (of_same None [] [] hs js refl same) k
-        ∷ bare_all (list_at (rest_step (codes "other")) (kept_in r list fs)))
+        ∷ bare_all (others_at (rest_step (codes "other")) r list fs))
 
     -- objects in a list
     entry_same : (list : Shape) (p : List ℕ) → is_shape list ≡ true
         → bare_held (entry_of r list p) ≡ bare_held (entry_of s list p)
     entry_same list p h =
         let fs = frames_in (items p) in
-        left_same (object_of (members_of (lists_in cx list) (items_in nest cx list (items p))))
-        (object_of (members_of (lists_in cx list) (items_in other (with_order cx order) list (items p)))) (is_some fs)
-        (members_in r list fs) (members_in s list fs) refl refl (λ none. entry_none (none_there fs none))
+        let q = settled r.is_state list p in
+        left_same (object_of (members_of (lists_in cx list) (items_in nest cx list (items q))))
+        (object_of (members_of (lists_in cx list) (items_in other (with_order cx order) list (items q)))) (is_some fs)
+        (members_in r list fs) (members_in s list fs) refl refl
+        (λ none. entry_none q
+        (ap (λ x. frames_in (items x)) (settled_none r.is_state list p none) ∙ none_there fs none))
         (members_same list fs h)
       where
-        entry_none : frames_in (items p) ≡ [] → object_of (members_of (lists_in cx list)
-            (items_in nest cx list (items p)))
-            ≡ object_of (members_of (lists_in cx list) (items_in other (with_order cx order) list (items p)))
-        entry_none none = ap (λ fs. object_of (members_of (lists_in cx list) (map (frame_item nest cx list) fs))) none
+        entry_none : (q : List ℕ) → frames_in (items q) ≡ [] → object_of (members_of (lists_in cx list)
+            (items_in nest cx list (items q)))
+            ≡ object_of (members_of (lists_in cx list) (items_in other (with_order cx order) list (items q)))
+        entry_none q none = ap (λ fs. object_of (members_of (lists_in cx list) (map (frame_item nest cx list) fs))) none
             ∙ ap (λ fs. object_of (members_of (lists_in cx list)
             (map (frame_item other (with_order cx order) list) fs)))
             (sym none)

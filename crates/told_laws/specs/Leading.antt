@@ -1,9 +1,11 @@
--- The leaves of the message that was told as new, with the changes that are told since, are those of the last one.
+-- The leaves of the message that was told as new, with the changes that are told since, are those of the last one. A
+-- value that is told as a whole stands for all leaves inside it.
 use Rattle.std.specs.Prelude.{◌≡◌, ◌++◌, ℕ, true, false, List, [], ◌∷◌, Option, None, Some, codes, cond, map}
 use Rattle.std.specs.Prelude.{option_map}
 use Rattle.std.specs.List.{flat_map, fold}
 use Rattle.frame_diff.specs.Differences.{Change, path_of, text_of}
 use Rattle.frame_diff.specs.Forests.{Leaf, Path, Step, is_path, leaves, value_at}
+use Rattle.frame_diff.specs.Wholes.{opened}
 use Rattle.message_diff.specs.declared.key.Key.{Key}
 use Rattle.message_diff.specs.declared.snapshot.Compared.{Compared}
 use Rattle.message_diff.specs.Changed.{forest_by, told_changes}
@@ -52,9 +54,13 @@ pub record Turn : Type 0 where
   pub was : Shot
   pub is : Shot
 
+-- what one tells, leaf by leaf
+abbrev pub leaves_told : Compared → Turn → List Change
+leaves_told by t = flat_map (opened (forest_by by t.was) (forest_by by t.is)) (told_changes by t.was t.is)
+
 -- what they tell, one after another
 abbrev pub told_by : Compared → List Turn → List Change
-told_by by ts = flat_map (λ t. told_changes by t.was t.is) ts
+told_by by ts = flat_map (leaves_told by) ts
 
 -- a message behind which this one tells nothing: it has its encoding, and where counters are compared it was read in
 -- the same order of them

@@ -1,47 +1,83 @@
-use Rattle.std.proofs.Common.{◌≡◌, ◌≤◌, ◌*◌, ◌+◌, ◌∷◌, Ok, arith, codes, length, subst, sym}
-use Rattle.nla_wire.specs.Items.{frame_count, items}
-use Rattle.link_info.specs.Tables.{frames_in}
+use Rattle.std.proofs.Common.{◌≡◌, ◌<◌, ◌+◌, ◌∙◌, List, [], ap, codes, get_or, length, refl, rules, subst, sym}
+use Rattle.std.proofs.lemmas.List.{nil_from_length}
+use Rattle.std.specs.Prelude.{None, Option, Some, option_and_then}
 use Rattle.shown.specs.Drafts.{Draft, with_members}
 use Rattle.frame_shown.specs.Items.{objects}
+use Rattle.frame_diff.specs.Forests.{forest}
 use Rattle.frame_diff.specs.Items.{items_told, joined}
-use Rattle.frame_diff.specs.Members.{places}
-use Rattle.frame_diff.specs.Values.{KeepsOnAt, kept_at}
-use Rattle.frame_diff.proofs.Entries.{entry_next, place_fits, place_small}
+use Rattle.frame_diff.specs.Keyed.{AreKept, label_items, labels_now, value_of}
+use Rattle.frame_diff.specs.Labels.{IsIndex, label_step, labels_of, place_of}
+use Rattle.frame_diff.specs.Values.{kept_held, kept_inside_at}
+use Rattle.frame_diff.specs.declared.kept.Kept.{Kept}
+use Rattle.frame_diff.specs.declared.keyed.Labelled.{Labelled}
+use Rattle.frame_diff.specs.declared.keys.Key.TheVariants as Keys
+use Rattle.frame_diff.proofs.KeyedTold.{forest_told, kept_apart, kept_are, label_place, members, one_further}
 use Rattle.frame_diff.proofs.kept.tell_others.Goals as goal
 
-pub more_by-place-requires : goal.more_by-place-requires
-more_by-place-requires c =
-    let here : c.loop-item.item-iterator ≡ Ok c.in-Ok.frame ∷ c.next.new.self = rw c.in-Ok.is at
-    c.in-Some.ensures.steps in
-    let few : 4 * frame_count (items c.args.own.bytes.now) ≤ length c.args.own.bytes.now =
-    rw c.new-item-items.ensures.value at c.new-item-items.ensures.few in
-    let fits : c.loop-item.place + 1 ≤ length c.args.own.bytes.now =
-    place_small c.in-Ok.frame c.loop-item.item-iterator c.next.new.self here c.loop-item.place
-    (frame_count (items c.args.own.bytes.now)) (length c.args.own.bytes.now) c.loop-item.invariant.few few in
-    omega (arith, fits)
-
-pub loop-item-preserved : goal.loop-item-preserved
-loop-item-preserved c =
-    let here : c.loop-item.item-iterator ≡ Ok c.in-Ok.frame ∷ c.next.new.self = rw c.in-Ok.is at
-    c.in-Some.ensures.steps in
-    let own = c.args.own in
-    let others = c.args.others in
-    let all : Draft = with_members (objects (items_told c.args.pass.side (joined c.args.path.now (codes "other"))
-    (places (kept_at c.args.pass.is_state own)) (places (kept_at c.args.pass.is_state others)))) c.args.page.now in
+pub loop-one-init : goal.loop-one-init
+loop-one-init c =
+    let is_state = c.args.pass.is_state in
+    let side = c.args.pass.side in
+    let text = joined c.args.path.now (codes "other") in
+    let vs : List (Labelled (Option Kept)) = c.as_slice-one-items.result.now in
+    let ws : List (Labelled (Option Kept)) = c.in_ok-theirs.theirs.items in
+    let items : vs ≡ c.in_ok-values.values.items = c.as_slice-one-items.ensures.value in
+    let own : AreKept is_state c.args.own labels_of vs =
+    subst (AreKept is_state c.args.own labels_of) (sym items) c.in_ok-values.ensures in
+    let others : AreKept is_state c.args.others labels_of ws = c.in_ok-theirs.ensures in
     record {
-      goes = subst (λ n. KeepsOnAt c.args.pass.is_state others n c.beside_entry.result.1.now)
-          (sym c.more_by-place.ensures)
-          (c.beside_entry.ensures c.loop-item.place c.loop-item.invariant.goes).1;
-      few = place_fits c.in-Ok.frame c.look_at-entry.result c.loop-item.item-iterator c.next.new.self here
-          c.loop-item.place c.more_by-place.result (frame_count (items own.bytes.now)) c.more_by-place.ensures
-          c.loop-item.invariant.few;
-      told = entry_next c.args.pass.is_state own.around.now own.list c.in-Ok.frame c.look_at-entry.result
-          c.loop-item.item-iterator c.next.new.self here c.look_at-entry.ensures others.around.now others.list
-          (frames_in (items others.bytes.now)) c.args.pass.side (joined c.args.path.now (codes "other"))
-          c.loop-item.place
-          c.more_by-place.result c.loop-item.page c.tell_entry.new.page all c.more_by-place.ensures
-          c.in_ok-tell_entry.ensures c.loop-item.invariant.told;
+      place = refl;
+      own = own;
+      index = λ others is. subst (λ xs. IsIndex c.in_ok-places.places (labels_now xs) (labels_now others))
+          (c.as_slice.ensures.value ∙ sym items)
+          (subst (λ xs. IsIndex c.in_ok-places.places (labels_now c.as_slice.result.now) (labels_now xs))
+          (c.as_slice-2.ensures.value ∙ sym is) c.in_ok-places.ensures);
+      told = sym (ap (λ os. with_members (objects os) c.args.page.now)
+          ((λ k. items_told side text (kept_are is_state c.args.own vs own k)
+          (kept_are is_state c.args.others ws others k))
+          ∙ forest_told Keys.Number kept_held side text vs ws (kept_apart is_state c.args.own vs own)
+          (kept_apart is_state c.args.others ws others)));
     }
 
-pub tell_entry-requires : goal.tell_entry-requires
-tell_entry-requires c = (c.beside_entry.ensures c.loop-item.place c.loop-item.invariant.goes).0
+pub loop-one-preserved : goal.loop-one-preserved
+loop-one-preserved c =
+    let is_state = c.args.pass.is_state in
+    let side = c.args.pass.side in
+    let text = joined c.args.path.now (codes "other") in
+    let path : c.as_str-text.result.now ≡ joined c.args.path.now (codes "other") = search rules in
+    let vs : List (Labelled (Option Kept)) = c.as_slice-one-items.result.now in
+    let ws : List (Labelled (Option Kept)) = c.in_ok-theirs.theirs.items in
+    let i = c.loop-one.one-index in
+    let d : Labelled (Option Kept) = record { label = record { number = None; again = 0 }; value = None } in
+    let v : Labelled (Option Kept) = get_or vs i d in
+    let within : i < length vs = search rules in
+    let place : place_of v.label (labels_now vs) ≡ Some c.loop-one.place =
+    label_place vs i v d (kept_apart is_state c.args.own vs c.loop-one.invariant.own) within refl
+    ∙ ap Some (sym c.loop-one.invariant.place) in
+    let all : Draft = with_members (objects (items_told side text (kept_inside_at is_state c.args.own)
+    (kept_inside_at is_state c.args.others))) c.args.page.now in
+    let beside = option_and_then kept_held c.value_beside-beside.result in
+    record {
+      place = ap (λ n. n + 1) c.loop-one.invariant.place;
+      own = c.loop-one.invariant.own;
+      index = c.loop-one.invariant.index;
+      told = one_further Keys.Number kept_held side text vs ws i v d c.value_beside-beside.result c.loop-one.page
+          c.tell_labelled.new.page all within refl
+          (c.value_beside-beside.ensures (labels_now vs) place
+          (c.loop-one.invariant.index c.as_slice-in-loop-one.result.now c.as_slice-in-loop-one.ensures.value)
+          ∙ ap (value_of v.label) c.as_slice-in-loop-one.ensures.value)
+          (c.in_ok-tell_labelled.ensures
+          ∙ ap (λ p. with_members (objects (label_items side p (label_step Keys.Number v.label) (kept_held v.value)
+          beside)) c.loop-one.page) path)
+          c.loop-one.invariant.told;
+    }
+
+pub returns-then-is_empty : goal.returns-then-is_empty
+returns-then-is_empty c =
+    let vs : List (Labelled (Option Kept)) = c.in_ok-values.values.items in
+    let none : vs ≡ [] = nil_from_length vs (search rules) in
+    let text = joined c.args.path.now (codes "other") in
+    sym (ap (λ f. with_members (objects (items_told c.args.pass.side text f
+    (kept_inside_at c.args.pass.is_state c.args.others))) c.args.page.now)
+    (kept_are c.args.pass.is_state c.args.own vs c.in_ok-values.ensures
+    ∙ ap (λ (ws : List (Labelled (Option Kept))). forest (members Keys.Number kept_held ws)) none))

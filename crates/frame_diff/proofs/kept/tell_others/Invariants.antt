@@ -1,21 +1,28 @@
-use Rattle.std.proofs.Common.{◌≡◌, ◌≤◌, ◌+◌, codes}
-use Rattle.nla_wire.specs.Items.{frame_count, items}
-use Rattle.link_info.specs.Tables.{frames_in}
+use Rattle.std.proofs.Common.{◌≡◌, List, codes, drop}
+use Rattle.std.specs.Prelude.{Option}
 use Rattle.shown.specs.Drafts.{with_members}
 use Rattle.frame_shown.specs.Items.{objects}
-use Rattle.frame_diff.specs.Forests.{forest}
 use Rattle.frame_diff.specs.Items.{items_told, joined}
-use Rattle.frame_diff.specs.Members.{placed, places}
-use Rattle.frame_diff.specs.Values.{KeepsOnAt, kept_among, kept_at}
+use Rattle.frame_diff.specs.Keyed.{AreKept, labels_now}
+use Rattle.frame_diff.specs.Labels.{IsIndex, labels_of}
+use Rattle.frame_diff.specs.Values.{kept_held, kept_inside_at}
+use Rattle.frame_diff.specs.declared.kept.Kept.{Kept}
+use Rattle.frame_diff.specs.declared.keyed.Labelled.{Labelled}
+use Rattle.frame_diff.specs.declared.keys.Key.TheVariants as Keys
+use Rattle.frame_diff.proofs.KeyedTold.{all_told}
 use Rattle.frame_diff.proofs.kept.tell_others.Given as goal
 
-abbrev pub invariant-loop-item : goal.invariant-loop-item
-invariant-loop-item l = record {
-  goes : KeepsOnAt l.pass.is_state l.others l.place l.there;
-  few : l.place + frame_count l.item-iterator ≤ frame_count (items l.own.bytes.now);
-  told : with_members (objects (items_told l.pass.side (joined l.path (codes "other"))
-      (forest (placed l.place (kept_among l.pass.is_state l.own.around.now l.own.list (frames_in l.item-iterator))))
-      (places (kept_at l.pass.is_state l.others)))) l.page
-      ≡ with_members (objects (items_told l.pass.side (joined l.path (codes "other"))
-      (places (kept_at l.pass.is_state l.own)) (places (kept_at l.pass.is_state l.others)))) l.fn.page;
-}
+abbrev pub invariant-loop-one : goal.invariant-loop-one
+invariant-loop-one l =
+    let is_state = l.pass.is_state in
+    let text = joined l.path (codes "other") in
+    record {
+      place : l.place ≡ l.one-index;
+      own : AreKept is_state l.own labels_of l.one-items;
+      index : (others : List (Labelled (Option Kept))) → others ≡ l.theirs.items
+          → IsIndex l.places (labels_now l.one-items) (labels_now others);
+      told : with_members (objects (all_told Keys.Number kept_held l.pass.side text l.theirs.items
+          (drop l.one-index l.one-items))) l.page
+          ≡ with_members (objects (items_told l.pass.side text (kept_inside_at is_state l.own)
+          (kept_inside_at is_state l.others))) l.fn.page;
+    }

@@ -3,13 +3,13 @@ use Rattle.frame_diff.proofs.Labelled.{HasPlaces, places_all, places_further, pl
 use Rattle.frame_diff.proofs.keyed.places_of.Goals as goal
 
 pub loop-place-init : goal.loop-place-init
-loop-place-init c = record {
+loop-place-init g c = record {
   here = omega arith;
   found = places_none c.new-places.result c.args.values.now _ c.new-places.ensures.empty (omega arith);
 }
 
 pub loop-place-preserved : goal.loop-place-preserved
-loop-place-preserved c =
+loop-place-preserved g c =
     let i = c.loop-place.place - 1 in
     let before : c.loop-place.place ≡ i + 1 = omega arith in
     let within : i < length c.args.values.now = omega arith in
@@ -22,5 +22,5 @@ loop-place-preserved c =
     }
 
 pub returns : goal.returns
-returns c own m =
+returns g c own m =
     places_all c.loop-place.places c.args.values.now c.loop-place.place (omega arith) c.loop-place.invariant.found m

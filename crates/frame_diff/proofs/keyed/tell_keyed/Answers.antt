@@ -8,7 +8,8 @@ use Rattle.frame_diff.specs.Keyed.{AreIn, AreLabelled, IsIn, labels_now, value_o
 use Rattle.frame_diff.specs.Labels.{IsIndex, labels_of, place_of}
 use Rattle.frame_diff.specs.Walked.{HasNames}
 use Rattle.frame_diff.specs.declared.keyed.Labelled.{Labelled}
-use Rattle.frame_diff.proofs.KeyedTold.{beside_entries, beside_stands, distinct_now, keyed_next, keyed_told}
+use Rattle.frame_diff.specs.declared.walk.Attribute.{Attribute}
+use Rattle.frame_diff.proofs.KeyedTold.{beside_entries, beside_stands, distinct_now, found_in, keyed_next, keyed_told}
 use Rattle.frame_diff.proofs.KeyedTold.{label_place, one_in}
 use Rattle.frame_diff.proofs.keyed.tell_keyed.Goals as goal
 
@@ -17,8 +18,8 @@ loop-one-init g c =
     let nest = g.W.Depth.nest in
     let inner = g.W.Walk.inner in
     let is_state = c.args.pass.is_state in
-    let vs : List Labelled = c.as_slice-one-items.result.now in
-    let ws : List Labelled = c.in_ok-theirs.theirs.items in
+    let vs : List (Labelled Attribute) = c.as_slice-one-items.result.now in
+    let ws : List (Labelled Attribute) = c.in_ok-theirs.theirs.items in
     let items : vs ≡ c.in_ok-values.values.items = c.as_slice-one-items.ensures.value in
     let own : AreLabelled is_state c.args.own labels_of vs =
     subst (AreLabelled is_state c.args.own labels_of) (sym items) c.in_ok-values.ensures in
@@ -41,12 +42,11 @@ loop-one-preserved g c =
     let nest = g.W.Depth.nest in
     let inner = g.W.Walk.inner in
     let is_state = c.args.pass.is_state in
-    let vs : List Labelled = c.as_slice-one-items.result.now in
-    let ws : List Labelled = c.in_ok-theirs.theirs.items in
+    let vs : List (Labelled Attribute) = c.as_slice-one-items.result.now in
+    let ws : List (Labelled Attribute) = c.in_ok-theirs.theirs.items in
     let i = c.loop-one.one-index in
     let within : i < length vs = search rules in
-    let apart = distinct_now nest inner is_state c.args.key c.args.pass.side c.args.path.now c.args.own vs
-    c.loop-one.invariant.own in
+    let apart = distinct_now nest inner is_state c.args.own vs c.loop-one.invariant.own in
     let place : place_of c.one-item.result.label (labels_now vs) ≡ Some c.loop-one.place =
     label_place vs i c.one-item.result _ apart within c.one-item.is ∙ ap Some (sym c.loop-one.invariant.place) in
     let all : Draft = with_members (objects (items_told c.args.pass.side c.args.path.now
@@ -59,7 +59,7 @@ loop-one-preserved g c =
       index = c.loop-one.invariant.index;
       told = keyed_next nest inner is_state c.args.key c.args.pass.side c.args.path.now vs ws i c.one-item.result _
           c.value_beside-beside.result c.loop-one.page c.tell_labelled.new.page all within c.one-item.is
-          (c.value_beside-beside.ensures.value (labels_now vs) place
+          (c.value_beside-beside.ensures (labels_now vs) place
           (c.loop-one.invariant.index c.as_slice-in-loop-one.result.now c.as_slice-in-loop-one.ensures.value)
           ∙ ap (value_of c.one-item.result.label) c.as_slice-in-loop-one.ensures.value)
           c.in_ok-tell_labelled.ensures c.loop-one.invariant.told;
@@ -67,7 +67,7 @@ loop-one-preserved g c =
 
 pub tell_labelled-requires-clause-fits : goal.tell_labelled-requires-clause-fits
 tell_labelled-requires-clause-fits g c =
-    let vs : List Labelled = c.as_slice-one-items.result.now in
+    let vs : List (Labelled Attribute) = c.as_slice-one-items.result.now in
     let within : c.loop-one.one-index < length vs = search rules in
     let of : IsIn c.args.own c.one-item.result.value = one_in c.args.own vs c.loop-one.one-index c.one-item.result _
     c.loop-one.invariant.own.0 within c.one-item.is in
@@ -75,7 +75,7 @@ tell_labelled-requires-clause-fits g c =
 
 pub tell_labelled-requires-clause-names : goal.tell_labelled-requires-clause-names
 tell_labelled-requires-clause-names g c =
-    let vs : List Labelled = c.as_slice-one-items.result.now in
+    let vs : List (Labelled Attribute) = c.as_slice-one-items.result.now in
     let within : c.loop-one.one-index < length vs = search rules in
     let of : IsIn c.args.own c.one-item.result.value = one_in c.args.own vs c.loop-one.one-index c.one-item.result _
     c.loop-one.invariant.own.0 within c.one-item.is in
@@ -83,22 +83,36 @@ tell_labelled-requires-clause-names g c =
 
 pub tell_labelled-requires-clause-entries : goal.tell_labelled-requires-clause-entries
 tell_labelled-requires-clause-entries g c =
-    let vs : List Labelled = c.as_slice-one-items.result.now in
+    let vs : List (Labelled Attribute) = c.as_slice-one-items.result.now in
     let within : c.loop-one.one-index < length vs = search rules in
     let of : IsIn c.args.own c.one-item.result.value = one_in c.args.own vs c.loop-one.one-index c.one-item.result _
     c.loop-one.invariant.own.0 within c.one-item.is in
-    let found = c.value_beside-beside.ensures.list c.args.others
+    let apart = distinct_now g.W.Depth.nest g.W.Walk.inner c.args.pass.is_state c.args.own vs
+    c.loop-one.invariant.own in
+    let place : place_of c.one-item.result.label (labels_now vs) ≡ Some c.loop-one.place =
+    label_place vs c.loop-one.one-index c.one-item.result _ apart within c.one-item.is
+    ∙ ap Some (sym c.loop-one.invariant.place) in
+    let found = found_in c.args.others c.as_slice-in-loop-one.result.now c.one-item.result.label
+    c.value_beside-beside.result (c.value_beside-beside.ensures (labels_now vs) place
+    (c.loop-one.invariant.index c.as_slice-in-loop-one.result.now c.as_slice-in-loop-one.ensures.value))
     (subst (AreIn c.args.others) (sym c.as_slice-in-loop-one.ensures.value) c.loop-one.invariant.others.0) in
     beside_entries c.args.own c.args.others c.one-item.result.value c.value_beside-beside.result of found
     c.requires.entries
 
 pub tell_labelled-requires-clause-alike : goal.tell_labelled-requires-clause-alike
 tell_labelled-requires-clause-alike g c h =
-    let vs : List Labelled = c.as_slice-one-items.result.now in
+    let vs : List (Labelled Attribute) = c.as_slice-one-items.result.now in
     let within : c.loop-one.one-index < length vs = search rules in
     let of : IsIn c.args.own c.one-item.result.value = one_in c.args.own vs c.loop-one.one-index c.one-item.result _
     c.loop-one.invariant.own.0 within c.one-item.is in
-    let found = c.value_beside-beside.ensures.list c.args.others
+    let apart = distinct_now g.W.Depth.nest g.W.Walk.inner c.args.pass.is_state c.args.own vs
+    c.loop-one.invariant.own in
+    let place : place_of c.one-item.result.label (labels_now vs) ≡ Some c.loop-one.place =
+    label_place vs c.loop-one.one-index c.one-item.result _ apart within c.one-item.is
+    ∙ ap Some (sym c.loop-one.invariant.place) in
+    let found = found_in c.args.others c.as_slice-in-loop-one.result.now c.one-item.result.label
+    c.value_beside-beside.result (c.value_beside-beside.ensures (labels_now vs) place
+    (c.loop-one.invariant.index c.as_slice-in-loop-one.result.now c.as_slice-in-loop-one.ensures.value))
     (subst (AreIn c.args.others) (sym c.as_slice-in-loop-one.ensures.value) c.loop-one.invariant.others.0) in
     beside_stands c.args.own c.args.others c.one-item.result.value c.value_beside-beside.result of found
     (c.requires.alike h)

@@ -6,7 +6,8 @@ use Rattle.frame_diff.specs.Items.{items_told}
 use Rattle.frame_diff.specs.Keyed.{AreLabelled, labels_now}
 use Rattle.frame_diff.specs.Labels.{IsIndex, labels_of}
 use Rattle.frame_diff.specs.declared.keyed.Labelled.{Labelled}
-use Rattle.frame_diff.proofs.KeyedTold.{all_told}
+use Rattle.frame_diff.specs.declared.walk.Attribute.{Attribute}
+use Rattle.frame_diff.proofs.KeyedTold.{all_told, one_held}
 use Rattle.frame_diff.proofs.keyed.tell_keyed.Given as goal
 
 abbrev pub invariant-loop-one : goal.invariant-loop-one
@@ -18,9 +19,9 @@ invariant-loop-one g l =
       place : l.place ≡ l.one-index;
       own : AreLabelled is_state l.own labels_of l.one-items;
       others : AreLabelled is_state l.others labels_of l.theirs.items;
-      index : (others : List Labelled) → others ≡ l.theirs.items
+      index : (others : List (Labelled Attribute)) → others ≡ l.theirs.items
           → IsIndex l.places (labels_now l.one-items) (labels_now others);
-      told : with_members (objects (all_told nest inner is_state l.key l.pass.side l.path l.theirs.items
+      told : with_members (objects (all_told l.key (one_held nest inner is_state) l.pass.side l.path l.theirs.items
           (drop l.one-index l.one-items))) l.page
           ≡ with_members (objects (items_told l.pass.side l.path (group_inside nest inner is_state l.own)
           (group_inside nest inner is_state l.others))) l.fn.page;

@@ -6,8 +6,8 @@ use Rattle.frame_diff.specs.Members.{is_some}
 use Rattle.frame_diff.proofs.Classes.{above_without}
 use Rattle.frame_diff.proofs.lists.is_without.Goals as goal
 
-pub returns-then-is_object : goal.returns-then-is_object
-returns-then-is_object c nest inner is_state =
+pub returns-then-is_object-clause-value : goal.returns-then-is_object-clause-value
+returns-then-is_object-clause-value c nest inner is_state =
     let own = c.args.own in
     let some = is_some (frames_in (items own.bytes.now)) in
     above_without nest inner is_state own.around.now own.list own.bytes.now

@@ -7,6 +7,8 @@ pub returns : goal.returns
 returns c = record {
   all = λ by old new. messages_told.all (is_state by) (plain old.order) (plain new.order) (parts_by by old.text)
       (parts_by by new.text);
+  by_leaves = λ by old new. messages_told.by_leaves (is_state by) (plain old.order) (plain new.order)
+      (parts_by by old.text) (parts_by by new.text);
   once = λ by old new. messages_told.once (is_state by) (plain old.order) (plain new.order) (parts_by by old.text)
       (parts_by by new.text);
   silent = λ by shot. messages_told.silent (is_state by) (plain shot.order) (parts_by by shot.text);
