@@ -46,8 +46,9 @@ def altered(rng, message):
         elif way == "name":
             found = [(k, b"renamed\0") if k == 3 else (k, p) for k, p in found]
         elif way == "add":
-            found.append(rng.choice([(4, b"\xdc\5\0\0"), (20, b"text\0"), (35, bytes(4)), (35, b"\1\0\0\0"),
-                                     (23, bytes(200)), (7, bytes(96)), (300, b"\1\2\3")]))
+            one = rng.choice([(4, b"\xdc\5\0\0"), (20, b"text\0"), (35, bytes(4)), (35, b"\1\0\0\0"), (23, bytes(200)),
+                              (7, bytes(96)), (300, b"\1\2\3"), (300, b""), (0x8000 | 301, b"")])
+            found.insert(rng.randrange(at, len(found) + 1), one)
     return bytes(header) + b"".join(attribute(*it) for it in found)
 
 

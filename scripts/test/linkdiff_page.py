@@ -23,7 +23,8 @@ from shared import attribute, read, said
 PAGE = "docs/LINKDIFF.md"
 LINES, FRAMES = "message_diff.specs.", "frame_diff.specs."
 STARTS = (LINES + "Watched", "Watches"), (LINES + "Files", "Compares"), (LINES + "Changed", "told_changes"), \
-    (FRAMES + "Differences", "changes"), (FRAMES + "Forests", "leaves"), (FRAMES + "Counters", "is_passed")
+    (FRAMES + "Differences", "changes"), (FRAMES + "Forests", "leaves"), (FRAMES + "Wholes", "opened"), \
+    (FRAMES + "Counters", "is_passed")
 # what the page says in words
 SAID = {(LINES + file, name) for file, name in (
     ("Changed", "IsChanged"), ("Alone", "IsAlone"), ("Alone", "member_line"), ("Faults", "IsFault"),
@@ -43,11 +44,21 @@ ATTRIBUTES = {"name": lambda it: attribute(3, it.encode() + b"\0"),
               "carrier": lambda it: attribute(35, struct.pack("<I", int(it))),
               "ipv6": lambda it: attribute(12, attribute(3, struct.pack(f"<{it}Q", *range(int(it))))),
               "alias": lambda it: attribute(20, bytes.fromhex(it)),
-              "trees": lambda it: attribute(26, attribute(6, b"".join(map(tree, it.split(",")))))}
+              "trees": lambda it: attribute(26, attribute(6, b"".join(map(tree, it.split(","))))),
+              "unknown": lambda it: b"".join(map(unknown, it.split(",")))}
+
+
+def unknown(it):
+    number, _, payload = it.partition("/")
+    return attribute(int(number), bytes.fromhex(payload))
 
 
 def tree(it):
-    return attribute(1, b"odd" if it == "odd" else attribute(1, struct.pack("<H", int(it))))
+    number, _, state = it.partition("/")
+    if number == "odd":
+        return attribute(1, b"odd")
+    inside = attribute(1, struct.pack("<H", int(number)))
+    return attribute(1, inside + attribute(2, bytes([int(state)])) if state else inside)
 
 
 def fails(what):

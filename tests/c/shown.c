@@ -47,8 +47,7 @@ static const char one_said[] = "{\"ifi-family\":7,\"ifi-type\":0,\"ifi-index\":2
 static const char vlans_said[] = "{\"ifi-family\":7,\"ifi-type\":0,\"ifi-index\":2,\"ifi-flags\":[],\"ifi-change\":0,"
                                  "\"af-spec\":{\"vlan-info\":[{\"flags\":[\"pvid\",\"untagged\"],\"vid\":1},"
                                  "{\"flags\":[],\"vid\":9}]}}";
-static const char vlan_came[] = "[{\"path\":\"af-spec.vlan-info[vid=9].flags\",\"new\":[]},"
-                                "{\"path\":\"af-spec.vlan-info[vid=9].vid\",\"new\":9}]";
+static const char vlan_came[] = "[{\"path\":\"af-spec.vlan-info[vid=9]\",\"new\":{\"flags\":[],\"vid\":9}}]";
 static const char damage_turned[] = "[{\"path\":\"af-spec.vlan-info[vid#0]\",\"old\":\"6162\",\"new\":\"616263\"}]";
 static const char damage_went[] = "[{\"path\":\"af-spec.vlan-info[vid#0]\",\"old\":\"6162\"}]";
 

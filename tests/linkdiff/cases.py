@@ -79,13 +79,14 @@ def functions(count):
     return attribute(22, b"".join(attribute(1, attribute(4, struct.pack("<II", at, 1))) for at in range(count)))
 
 
-def told_whole(path, label, *names):
-    """The paths of a value of a list that came or went."""
-    return "".join(f" {path}[{label}].{name}" for name in names)
-
-
 def vlan(number):
-    return told_whole("af-spec.vlan-info", f"vid={number}", "flags", "vid")
+    """The path of a VLAN that came or went."""
+    return f" af-spec.vlan-info[vid={number}]"
+
+
+def kept(*numbers, payload=b"\0"):
+    """Attributes of these numbers, which are kept as they are."""
+    return b"".join(attribute(it, payload) for it in numbers)
 
 
 def tunnel(*numbers):
@@ -115,6 +116,8 @@ NAME = attribute(3, b"e5\0")
 # counters of IPv6 and of ICMPv6: of an older kernel, and none
 SHORT = protinfo(counted(36, *range(1, 36)), attribute(6, struct.pack("<6Q", 6, *range(1, 6))))
 EMPTY = protinfo(counted(), attribute(6, b""))
+# attributes of IFLA_LINKINFO that are kept; a state passes over those of number 3
+XSTATS = b"", kept(3), kept(3, payload=b"\1"), kept(99, 3, 3)
 
 STREAMS = [
     ("refused attributes whose numbers turn", ["--lenient"], [link(*refused(4)), link(*refused(13))],
@@ -133,8 +136,7 @@ STREAMS = [
      [link(attribute(4, b"a"), LATIN_1, attribute(4, b"b")), link(attribute(4, b"b"), LATIN_1)],
      ["new 5", "changed 5 refused.repeated.0.ifla_mtu"]),
     ("many virtual functions that come", [], [link(functions(70)), link(functions(90))],
-     ["new 5", "changed 5" + "".join(told_whole("vfinfo-list.info", f"vf={at}", "spoofchk.vf", "spoofchk.setting")
-                                     for at in range(70, 90))]),
+     ["new 5", "changed 5" + "".join(f" vfinfo-list.info[vf={at}]" for at in range(70, 90))]),
     ("of kinds that come again in one list the last counts", [],
      [link(kind("veth", "bridge")), link(kind("veth", "vxlan")), link(kind("bridge", "vxlan"))],
      ["new 5", "gone 5", "new 5", "changed 5 linkinfo.repeated.0.kind"]),
@@ -195,7 +197,7 @@ STREAMS = [
      ["new 5", "changed 5" + vlan("1#1"), "changed 5" + vlan("1#2"), "changed 5" + vlan("1#1") + vlan("1#2")]),
     ("lists in two attributes of one name", [],
      [link(vlans(1), vlans(1, 2), family=7), link(vlans(1, 2), vlans(1, 2), family=7)],
-     ["new 5", "changed 5" + told_whole("repeated.0.af-spec.vlan-info", "vid=2", "flags", "vid")]),
+     ["new 5", "changed 5 repeated.0.af-spec.vlan-info[vid=2]"]),
     ("a damaged element beside whole ones changes, goes, comes, and is a whole one", [],
      [link(vlans(*values), family=7) for values in ((1, b"ab"), (1, b"abc"), (1,), (1, b"ab"), (1, 2), (b"ab", 2))],
      ["new 5", *["changed 5 af-spec.vlan-info[vid#0]"] * 3, "changed 5 af-spec.vlan-info[vid#0]" + vlan(2),
@@ -222,32 +224,90 @@ STREAMS = [
       "changed 5 af-spec.vlan-tunnel-info[vid#0] af-spec.vlan-tunnel-info[vid#0].vid"]),
     ("spanning trees", [],
      [link(attribute(26, attribute(6, trees(*values))), family=7) for values in ((0, 5), (0, 3, 5), (3, 0, 5))],
-     ["new 5", "changed 5 af-spec.mst.entry[msti=3].msti", "changed 5 state"]),
+     ["new 5", "changed 5 af-spec.mst.entry[msti=3]", "changed 5 state"]),
     ("mappings of priorities", [],
      [link(data(b"vlan", attribute(3, mappings((1, 4))) + attribute(4, mappings((0, 2), (1, 4))))),
       link(data(b"vlan", attribute(3, mappings((1, 5))) + attribute(4, mappings((1, 4)))))],
-     ["new 5", "changed 5 linkinfo.data.egress-qos.mapping[from=1].to"
-      + told_whole("linkinfo.data.ingress-qos.mapping", "from=0", "from", "to")]),
+     ["new 5", "changed 5 linkinfo.data.egress-qos.mapping[from=1].to linkinfo.data.ingress-qos.mapping[from=0]"]),
     ("a function's number is that of its first record that does not come again", [],
      [link(attribute(22, function(*records))) for records in
       (((4, 1, 0), (4, 2, 1), (5, 3, 0)), ((4, 2, 0), (9, 3, 0)), ((4, 2, 1), (9, 3, 0)))],
-     ["new 5", "changed 5" + told_whole("vfinfo-list.info", "vf=2", "spoofchk.setting", "link-state.vf",
-                                        "link-state.link-state", "repeated.0.spoofchk.vf",
-                                        "repeated.0.spoofchk.setting", "trust.vf", "trust.setting"),
+     ["new 5", "changed 5" + "".join(f" vfinfo-list.info[vf=2].{it}" for it in (
+         "spoofchk.setting", "link-state.vf", "link-state.link-state", "repeated.0.spoofchk.vf",
+         "repeated.0.spoofchk.setting", "trust.vf", "trust.setting")),
       "changed 5 vfinfo-list.info[vf=2].spoofchk.setting"]),
     ("a function's VLANs have places", [],
      [link(attribute(22, attribute(1, attribute(12, attribute(1, struct.pack("<IIIHxx", 1, it, 0, 129)))))) for it in
       (6, 7)], ["new 5", "changed 5 vfinfo-list.info[vf#0].vlan-list.info.0.vlan"]),
     ("ports of functions", [],
      [link(attribute(24, ports(*values))) for values in ((2, 4), (4,), (4, None))],
-     ["new 5", "changed 5 vf-ports.port[vf=2].vf vf-ports.port[vf=2].request",
-      "changed 5 vf-ports.port[vf#0].request"]),
+     ["new 5", "changed 5 vf-ports.port[vf=2]", "changed 5 vf-ports.port[vf#0]"]),
     ("addresses are told as one list", [],
      [link(data(b"macvlan", attribute(5, attribute(4, bytes(6))))),
       link(data(b"macvlan", attribute(5, attribute(4, bytes(6)) * 2)))],
      ["new 5", "changed 5 linkinfo.data.macaddr-data.macaddr"]),
+    ("an attribute that is kept stands in front of another", [],
+     [link(kept(70)), link(kept(70), kept(71)), link(kept(69, 70), kept(71, payload=b"\1")), link(kept(71, 69))],
+     ["new 5", "changed 5 other[number=71]", "changed 5 other[number=71].payload other[number=69]",
+      "changed 5 other[number=70] other[number=71].payload"]),
+    ("kept attributes in another order", [], [link(kept(70, 71)), link(kept(71, 70))], ["new 5", "changed 5 state"]),
+    ("kept attributes of one number are counted", [],
+     [link(kept(*it)) for it in ((70,), (70, 71, 70), (71, 70, 70, 70), (71,))],
+     ["new 5", "changed 5 other[number=71] other[number=70#1]", "changed 5 other[number=70#2]",
+      "changed 5 other[number=70] other[number=70#1] other[number=70#2]"]),
+    ("a kept attribute gets a flag", [], [link(kept(70)), link(kept(0x8000 | 70)), link(kept(0x8000 | 70, 70))],
+     ["new 5", "changed 5 other[number=70].flags", "changed 5 other[number=70#1]"]),
+    ("one that has a name is not counted among those that are kept", [],
+     [link(kept(68, payload=b"ab"), *it) for it in ((), (kept(68),), (kept(68), kept(68, payload=b"cd"), kept(68)))],
+     ["new 5", "changed 5 other[number=68]", "changed 5 headroom repeated.0.headroom other[number=68#1]"]),
+    ("kept attributes of data, of alternative names and of a tree", [],
+     [link(data(b"vlan", kept(*it)), attribute(52, attribute(53, b"a\0") + kept(*it))) for it in ((99,), (99, 98, 99))]
+     + [link(attribute(26, attribute(6, attribute(1, attribute(1, b"\3\0") + kept(*it)))), family=7)
+        for it in ((99,), (98, 99, 99))],
+     ["new 5", "changed 5 " + " ".join(f"{it}.other[number={label}]" for it in ("linkinfo.data", "prop-list")
+                                       for label in ("98", "99#1")),
+      "new 5", "changed 5 af-spec.mst.entry[msti=3].other[number=98] af-spec.mst.entry[msti=3].other[number=99#1]"]),
+    ("what a state passes over is not told of kept attributes", [],
+     [link(attribute(18, attribute(1, b"vlan\0") + it)) for it in XSTATS],
+     ["new 5", "changed 5 state", "changed 5 linkinfo.other[number=99]"]),
+    ("and is told with --counters", ["--counters"],
+     [link(attribute(18, attribute(1, b"vlan\0") + it)) for it in XSTATS],
+     ["new 5", "changed 5 linkinfo.other[number=3]", "changed 5 linkinfo.other[number=3].payload",
+      "changed 5 linkinfo.other[number=3].payload linkinfo.other[number=99] linkinfo.other[number=3#1]"]),
     ("IFLA_EVENT is not compared", [], [link(NAME), link(NAME, EVENT), link(NAME, EVENT, mtu(9))],
      ["new 5", "changed 5 mtu"]),
+]
+
+
+# a function as a state tells it, and with what moves by itself
+COUNTED = (attribute(4, struct.pack("<II", 7, 1)) + attribute(8, attribute(0, struct.pack("<Q", 9))) +
+           attribute(13, bytes(32)))
+FUNCTION = {"spoofchk": {"vf": 7, "setting": 1}}
+MOVING = {"stats": {"rx-packets": 9}, "broadcast": "00" * 32}
+# what comes with two lists, which goes when they turn: the path, and the whole value of each row
+WHOLES = [
+    ("a VLAN", [], 7, vlans(1), vlans(1, 2), [("af-spec.vlan-info[vid=2]", {"flags": [], "vid": 2})]),
+    ("a list that was not there", [], 7, b"", attribute(26, attribute(6, trees(3, 9))),
+     [(f"af-spec.mst.entry[msti={it}]", {"msti": it}) for it in (3, 9)]),
+    ("a list in which all are damaged is one value", [], 7, b"", vlans(b"a", b"b"),
+     [("af-spec.vlan-info", ["61", "62"])]),
+    ("a damaged value beside another one", [], 7, vlans(1), vlans(1, b"a"), [("af-spec.vlan-info[vid#0]", "61")]),
+    ("a mapping", [], 0, data(b"vlan", attribute(3, mappings((1, 4)))),
+     data(b"vlan", attribute(3, mappings((0, 5), (1, 4)))),
+     [("linkinfo.data.egress-qos.mapping[from=0]", {"from": 0, "to": 5})]),
+    ("a function of a state", [], 0, b"", attribute(22, attribute(1, COUNTED)), [("vfinfo-list.info[vf=7]", FUNCTION)]),
+    ("a function with its counters", ["--counters"], 0, b"", attribute(22, attribute(1, COUNTED)),
+     [("vfinfo-list.info[vf=7]", {**FUNCTION, **MOVING})]),
+    ("a function that only moves", [], 0, b"", attribute(22, attribute(1, attribute(13, bytes(32)))),
+     [("vfinfo-list.info[vf#0]", {})]),
+    ("a port", [], 0, attribute(24, ports(2)), attribute(24, ports(4, 2)),
+     [("vf-ports.port[vf=4]", {"vf": 4, "request": "01"})]),
+    ("a kept attribute", [], 0, b"", kept(70), [("other[number=70]", {"number": 70, "flags": [], "payload": "00"})]),
+    ("a kept attribute that has a name", [], 0, kept(70), kept(0x8000 | 68, 70),
+     [("other[number=68]", {"number": 68, "name": "headroom", "flags": ["nested"], "payload": "00"})]),
+    ("a kept attribute inside a tree that comes", [], 7, b"",
+     attribute(26, attribute(6, attribute(1, attribute(1, b"\3\0") + kept(99)))),
+     [("af-spec.mst.entry[msti=3]", {"msti": 3, "other": [{"number": 99, "flags": [], "payload": "00"}]})]),
 ]
 
 
@@ -266,6 +326,15 @@ def run(program, words, lines=()):
 def holds(title, found, wanted):
     if found != wanted:
         sys.exit(f"linkdiff cases: {title}: told is\n  " + "\n  ".join(found) + "\nand not\n  " + "\n  ".join(wanted))
+
+
+def wholes_hold(program):
+    """A value whose label the other message has not is told once, with all of it."""
+    for title, words, family, one, other, rows in WHOLES:
+        lines = [link(it, family=family) for it in (one, other, one)]
+        found = [json.loads(it).get("changes") for it in run(program, words, lines)]
+        wanted = [None, *([{"path": path, side: value} for path, value in rows] for side in ("new", "old"))]
+        holds(f"{title}, as a whole", [json.dumps(it) for it in found], [json.dumps(it) for it in wanted])
 
 
 def files_hold(program):
@@ -356,11 +425,13 @@ def hosts_go(program):
 def main(program):
     for title, words, lines, wanted in STREAMS:
         holds(title, [told(line) for line in run(program, words, lines)], wanted)
+    wholes_hold(program)
     files_hold(program)
     orders_hold(program)
     hosts_go(program)
     statuses_hold(program)
-    print(f"linkdiff cases: {len(STREAMS) + 4} of {len(STREAMS) + 4}")
+    count = len(STREAMS) + len(WHOLES) + 4
+    print(f"linkdiff cases: {count} of {count}")
 
 
 if __name__ == "__main__":

@@ -1,16 +1,18 @@
 #!/usr/bin/env python3
 """Holds what linkdiff tells of lists whose values say a number to told.py: of VLANs, tunnels and spanning trees of a
-bridge's port, of mappings of priorities, virtual functions and their ports.
+bridge's port, of mappings of priorities, virtual functions and their ports, of attributes that are kept as they are.
 
     keyed.py [--pairs N] [--seed N] FOLDER
 
 FOLDER has linkdiff and linkshow. So many pairs of messages are made and told without options, as many with --counters,
 and a fourth as many leniently. Half of them are of a bridge's port. Each message has the lists of the one before it,
 with values that are added, dropped, changed or moved. In half of the pairs numbers also come twice or not at all, and
-values are damaged.
+values are damaged. Attributes that are kept stand in the message, in lists that have rows, in the list of alternative
+names, and in values of the other lists.
 
 In the other half each value of a list has a number of its own. What is told of these pairs is held to the bytes too,
-without linkshow and told.py: the numbers whose values differ are told, and no others. The last line is 'keyed: ok'."""
+without linkshow and told.py: the numbers whose values differ are told, and no others. A number that one message alone
+has is told once, with its value. The last line is 'keyed: ok'."""
 import argparse
 import json
 import random
@@ -25,9 +27,14 @@ EACH = 20                                       # pairs that are made of a messa
 # each list with the path of its values, up to the number
 PATHS = {"vlans": "af-spec.vlan-info[vid", "tunnels": "af-spec.vlan-tunnel-info[vid", "trees": "af-spec.mst.entry[msti",
          "egress": "linkinfo.data.egress-qos.mapping[from", "ingress": "linkinfo.data.ingress-qos.mapping[from",
-         "functions": "vfinfo-list.info[vf", "ports": "vf-ports.port[vf"}
-BRIDGE, OTHERS = ("vlans", "tunnels", "trees"), ("egress", "ingress", "functions", "ports")
-LABEL = re.compile(r"([^\[]+\[[a-z]+)=([0-9]+)\]\..+")
+         "functions": "vfinfo-list.info[vf", "ports": "vf-ports.port[vf", "kept": "other[number",
+         "kept in names": "prop-list.other[number", "kept in spec": "af-spec.other[number",
+         "kept in trees": "af-spec.mst.other[number", "kept in info": "linkinfo.other[number",
+         "kept in data": "linkinfo.data.other[number"}
+EVERY = "kept", "kept in names"
+BRIDGE = ("vlans", "tunnels", "trees", "kept in spec", "kept in trees", *EVERY)
+OTHERS = ("egress", "ingress", "functions", "ports", "kept in info", "kept in data", *EVERY)
+LABEL = re.compile(r"([^\[]+\[[a-z]+)=([0-9]+)\](\..+)?")
 
 
 class Value:
@@ -37,7 +44,15 @@ class Value:
 
     def __init__(self, number, *pieces):
         self.number, self.payload = number, b"".join(pieces)
-        self.sorted = sorted(pieces, key=lambda it: it[2:4])
+        self.sorted = sorted(pieces, key=lambda it: (it[2], it[3] & 63) if len(it) > 3 else ())
+
+
+class Kept:
+    """An attribute of a number that no table has, or one that is kept since it has another size than its row says."""
+    __slots__ = "number", "payload", "sorted", "kind"
+
+    def __init__(self, number, kind, payload):
+        self.number, self.kind, self.payload, self.sorted = number, kind, payload, [kind, payload]
 
 
 # ** values
@@ -46,10 +61,18 @@ def u16(it):
     return struct.pack("<H", it)
 
 
+def with_kept(rng, found):
+    """Attributes, and at times some among them that are kept, of which two may have one number."""
+    if rng.random() < 0.1:
+        for number in rng.choices([70, 99, 99, 0x8000 | 99], k=rng.randrange(4)):
+            found.insert(rng.randrange(len(found) + 1), attribute(number, bytes(rng.randrange(2))))
+    return found
+
+
 def members(rng, number, own, others):
     """Attributes, of which one says the number: at times twice, and then the last one counts, damaged, or not there."""
     kind, form = own
-    chance, found = rng.random(), [it for it in others if rng.random() < 0.8]
+    chance, found = rng.random(), with_kept(rng, [it for it in others if rng.random() < 0.8])
     if chance < 0.05:
         return Value(None, *found)
     if chance < 0.08:
@@ -93,12 +116,13 @@ def function(rng, number):
              record(3, "I", rng.randrange(2)), record(4, "I", rng.randrange(2)), record(5, "I", rng.randrange(3)),
              record(6, "II", 0, rng.randrange(2)), record(9, "I", rng.randrange(2)),
              attribute(12, attribute(1, struct.pack("<IIIHxx", rng.choice([number, 5]), rng.choice([0, 7]), 0, 129)))]
-    found = [it for it in found if rng.random() < 0.6]
+    found = with_kept(rng, [it for it in found if rng.random() < 0.6])
     if number % 2:                              # a state passes over it
         found.append(attribute(13, bytes([255] * 6 + [0] * 26)))
     chance = rng.random()
     if chance < 0.1:
-        found.append(attribute(8, attribute(0, struct.pack("<Q", rng.randrange(3)))))
+        counters = attribute(0, struct.pack("<Q", rng.randrange(3))) + attribute(rng.choice([1, 6]), bytes(8))
+        found += [attribute(8, counters)] * rng.choice([1, 1, 2])
     elif chance < 0.2:
         rng.shuffle(found)
         if chance < 0.15:
@@ -106,18 +130,30 @@ def function(rng, number):
     elif chance < 0.3:
         found.insert(0, record(5, "I", 1, of=rng.randrange(4)))
         found.append(record(5, "I", 2))
-    is_said = chance >= 0.3 and any(it[2] not in (12, 13) for it in found)
+    is_said = chance >= 0.3 and any(it[2] not in (12, 13, 70, 99) for it in found)
     return Value(number if is_said else None, *found)
 
 
+def kept(rng, number):
+    number = 1000 + number % 1000
+    return Kept(number, number | rng.choice([0, 0, 0, 0x4000, 0x8000]), rng.choice([b"", b"a", b"ab", b"abcd"]))
+
+
 MAKES = {"vlans": vlan, "tunnels": tunnel, "trees": tree, "egress": mapping, "ingress": mapping, "functions": function,
-         "ports": port}
+         "ports": port, **{name: kept for name in PATHS if name.startswith("kept")}}
+# what has a name, and is kept where its size is another: of these xstats move by themselves
+NAMED = {"kept": (68, [b"a", b"ab", b"abcd"]), "kept in info": (3, [b"", b"a", b"abcd"])}
 
 
 def damaged(rng, name, number):
-    """A value that says no number, where that is not refused."""
+    """A value that says no number, where that is not refused; of what is kept one that has a name."""
     if name == "functions" or name == "ports":
         return MAKES[name](rng, number)
+    if name in NAMED:
+        kind, payloads = NAMED[name]
+        return Kept(kind, kind, rng.choice(payloads))
+    if name.startswith("kept"):
+        return kept(rng, number)
     return Value(None, rng.choice([b"", b"a", b"odd", b"odd", b"12345"]))
 
 
@@ -130,7 +166,7 @@ def altered(rng, name, values, is_calm):
         at, way = rng.randrange(len(out) + 1), rng.choice(["add", "add", "drop", "turn", "move", "odd"])
         number = rng.choice([*range(6), *range(6), 200, 4094])
         it = MAKES[name](rng, number)
-        if is_calm and (it.number is None or way == "odd" or way == "add" and number in [one.number for one in out]):
+        if is_calm and (it.number is None or way == "odd" or way == "add" and it.number in [one.number for one in out]):
             continue
         if way == "add":
             out.insert(at, it)
@@ -147,27 +183,42 @@ def altered(rng, name, values, is_calm):
 
 
 def spelled(rng, lists, is_calm):
-    """The message that has these lists; one that is not calm has some of them twice, and other attributes among their
-    values."""
+    """The message that has these lists; one that is not calm has some of them twice or not at all, other attributes
+    among their values, and at times lacks what stands around them, or the kind that says what they are."""
+    def is_there():
+        return is_calm or rng.random() < 0.95
+
     def these(number, name):
         return [attribute(number, it.payload) for it in lists[name]]
 
     def around(number, inside):
-        one = attribute(number, b"".join(inside))
-        return one if is_calm or rng.random() < 0.95 else attribute(number, b"".join(inside[:-1])) + one
+        one = attribute(number, b"".join(inside)) if is_there() else b""
+        return one if is_there() else attribute(number, b"".join(inside[:-1])) + one
 
+    def among(name, inside):
+        """Attributes, with those among them that are kept, in their order, behind each other or not."""
+        found = list(inside)
+        places = sorted((rng.randrange(len(found) + 1) for _ in lists[name]), reverse=True)
+        for at, it in zip(places, reversed(lists[name])):
+            found.insert(at, attribute(it.kind, it.payload))
+        return found
+
+    names = [attribute(53, it) for it in (b"one\0", b"two\0")[0 if is_calm else rng.randrange(3):]]
+    names = around(52, among("kept in names", names))
     if "vlans" in lists:
-        inside = [*these(2, "vlans"), *these(3, "tunnels"), around(6, these(1, "trees"))]
+        inside = [*these(2, "vlans"), *these(3, "tunnels"), around(6, among("kept in trees", these(1, "trees")))]
+        inside = among("kept in spec", inside)
         if not is_calm and rng.random() < 0.3:
             for _ in range(3):
                 other = attribute(rng.choice([1, 99]), u16(rng.randrange(2)))
                 inside.insert(rng.randrange(len(inside) + 1), other)
-        return bytes([7, 0, 1, 0, 1, *bytes(11)]) + around(26, inside)
-    data = around(3, these(1, "egress")) + around(4, these(1, "ingress"))
-    found = attribute(18, attribute(1, b"vlan\0") + attribute(2, data)) + around(22, these(1, "functions"))
+        return bytes([7, 0, 1, 0, 1, *bytes(11)]) + b"".join(among("kept", [around(26, inside), names]))
+    data = among("kept in data", [around(3, these(1, "egress")), around(4, these(1, "ingress"))])
+    kind = attribute(1, b"vlan\0") if is_there() else b""
+    found = [around(18, among("kept in info", [kind, attribute(2, b"".join(data))])), around(22, these(1, "functions"))]
     if lists["ports"]:                          # a list without any is refused
-        found += around(24, these(1, "ports"))
-    return bytes([0, 0, 1, 0, 1, *bytes(11)]) + found
+        found.append(around(24, these(1, "ports")))
+    return bytes([0, 0, 1, 0, 1, *bytes(11)]) + b"".join(among("kept", [*found, names]))
 
 
 class Made:
@@ -188,9 +239,21 @@ class Made:
             at = rng.randrange(count) if rng.random() < 0.1 else at
 
 
+def are_as_said(rows, wanted, alone):
+    """Whether the numbers of these values are told, and one that stands on one side alone by its one value there."""
+    found = {}
+    for it, row in rows:
+        if it is None:
+            return False
+        found.setdefault((it[1], int(it[2])), []).append((it[3] is None, [*row][1:]))
+    return found.keys() == wanted and all(
+        told == [(True, [alone[it]])] if it in alone else not any(is_whole for is_whole, _ in told)
+        for it, told in found.items())
+
+
 def hold_numbers(made, found):
-    """Holds what is told of each calm pair to the bytes; returns how many values were told."""
-    by_time, count = {}, 0
+    """Holds what is told of each calm pair to the bytes; returns how many values were told, and how many as a whole."""
+    by_time, count, whole = {}, 0, 0
     for it in found:
         it = json.loads(it)
         by_time[int(it["time"])] = it.get("changes", [])
@@ -200,14 +263,18 @@ def hold_numbers(made, found):
         was, now = made.numbers[one], made.numbers[other]
         wanted = {(PATHS[name], number) for name in was for number in {*was[name], *now[name]}
                   if was[name].get(number) != now[name].get(number)}
-        paths = [row["path"] for row in by_time.get(time, ())]
+        alone = {(PATHS[name], number): side for name in was for side, own, others in
+                 (("old", was[name], now[name]), ("new", now[name], was[name])) for number in {*own} - {*others}}
+        rows = by_time.get(time, ())
         # a list without values stands in an object that may be told as empty
-        empty = {"state", *(it for it in paths if any(path.startswith(it) for path in PATHS.values()))}
-        labels = [LABEL.fullmatch(it) for it in paths if it not in empty]
-        if None in labels or {(it[1], int(it[2])) for it in labels} != wanted:
-            sys.exit(f"keyed: told is {paths}, and {sorted(wanted)} differ:\n{made.digits[one]}\n{made.digits[other]}")
+        empty = {"state", *(it["path"] for it in rows if any(path.startswith(it["path"]) for path in PATHS.values()))}
+        labels = [(LABEL.fullmatch(it["path"]), it) for it in rows if it["path"] not in empty]
+        if not are_as_said(labels, wanted, alone):
+            sys.exit(f"keyed: told is {rows}, and {sorted(wanted)} differ, and {sorted(alone)} are in one message:\n"
+                     f"{made.digits[one]}\n{made.digits[other]}")
         count += len(wanted)
-    return count
+        whole += len(alone)
+    return count, whole
 
 
 def hold(programs, made, options):
@@ -229,7 +296,7 @@ def main():
     parser.add_argument("--seed", type=int, default=1)
     parser.add_argument("folder", nargs="?", default="out")
     words = parser.parse_args()
-    rng, numbers, again, nameless = random.Random(words.seed), 0, 0, 0
+    rng, numbers, wholes, again, nameless, others = random.Random(words.seed), 0, 0, 0, 0, 0
     for options in [], ["--counters"], ["--lenient"], ["--counters", "--lenient"]:
         pairs = words.pairs // 4 if "--lenient" in options else words.pairs
         lines = changed = 0
@@ -241,11 +308,12 @@ def main():
                 changed += sum(b'"change":"changed"' in it for it in found)
                 again += sum(len(re.findall(rb"=[0-9]+#", it)) for it in found)
                 nameless += sum(len(re.findall(rb"[a-z]#[0-9]", it)) for it in found)
+                others += sum(len(re.findall(rb"other\[number=", it)) for it in found)
                 if is_calm:
-                    numbers += hold_numbers(made, found)
+                    numbers, wholes = (sum(it) for it in zip((numbers, wholes), hold_numbers(made, found)))
         print(f"keyed: {' '.join(['linkdiff', *options])}: {lines} lines, {changed} changed: as the model")
-    print(f"keyed: {numbers} values that differ in bytes, {again} paths of a number that came before, "
-          f"{nameless} of none")
+    print(f"keyed: {numbers} values that differ in bytes, {wholes} of them in one message alone; {again} paths of a "
+          f"number that came before, {nameless} of none, {others} of attributes that are kept")
     print("keyed: ok")
 
 

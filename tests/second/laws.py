@@ -84,6 +84,13 @@ def leaves(line, is_all):
     return shown.leaves if is_all else shown.settings
 
 
+def inside(path, value):
+    """The leaves that a change stands for: those inside a value that is told as a whole, or the one that it tells."""
+    out = []
+    told.under(path, value, out, {})
+    return dict(out)
+
+
 def counts_as_message(line):
     """Whether it says what an interface is."""
     it = line.message
@@ -135,11 +142,15 @@ class Laws:
             self.counts["changed in nothing shown"] += 1
             return
         for row in rows:
-            path, old = row["path"], link.leaves.pop(row["path"], None)
-            if old != row.get("old") and not link.is_aside(path):
-                breaks("leading there", f"{path}: old is not {old}", it)
-            if "new" in row:
-                link.leaves[path] = row["new"]
+            old, new = (inside(row["path"], row[side]) if side in row else {} for side in ("old", "new"))
+            is_whole = row["path"][-1] == "]" and len(row) == 2
+            within = [it for it in link.leaves if is_whole and it.startswith(row["path"] + ".")]
+            for path in {*old, *new, *within}:
+                was = link.leaves.pop(path, None)
+                if was != old.get(path) and not link.is_aside(path):
+                    breaks("leading there", f"{path}: old is not {was}", it)
+            link.leaves.update(new)
+            self.counts["told as a whole"] += is_whole
 
     def leads(self, line, link):
         """The leaves that are reached are those of this message."""

@@ -81,6 +81,15 @@ def functions(rng):
     return attribute(22, b"".join(found))
 
 
+def kept(rng, family):
+    """Attributes of numbers that no table has, some twice and in no order, alone and in a list that has rows."""
+    found = [attribute(rng.choice([70, 300, 301, 0x8000 | 301]), bytes(rng.choices(range(2), k=rng.randrange(2))))
+             for _ in range(rng.randrange(5))]
+    if family == 0 and rng.random() < 0.3:
+        return attribute(52, b"".join([attribute(53, text(b"alt")), *found]))
+    return b"".join(found)
+
+
 SLOTS = {
     "name": lambda rng, f, i: attribute(3, text(rng.choice([b"e%d", b"e%d", b"long%d"]) % (i & 15))),
     "mtu": lambda rng, f, i: rng.choice([attribute(4, u32(rng.choice([1500, 9000])))] * 12 + [attribute(4, b"\1\2")]),
@@ -93,6 +102,7 @@ SLOTS = {
     "settings": lambda rng, f, i: af_spec(rng, f) if rng.random() < 0.5 else b"",
     "protocol": lambda rng, f, i: protocol(rng, f) if f in (7, 10) else b"",
     "unknown": lambda rng, f, i: attribute(300, bytes([rng.randrange(2)])) if rng.random() < 0.2 else b"",
+    "kept": lambda rng, f, i: kept(rng, f) if rng.random() < 0.4 else b"",
 }
 
 

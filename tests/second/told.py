@@ -20,6 +20,10 @@ PARTS = 7, 10
 FUNCTIONS = "vfinfo-list.info"
 KEYS = {"af-spec.vlan-info": "vid", "af-spec.vlan-tunnel-info": "vid", "mst.entry": "msti",
         "egress-qos.mapping": "from", "ingress-qos.mapping": "from", FUNCTIONS: "vf", "vf-ports.port": "vf"}
+# the list of what is kept as it is, of any object, and the number that it is told by
+OTHER, NUMBER = "other", "number"
+# the attributes of a function of which a state clears something
+MOVING = "stats", "broadcast"
 
 
 def said(program, options, text):
@@ -109,11 +113,11 @@ def named(name):
 
 class Shown:
     """What is shown of a message: the value at each path, in order; the paths that are counters, which a state passes
-    over; and the values at the others."""
+    over; the values at the others; and in `whole` the values of lists that have a label, whatever stands inside."""
 
     def __init__(self, page, filled):
-        page = json.loads(page)
-        self.leaves = dict(leaves_of(page))
+        page, self.whole = json.loads(page), {}
+        self.leaves = dict(leaves_of(page, self.whole))
         others = dict(leaves_of(json.loads(filled)))
         self.counters = {path for path, value in self.leaves.items()
                          if path not in others or others[path] != value or IPV6.match(path)}
@@ -126,13 +130,47 @@ class Shown:
         self.settings = {path: value for path, value in self.leaves.items() if path not in self.counters}
         self.named = named(page.get("ifname"))
 
+    def beside(self, other, is_all):
+        """The leaves as they are told beside another message: a value whose label is in no list there is one leaf."""
+        out = {}
+        for path, value in self.leaves.items():
+            alone = next((it for it in labels_in(path) if it not in other.whole), None)
+            if not is_all and path in self.counters and (alone is None or is_kept(alone)):
+                continue
+            if alone is None:
+                out[path] = value
+            else:
+                out[alone] = self.whole[alone] if is_all else settled(alone, self.whole[alone])
+        return out
 
-def leaves_of(page):
-    """Each path that holds no other, and its value; of each refused attribute the bytes."""
+
+def labels_in(path):
+    """The paths in front of a path, and the path itself, that end with a label."""
+    return [path[:it.end()] for it in re.finditer(r"\]", path)]
+
+
+def is_kept(path):
+    """Whether a path that ends with a label is that of an attribute that is kept as it is."""
+    return re.fullmatch(r"(.*\.)?other\[[^]]*\]", path) is not None
+
+
+def settled(path, value):
+    """A value as a state tells it as a whole: a function without the attributes that move by themselves."""
+    if not isinstance(value, dict) or not path.rpartition("[")[0].endswith(FUNCTIONS):
+        return value
+    out = {name: it for name, it in value.items() if name not in MOVING}
+    if "repeated" in out:
+        out["repeated"] = [it for it in out["repeated"] if not {*it} & {*MOVING}]
+    return {name: it for name, it in out.items() if name != "repeated" or it}
+
+
+def leaves_of(page, whole=None):
+    """Each path that holds no other, and its value; of each refused attribute the bytes. Of values with labels `whole`
+    gets all."""
     if "refused" in page:
         page["refused"] = raw([(name_of(it), it["payload"]) for it in page["refused"]])
     out = []
-    under("", page, out)
+    under("", page, out, {} if whole is None else whole)
     return out
 
 
@@ -150,25 +188,24 @@ def raw(refused):
     return {**members, "repeated": earlier} if earlier else members
 
 
-def under(path, value, out):
+def under(path, value, out, whole):
     """A list that holds an object or a list is told value by value; any other one is a value."""
     parts = []
     if isinstance(value, dict):
         parts = [(f"{path}.{name}" if path else name, it) for name, it in value.items()]
-    elif any(isinstance(it, (dict, list)) for it in value):
+    elif isinstance(value, list) and any(isinstance(it, (dict, list)) for it in value):
         parts = [(path + label, it) for label, it in zip(labels(path, value), value)]
+        whole.update(it for it in parts if it[0][-1] == "]")
     if not parts and path:
         out.append((path, value))
     for at, it in parts:
-        if isinstance(it, (dict, list)):
-            under(at, it, out)
-        else:
-            out.append((at, it))
+        under(at, it, out, whole)
 
 
 def labels(path, values):
     """What stands behind the path of a list for each of its values: the number that it says, or its place."""
-    key = KEYS.get(".".join(path.split(".")[-2:]))
+    *_, of, name = ["", *path.split(".")]
+    key = NUMBER if name == OTHER else KEYS.get(f"{of}.{name}")
     if key is None:
         return [f".{at}" for at in range(len(values))]
     before, out = {}, []
@@ -221,7 +258,7 @@ def messages(linkshow, options, texts, kernels):
 def changes(old, new, is_all):
     """The list `changes` of two messages, each with how it is shown."""
     (was, before), (now, after) = old, new
-    olds, news = (before.leaves, after.leaves) if is_all else (before.settings, after.settings)
+    olds, news = before.beside(after, is_all), after.beside(before, is_all)
     rows = [(path, text_of(value), text_of(news[path]) if path in news else None)
             for path, value in olds.items() if path not in news or news[path] != value]
     rows += [(path, None, text_of(value)) for path, value in news.items() if path not in olds]

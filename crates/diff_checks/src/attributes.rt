@@ -17,7 +17,7 @@ type Row = (
 );
 
 /// Attributes behind a header and a name.
-const ATTRIBUTES: [Row; 27] = [
+const ATTRIBUTES: [Row; 30] = [
     (
         "a number turns",
         Compared::State,
@@ -108,8 +108,8 @@ const ATTRIBUTES: [Row; 27] = [
         "",
         "0700c80061626300",
         &[
-            r#"[{"path":"other.0.number","new":200},{"path":"other.0.flags","new":[]},"#,
-            r#"{"path":"other.0.payload","new":"616263"}]"#,
+            r#"[{"path":"other[number=200]","#,
+            r#""new":{"number":200,"flags":[],"payload":"616263"}}]"#,
         ],
     ),
     (
@@ -118,8 +118,40 @@ const ATTRIBUTES: [Row; 27] = [
         "0700c800616263000400c900",
         "0700c880616264000400c900",
         &[
-            r#"[{"path":"other.0.flags","old":[],"new":["nested"]},"#,
-            r#"{"path":"other.0.payload","old":"616263","new":"616264"}]"#,
+            r#"[{"path":"other[number=200].flags","old":[],"new":["nested"]},"#,
+            r#"{"path":"other[number=200].payload","old":"616263","new":"616264"}]"#,
+        ],
+    ),
+    (
+        "one without a name comes in front of another",
+        Compared::State,
+        "0500c90061000000",
+        "0700c800616263000500c90062000000",
+        &[
+            r#"[{"path":"other[number=201].payload","old":"61","new":"62"},"#,
+            r#"{"path":"other[number=200]","#,
+            r#""new":{"number":200,"flags":[],"payload":"616263"}}]"#,
+        ],
+    ),
+    (
+        "one of a number that is there comes, and another order",
+        Compared::State,
+        "0500c900610000000500c80061000000",
+        "0500c800610000000500c800620000000500c90061000000",
+        &[
+            r#"[{"path":"other[number=200#1]","#,
+            r#""new":{"number":200,"flags":[],"payload":"62"}}]"#,
+        ],
+    ),
+    (
+        "the first of a number goes",
+        Compared::State,
+        "0500c800610000000500c900610000000500c80062000000",
+        "0500c900610000000500c80062000000",
+        &[
+            r#"[{"path":"other[number=200].payload","old":"61","new":"62"},"#,
+            r#"{"path":"other[number=200#1]","#,
+            r#""old":{"number":200,"flags":[],"payload":"62"}}]"#,
         ],
     ),
     (
@@ -128,9 +160,8 @@ const ATTRIBUTES: [Row; 27] = [
         "0600440001020000",
         "0800440005000000",
         &[
-            r#"[{"path":"headroom","old":513},{"path":"other.0.number","new":68},"#,
-            r#"{"path":"other.0.name","new":"headroom"},{"path":"other.0.flags","new":[]},"#,
-            r#"{"path":"other.0.payload","new":"05000000"}]"#,
+            r#"[{"path":"headroom","old":513},{"path":"other[number=68]","new":{"number":68,"#,
+            r#""name":"headroom","flags":[],"payload":"05000000"}}]"#,
         ],
     ),
     (
@@ -151,10 +182,8 @@ const ATTRIBUTES: [Row; 27] = [
         "0c001200080001007a7a7a00",
         "14001200080001007a7a7a000800030061626364",
         &[
-            r#"[{"path":"linkinfo.other.0.number","new":3},"#,
-            r#"{"path":"linkinfo.other.0.name","new":"xstats"},"#,
-            r#"{"path":"linkinfo.other.0.flags","new":[]},"#,
-            r#"{"path":"linkinfo.other.0.payload","new":"61626364"}]"#,
+            r#"[{"path":"linkinfo.other[number=3]","new":{"number":3,"name":"xstats","#,
+            r#""flags":[],"payload":"61626364"}}]"#,
         ],
     ),
     (

@@ -18,7 +18,7 @@ type Turn = (
 );
 
 /// Messages of kernels of which some bits of one byte are turned.
-const TURNS: [Turn; 32] = [
+const TURNS: [Turn; 34] = [
     (
         &PORT,
         2,
@@ -56,8 +56,8 @@ const TURNS: [Turn; 32] = [
         165,
         Compared::Message,
         &[
-            r#"[{"path":"carrier-changes","old":0},{"path":"other.1.number","new":134},"#,
-            r#"{"path":"other.1.flags","new":[]},{"path":"other.1.payload","new":"00000000"}]"#,
+            r#"[{"path":"carrier-changes","old":0},{"path":"other[number=134]","#,
+            r#""new":{"number":134,"flags":[],"payload":"00000000"}}]"#,
         ],
     ),
     (
@@ -98,9 +98,8 @@ const TURNS: [Turn; 32] = [
         165,
         Compared::State,
         &[
-            r#"[{"path":"qdisc","old":"noqueue"},{"path":"other.1.number","new":163},"#,
-            r#"{"path":"other.1.flags","new":[]},"#,
-            r#"{"path":"other.1.payload","new":"6e6f717565756500"}]"#,
+            r#"[{"path":"qdisc","old":"noqueue"},{"path":"other[number=163]","#,
+            r#""new":{"number":163,"flags":[],"payload":"6e6f717565756500"}}]"#,
         ],
     ),
     (
@@ -189,6 +188,26 @@ const TURNS: [Turn; 32] = [
     ),
     (
         &CARD,
+        128,
+        2,
+        Compared::State,
+        &[
+            r#"[{"path":"vfinfo-list.info[vf=0]","old":{"mac":{"vf":0,"mac":"02:aa:bb:cc:dd:02"},"#,
+            r#""vlan":{"vf":0,"vlan":300,"qos":5},"rate":{"vf":0,"min-tx-rate":0,"max-tx-rate":0},"#,
+            r#""tx-rate":{"vf":0,"rate":0},"spoofchk":{"vf":0,"setting":0},"link-state":{"vf":0,"link-state":"auto"},"#,
+            r#""rss-query-en":{"vf":0,"setting":0},"trust":{"vf":0,"setting":0},"#,
+            r#""ib-node-guid":{"vf":0,"guid":1234605616436508552},"ib-port-guid":{"vf":0,"guid":0},"#,
+            r#""vlan-list":{"info":[{"vf":0,"vlan":300,"qos":5,"vlan-proto":"8021q"}]}}},"#,
+            r#"{"path":"vfinfo-list.info[vf=2]","new":{"mac":{"vf":2,"mac":"02:aa:bb:cc:dd:02"},"#,
+            r#""vlan":{"vf":0,"vlan":300,"qos":5},"rate":{"vf":0,"min-tx-rate":0,"max-tx-rate":0},"#,
+            r#""tx-rate":{"vf":0,"rate":0},"spoofchk":{"vf":0,"setting":0},"link-state":{"vf":0,"link-state":"auto"},"#,
+            r#""rss-query-en":{"vf":0,"setting":0},"trust":{"vf":0,"setting":0},"#,
+            r#""ib-node-guid":{"vf":0,"guid":1234605616436508552},"ib-port-guid":{"vf":0,"guid":0},"#,
+            r#""vlan-list":{"info":[{"vf":0,"vlan":300,"qos":5,"vlan-proto":"8021q"}]}}}]"#,
+        ],
+    ),
+    (
+        &CARD,
         588,
         1,
         Compared::State,
@@ -218,9 +237,8 @@ const TURNS: [Turn; 32] = [
         Compared::State,
         &[
             r#"[{"path":"protinfo.state","old":"disabled"},"#,
-            r#"{"path":"protinfo.other.0.number","new":0},"#,
-            r#"{"path":"protinfo.other.0.flags","new":[]},"#,
-            r#"{"path":"protinfo.other.0.payload","new":"00"}]"#,
+            r#"{"path":"protinfo.other[number=0]","#,
+            r#""new":{"number":0,"flags":[],"payload":"00"}}]"#,
         ],
     ),
     (
@@ -276,6 +294,16 @@ const TURNS: [Turn; 32] = [
         &[
             r#"[{"path":"af-spec.vlan-info[vid=1].flags","old":["pvid","untagged"],"#,
             r#""new":["master","pvid","untagged"]}]"#,
+        ],
+    ),
+    (
+        &BRIDGE,
+        406,
+        2,
+        Compared::State,
+        &[
+            r#"[{"path":"af-spec.vlan-info[vid=1]","old":{"flags":["pvid","untagged"],"vid":1}},"#,
+            r#"{"path":"af-spec.vlan-info[vid=3]","new":{"flags":["pvid","untagged"],"vid":3}}]"#,
         ],
     ),
 ];
