@@ -64,7 +64,9 @@ class Fault(ValueError):
 
 
 class Change(NamedTuple):
-    """A member that differs: its path in what `show` returns. `old` is None where it came, `new` where it went."""
+    """A member that differs: its path in what `show` returns. `old` is None where it came, `new` where it went. A VLAN,
+    or another value of a list that paths name by a number, comes and goes whole: the path ends with its label,
+    `af-spec.vlan-info[vid=200]`, and the value is the dict that `show` has."""
 
     path: str
     old: Any
@@ -328,7 +330,7 @@ def diff(old: Bytes, new: Bytes, kernel: Optional[str] = None, counters: bool = 
          lenient: bool = False) -> List[Change]:
     """What changed from one message to another, as linkdiff(1) tells it; an empty list where the states are equal.
     IFLA_EVENT, which announcements alone have, is left out of both first. A VLAN has its number in the path,
-    `af-spec.vlan-info[vid=200].vid`; linkdiff(1) says how paths name the values of lists.
+    `af-spec.vlan-info[vid=200].flags`; linkdiff(1) says how paths name the values of lists.
 
     kernel, lenient: as for `show`, of both messages.
     counters: compares the canonical encodings, so that what moves by itself is there too.

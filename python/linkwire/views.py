@@ -1,6 +1,7 @@
 """What events say to people: names in the place of indices, each change once, of the links that are asked for."""
 
 import fnmatch
+import re
 import time
 from typing import Any, Dict, FrozenSet, Iterable, Iterator, List, Mapping, NamedTuple, Optional, Sequence, Tuple
 
@@ -37,6 +38,11 @@ class Told(NamedTuple):
     changes: Sequence[Change] = ()
 
 
+def is_whole(it: Change) -> bool:
+    """Whether a change is that of a value of a list that came or went, whose label the other message has not."""
+    return it.path.endswith("]") and isinstance(it.new if it.old is None else it.old, dict) and None in (it.old, it.new)
+
+
 def vlans(message: Bytes) -> FrozenSet[Tuple[int, str]]:
     """The VLANs that a message of AF_BRIDGE lists, also those inside ranges: the number, and `pvid`, `untagged`, both
     with a comma between, or nothing. An element that is damaged is passed over. The end of a range that does not stand
@@ -54,6 +60,43 @@ def vlans(message: Bytes) -> FrozenSet[Tuple[int, str]]:
             start = begin if "range-end" in flags and 0 < begin <= vid else vid
             found |= {(at, told) for at in range(start, vid + 1)}
     return frozenset(found)
+
+
+def _places(path: str, values: Sequence[Any]) -> Iterator[str]:
+    """The paths of the values of a list inside a value: what is kept there as it is has labels by its number."""
+    again: Dict[int, int] = {}
+    for place, it in enumerate(values):
+        if path.endswith(".other"):
+            count = again[it["number"]] = again.get(it["number"], -1) + 1
+            yield f"{path}[number={it['number']}" + (f"#{count}]" if count else "]")
+        else:
+            yield f"{path}.{place}"
+
+
+def _leaves(path: str, value: Any) -> Dict[str, Any]:
+    """What stands inside a value that is told as a whole, by the paths at which `diff` tells it one by one."""
+    parts: Iterable[Tuple[str, Any]] = ()
+    if isinstance(value, dict):
+        parts = [(f"{path}.{name}", it) for name, it in value.items()]
+    elif isinstance(value, list) and any(isinstance(it, (dict, list)) for it in value):
+        parts = zip(_places(path, value), value)
+    found = {name: leaf for part, it in parts for name, leaf in _leaves(part, it).items()}
+    return found or {path: value}
+
+
+def _whole(path: str, leaves: Mapping[str, Any]) -> Any:
+    """The value that has these leaves."""
+    if path in leaves:
+        return leaves[path]
+    inside: Dict[str, Dict[str, Any]] = {}
+    for name, leaf in leaves.items():
+        inside.setdefault(f"{path}.{name[len(path) + 1:].partition('.')[0]}", {})[name] = leaf
+    found: Dict[str, Any] = {}
+    for part, some in inside.items():
+        name, label, _ = part.rpartition(".")[2].partition("[")
+        it = _whole(part, some)
+        found[name] = [*found.get(name, ()), it] if label else it
+    return list(found.values()) if all(map(str.isdigit, found)) else found
 
 
 def flat(value: Any, path: str = "") -> Dict[str, Any]:
@@ -174,9 +217,13 @@ class View:
                 path = path.replace(start, place)
             if is_new:
                 old = it.setdefault(path, new)
+            elif path.startswith("port.") and "[" in path:  # at first these are one list
+                old = new if it.get(path, old) == new else old
             elif path.startswith("port."):
                 old = it.get(path)
             if old != new:
+                for one in [one for one in it if path.endswith("]") and one.startswith(f"{path}.")]:
+                    del it[one]
                 it[path] = new
                 items.append(Change(path, old, new))
         if is_new and not is_bridge:
@@ -196,13 +243,59 @@ class View:
             yield Change(path, old, new)
 
 
+def _labelled(path: str) -> List[str]:
+    """What a path goes through that has a label, from the front."""
+    return [path[:it.end()] for it in re.finditer("]", path)]
+
+
+class _Held:
+    """The changes of a link that are held: `told` is the first of them, `moved` has the values of lists that came or
+    went, and whether each was there at first, and now."""
+
+    def __init__(self, told: Told) -> None:
+        self.told = told
+        self.changes: Dict[str, Change] = {}
+        self.moved: Dict[str, Tuple[bool, bool]] = {}
+
+    def add(self, it: Change) -> None:
+        if is_whole(it):
+            was = self.moved.get(it.path, (it.new is None, True))[0]
+            self.moved[it.path] = was, it.old is None
+            leaves = _leaves(it.path, it.new if it.old is None else it.old).items()
+            some = [Change(path, None, leaf) if it.old is None else Change(path, leaf, None) for path, leaf in leaves]
+        else:
+            some = [it]
+        for one in some:
+            self.changes[one.path] = Change(one.path, self.changes.get(one.path, one).old, one.new)
+
+    def release(self) -> Told:
+        """All of it, as one: a value of a list that came or went meanwhile is whole."""
+        changes: List[Change] = []
+        inside: Dict[str, Tuple[int, Dict[str, Any]]] = {}  # of each value its place, and its leaves
+        for it in self.changes.values():
+            path = next((one for one in _labelled(it.path) if len({*self.moved.get(one, ())}) == 2), "")
+            was = self.moved.get(path, (True, True))[0]
+            if it.old == it.new:
+                continue
+            if path and (it.new if was else it.old) is None:
+                place, leaves = inside.setdefault(path, (len(changes), {}))
+                leaves[it.path] = it.old if was else it.new
+                if place < len(changes):
+                    continue
+            changes.append(it)
+        for path, (place, leaves) in inside.items():
+            value = _whole(path, leaves)
+            changes[place] = Change(path, value, None) if self.moved[path][0] else Change(path, None, value)
+        return self.told._replace(changes=changes)
+
+
 class Settling:
     """Holds what changes of links for so many seconds, so that the changes of a link become one. What is as it was by
     then is not told, and with 0 seconds nothing is held."""
 
     def __init__(self, seconds: float) -> None:
         self._seconds, self._end = seconds, 0.0
-        self._held: Dict[Tuple[str, Optional[int], bool], Told] = {}
+        self._held: Dict[Tuple[str, Optional[int], bool], _Held] = {}
 
     def add(self, told: Told) -> List[Told]:
         """What is to be told now: nothing, or what is no change, behind all that was held."""
@@ -210,11 +303,10 @@ class Settling:
             return [*self.release(), told]
         self._end = self._end if self._held else time.monotonic() + self._seconds
         key = told.event.host, told.event.ifindex, bool(told.port_of)
-        first = self._held.get(key, told)
-        changes = {it.path: it for it in first.changes}
+        held = self._held.setdefault(key, _Held(told))
+        held.told = told._replace(event=held.told.event)
         for it in told.changes:
-            changes[it.path] = Change(it.path, changes.get(it.path, it).old, it.new)
-        self._held[key] = told._replace(event=first.event, changes=list(changes.values()))
+            held.add(it)
         return []
 
     def due(self) -> Optional[float]:
@@ -224,5 +316,4 @@ class Settling:
     def release(self) -> List[Told]:
         """What was held."""
         held, self._held = self._held.values(), {}
-        found = (it._replace(changes=[one for one in it.changes if one.old != one.new]) for it in held)
-        return [it for it in found if it.changes]
+        return [it for it in (one.release() for one in held) if it.changes]

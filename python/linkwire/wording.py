@@ -3,10 +3,10 @@
 import itertools
 import re
 import unicodedata
-from typing import Any, Callable, Iterable, Iterator, List, Tuple
+from typing import Any, Callable, Iterable, Iterator, List, Mapping, Tuple
 
 from .messages import Change
-from .views import Told
+from .views import Told, flat, is_whole
 
 _SHORT = {"ifi-flags": "flags", "operstate": "state", "ifname": "name", "ifalias": "alias", "txqlen": "qlen",
           "prop-list.alt-ifname": "altname"}
@@ -14,6 +14,8 @@ _SETS = {"ifi-flags", "prop-list.alt-ifname", "port.vlan"}
 _TEXTS = {"lost": "messages of the kernel: all links are asked for again",
           "again": "all is known: what changed meanwhile is told above"}
 _QUOTED = set(' ",()[]→;')
+# the label of a value of a list: behind which list, the name of the number that it says, and that number
+_LABEL = re.compile(r"(.*)\[(([a-z]+)(?:=([0-9]+))?[^]]*)\]")
 
 
 def escaped(text: str, encoding: str = "utf-8") -> str:
@@ -58,9 +60,12 @@ class Words:
         return escaped(text, self._encoding).replace(" ", "\\u0020")
 
     def value(self, value: Any) -> str:
-        """A number, a text (quoted where it could be read as something else), a list, or `none`."""
+        """A number, a text (quoted where it could be read as something else), a list, an object as `(to 4,from 3)`, or
+        `none`."""
         if isinstance(value, list):
             return "[" + " ".join(map(self.value, value)) + "]"
+        if isinstance(value, dict) and value:
+            return self._object(flat(value))
         if not isinstance(value, str):
             return "none" if value is None else escaped(str(value), self._encoding)
         is_cut = not self._is_whole and len(value) > 64
@@ -68,9 +73,29 @@ class Words:
         is_bare = text not in ("", "none") and self._arrow not in text and not _QUOTED & set(text)
         return text if is_bare else '"' + text.replace('"', '\\"') + '"'
 
+    def _object(self, members: Mapping[str, Any]) -> str:
+        return "(" + ",".join(f"{escaped(name, self._encoding)} {self.value(it)}" for name, it in members.items()) + ")"
+
+    def _moved(self, it: Change) -> Tuple[str, str]:
+        """Of a value of a list that came or went the list, and its label, with what it says beside that."""
+        found = _LABEL.fullmatch(it.path)
+        if found is None:
+            return "", ""
+        of, label, key, number = found.groups()
+        there = it.new if it.old is None else it.old
+        said = {name: one for name, one in flat(there).items()
+                if name.rpartition(".")[2] != key or not isinstance(one, int) or str(one) != number}
+        return self._member(of), ("+" if it.old is None else "-") + label + (self._object(said) if said else "")
+
+    def _member(self, path: str) -> str:
+        return escaped(_SHORT.get(path, path[5:] if path.startswith("port.") else path), self._encoding)
+
     def change(self, it: Change, is_new: bool = False) -> str:
-        """`member old → new`; of a set what came and went, as `flags +up`; where the link is new `member value`."""
-        member = escaped(_SHORT.get(it.path, it.path[5:] if it.path.startswith("port.") else it.path), self._encoding)
+        """`member old → new`; of a set what came and went, as `flags +up`, and of a value of a list its label, as
+        `data.egress-qos.mapping +from=3(to 4)`; where the link is new `member value`."""
+        member = self._member(it.path)
+        if is_whole(it):
+            return " ".join(self._moved(it))
         if is_new:
             return f"{member} {self.value(it.new)}"
         if it.path not in _SETS:
@@ -85,7 +110,15 @@ class Words:
         """What is told behind the name of the link, and behind `new` and the like: each change, or a text."""
         if told.what == "fault" or told.what in _TEXTS:
             return [escaped(_TEXTS.get(told.what, str(told.event.fault)), self._encoding)]
-        parts = [self.change(it, told.what == "new") for it in told.changes]
+        parts: List[str] = []
+        before = ""
+        for it in told.changes:
+            of, element = self._moved(it) if is_whole(it) else ("", "")
+            if of and of == before:  # of one list its name stands once
+                parts[-1] += f" {element}"
+            else:
+                parts.append(self.change(it, told.what == "new"))
+            before = of
         if told.port_of:
             parts[0] = f"port of {self.name(told.port_of)}: {parts[0]}"
         return parts

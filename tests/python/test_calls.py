@@ -158,7 +158,7 @@ class Calls(unittest.TestCase):
         self.assertEqual([linkwire.show(it)["af-spec"]["vlan-info"] for it in (alone, both)],
                          [[first], [first, {"flags": [], "vid": 5}]])
         self.assertEqual(linkwire.diff(alone, both),
-                         [("af-spec.vlan-info[vid=5].flags", None, []), ("af-spec.vlan-info[vid=5].vid", None, 5)])
+                         [("af-spec.vlan-info[vid=5]", None, {"flags": [], "vid": 5})])
         damaged = [linkwire.build([(spec, [one, *it])], index=7, family=7) for it in ([(2, b"ab")], [(2, b"abc")], [])]
         self.assertEqual([linkwire.diff(*it) for it in zip(damaged, damaged[1:])],
                          [[("af-spec.vlan-info[vid#0]", *it)] for it in (("6162", "616263"), ("616263", None))])

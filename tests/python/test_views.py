@@ -3,7 +3,7 @@
 import unittest
 
 import linkwire
-from linkwire import Change, Settling, View, Watch, flat, u8, u32, vlans
+from linkwire import Change, Event, Settling, Told, View, Watch, flat, u8, u32, vlans
 from linkwire import numbers as n
 
 
@@ -63,8 +63,7 @@ ROWS = [
     ("other lists by the numbers that their values say", View(), [link(2, "e", mapping((1, 2), (3, 4)))],
      [link(2, "e", mapping((1, 5), (3, 4))), link(2, "e", mapping((1, 5)))],
      [("changed", "e", "", [("data.egress-qos.mapping[from=1].to", 2, 5)]),
-      ("changed", "e", "", [("data.egress-qos.mapping[from=3].from", 3, None),
-                            ("data.egress-qos.mapping[from=3].to", 4, None)])]),
+      ("changed", "e", "", [("data.egress-qos.mapping[from=3]", {"from": 3, "to": 4}, None)])]),
     ("a damaged element of a list is a text", View(), [link(2, "e", mapping((1, 2), b"ab"))],
      [link(2, "e", mapping((1, 2), b"abc")), link(2, "e", mapping((1, 2))), link(2, "e", mapping((1, 2), b"ab"))],
      [("changed", "e", "", [("data.egress-qos.mapping[from#0]", *it)])
@@ -75,6 +74,20 @@ ROWS = [
      [("changed", "e", "br0", [("port.vlan", *it)]) for it in (
          ({(1, "pvid,untagged")}, {(1, "pvid,untagged"), (2, "")}),
          ({(1, "pvid,untagged"), (2, "")}, {(1, "pvid,untagged")}))]),
+    ("attributes that no table has by their numbers", View(), [link(2, "e", (300, b"a"))],
+     [link(2, "e", (299, b""), (300, b"b")), link(2, "e", (299, b""))],
+     [("changed", "e", "", [("other[number=300].payload", "61", "62"),
+                            ("other[number=299]", None, {"number": 299, "flags": [], "payload": ""})]),
+      ("changed", "e", "", [("other[number=300]", {"number": 300, "flags": [], "payload": "62"}, None)])]),
+    ("those of a port once", View(),
+     [BR, link(2, "e", *port(9, COST, (99, b"a"))), link(2, "e", port_too(COST, (99, b"a")), family=7)],
+     [it for some in ([COST, (99, b"b")], [(3, u32(8))], [COST, (99, b"c")], [COST, (99, b"b")]) for it in (
+         link(2, "e", port_too(*some), family=7), link(2, "e", *port(9, *some)))],
+     [("changed", "e", "br0", [*cost, (f"port.other[number=99]{it}", *row)]) for cost, it, *row in (
+         ([], ".payload", "61", "62"),
+         ([("port.cost", 7, 8)], "", {"number": 99, "flags": [], "payload": "62"}, None),
+         ([("port.cost", 8, 7)], "", None, {"number": 99, "flags": [], "payload": "63"}),
+         ([], ".payload", "63", "62"))]),
     ("what seldom matters", View(), [link(2, "e")], [link(2, "e", (n.IFLA_CARRIER, u8(1)), flags=0x40)], []),
     ("it too", View(details=True), [link(2, "e")], [link(2, "e", (n.IFLA_CARRIER, u8(1)), flags=0x40)],
      [("changed", "e", "", [("ifi-flags", [], ["running"]), ("carrier", None, 1)])]),
@@ -159,6 +172,57 @@ class Views(unittest.TestCase):
         self.assertEqual((first.event.time, first.changes, last), ("t3", [Change("mtu", 1, 3)], gone))
         self.assertEqual((settling.due(), settling.release()), (None, []))
         self.assertEqual(Settling(0).add(first), [first])
+
+    def test_settling_of_lists(self):
+        """A value of a list that comes, changes and goes meanwhile is one change, and none if it is as it was."""
+        path, three, six = "data.egress-qos.mapping[from=1]", {"from": 1, "to": 3}, {"from": 1, "to": 6}
+        for numbers, wanted in (((None, 3), [(path, None, three)]), ((None, 3, 6), [(path, None, six)]),
+                                ((None, 3, None), []), ((3, 6, None), [(path, three, None)]), ((3, None), [
+                                    (path, three, None)]), ((3, None, 3), []), ((3, None, 6), [(f"{path}.to", 3, 6)]),
+                                ((None, 3, None, 6), [(path, None, six)]), ((3, None, 6, None), [(path, three, None)]),
+                                ((3, 6), [(f"{path}.to", 3, 6)])):
+            view, watch, settling = View(), Watch(), Settling(1e6)
+            view.learn({(0, 2): link(2, "e")})
+            for number in numbers:
+                pairs = [(0, 7)] if number is None else [(0, 7), (1, number)]
+                for event in watch.message(link(2, "e", mapping(*pairs))):
+                    if event.change == "changed":
+                        self.assertEqual([it for told in view.told(event) for it in settling.add(told)], [])
+            self.assertEqual([tuple(it) for told in settling.release() for it in told.changes], wanted, numbers)
+
+    def test_settling_of_functions(self):
+        """What stands inside a function has paths, and becomes the function again."""
+        function = {"mac": {"vf": 1, "mac": "02"}, "vlan-list": {"info": [{"vf": 1, "vlan": 6}, {"vf": 1, "vlan": 7}]},
+                    "addresses": ["a", "b"]}
+        settling = Settling(1e6)
+        for it in (Change("vfinfo-list.info[vf=1]", None, function), Change("vfinfo-list.info[vf#0]", {}, None),
+                   Change("vfinfo-list.info[vf=1].vlan-list.info.1.vlan", 7, 8), Change("mtu", 1, 2)):
+            settling.add(Told(Event("changed", "", 0, 2), "changed", "e", "", [it]))
+        (it,) = settling.release()
+        function["vlan-list"]["info"][1]["vlan"] = 8
+        self.assertEqual(it.changes, [("vfinfo-list.info[vf=1]", None, function), ("vfinfo-list.info[vf#0]", {}, None),
+                                      ("mtu", 1, 2)])
+
+    def test_settling_of_kept(self):
+        """What is kept as it is inside a value has labels by its numbers; it comes and goes there too."""
+        path = "af-spec.mst.entry[msti=3]"
+        one, other, again = ({"number": number, "flags": [], "payload": it} for number, it in (
+            (70, "61"), (71, "62"), (70, "63")))
+        entry = {"msti": 3, "other": [one, other, again]}
+        came, went, turned = Change(path, None, entry), Change(path, entry, None), Change(
+            f"{path}.other[number=70#1].payload", "63", "64")
+        left, back = (Change(f"{path}.other[number=71]", *it) for it in ((other, None), (None, other)))
+        new = {**again, "payload": "64"}
+        for changes, wanted in (([came], [came]), ([came, went], []), ([went, came], []), ([came, left, back], [came]),
+                                ([came, turned], [Change(path, None, {"msti": 3, "other": [one, other, new]})]),
+                                ([came, left], [Change(path, None, {"msti": 3, "other": [one, again]})]),
+                                ([turned, left], [turned, left]), ([left, back], []), ([left], [left]),
+                                ([left, Change(path, {"msti": 3, "other": [one, again]}, None)], [
+                                    Change(path, {"other": [other, one, again], "msti": 3}, None)])):
+            settling = Settling(1e6)
+            for it in changes:
+                settling.add(Told(Event("changed", "", 0, 2), "changed", "e", "", [it]))
+            self.assertEqual([it for told in settling.release() for it in told.changes], wanted, changes)
 
     def test_vlans(self):
         for entries, wanted in (([], set()), ([(0, 5)], {(5, "")}), ([(2, 1), (4, 2)], {(1, "pvid"), (2, "untagged")}),
