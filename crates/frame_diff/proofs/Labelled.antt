@@ -1,7 +1,9 @@
 -- The values of lists with their labels, one attribute after another.
 use Rattle.std.proofs.Common.{◌≡◌, ℕ, suc, ◌+◌, ◌≤◌, Bool, true, false, List, [], ◌∷◌, ◌++◌, refl, sym, ap, ◌∙◌}
-use Rattle.std.proofs.Common.{◌<◌, Ok, append-nil, append_assoc, arith, drop, get_or, length, map, set, take, zero}
-use Rattle.std.specs.Prelude.{IfSome, Option, None, Some, ◌&&◌, ◌==◌, cond, not, option_map, unwrap_or}
+use Rattle.std.proofs.Common.{◌<◌, Ok, append-nil, append_assoc, arith, drop, get_or, length, map, set, subst}
+use Rattle.std.proofs.Common.{take, zero}
+use Rattle.std.specs.Prelude.{IfSome, Option, None, Some, ◌&&◌, ◌==◌, cond, not, option_and_then, option_map, slice_get}
+use Rattle.std.specs.Prelude.{unwrap_or}
 use Rattle.std.specs.BTreeMap.{BTreeMap, get, is_at}
 use Rattle.std.specs.Cmp.{tied_then, unsigned_tied}
 use Rattle.std.specs.Int.{w32}
@@ -11,7 +13,7 @@ use Rattle.std.specs.Ordering.{is_eq, nat_cmp}
 use Rattle.std.proofs.Math.Seq.{drop-length}
 use Rattle.std.proofs.lemmas.Bool.Decides.{nat_tests}
 use Rattle.std.proofs.lemmas.Cmp.{nat_eq_equiv}
-use Rattle.std.proofs.lemmas.List.{drop-set-lt, drop_more, map-append, take_more_set}
+use Rattle.std.proofs.lemmas.List.{drop-set-lt, drop_all, drop_more, map-append, take_more_set}
 use Rattle.nla_wire.specs.Fields.{number_at}
 use Rattle.nla_wire.specs.Frames.{Frame, number}
 use Rattle.nla_wire.specs.Items.{Item}
@@ -21,9 +23,9 @@ use Rattle.frame_shown.specs.declared.form.Around.{Around}
 use Rattle.frame_shown.specs.declared.form.List.{List as Shape}
 use Rattle.frame_diff.specs.Forests.{Held, is_number, is_same_label}
 use Rattle.frame_diff.specs.Groups.{picked, picked_by, picked_values}
-use Rattle.frame_diff.specs.Keyed.{IsIn, labels_now, numbers_now, picked_numbers, values_now}
+use Rattle.frame_diff.specs.Keyed.{IsIn, labels_now, numbers_now, picked_numbers, value_of, values_now}
 use Rattle.frame_diff.specs.Keys.{function_in, is_record, number_in}
-use Rattle.frame_diff.specs.Labels.{are_ascending, count, count_in, first_labels, is_above, labels_behind}
+use Rattle.frame_diff.specs.Labels.{GoAlong, are_ascending, count, count_in, first_labels, is_above, labels_behind}
 use Rattle.frame_diff.specs.Labels.{label_cmp, labels_of, number_cmp, place_of}
 use Rattle.frame_diff.specs.Members.{numbers_by}
 use Rattle.frame_diff.specs.Walked.{Holding, Showing, reading_at}
@@ -57,6 +59,66 @@ counted counts number other n is =
         ap (count_in counts) (number_same other number same) in
         omega (arith, e, is)
     by false same = omega arith
+
+-- ** lists that go along
+
+along_none : (ls : List Label) → GoAlong ls []
+along_none [] = tt
+along_none (l ∷ ls) = tt
+
+-- what is left of lists goes along, if there is none of the others
+pub along_ended : {X : Type 0} (ls : List Label) (ws : List (Labelled X)) (i : ℕ) → length ws ≤ i
+    → GoAlong ls (labels_now (drop i ws))
+along_ended {X} ls ws i past =
+    subst (λ (rest : List (Labelled X)). GoAlong ls (labels_now rest)) (sym (drop_all i ws past)) (along_none ls)
+
+pub along_further : {X : Type 0} (vs ws : List (Labelled X)) (i : ℕ) (d e : Labelled X) → i < length vs
+    → i < length ws → (get_or vs i d).label ≡ (get_or ws i e).label
+    → GoAlong (labels_now (drop (i + 1) vs)) (labels_now (drop (i + 1) ws))
+    → GoAlong (labels_now (drop i vs)) (labels_now (drop i ws))
+along_further {X} vs ws i d e less within same rest =
+    subst (λ (xs : List (Labelled X)). GoAlong (labels_now xs) (labels_now (drop i ws))) (sym (drop_more vs i d less))
+    (subst (λ (xs : List (Labelled X)). GoAlong ((get_or vs i d).label ∷ labels_now (drop (i + 1) vs)) (labels_now xs))
+    (sym (drop_more ws i e within)) (same, rest))
+
+module _ {X : Type 0} (l : Label) where
+  abbrev value_there : List (Labelled X) → Option ℕ → Option X
+  value_there vs there = option_map (λ (w : Labelled X). w.value) (option_and_then (λ n. slice_get vs n) there)
+
+  behind_one : (v : Labelled X) (vs : List (Labelled X)) (there : Option ℕ)
+      → value_there vs there ≡ value_there (v ∷ vs) (option_map suc there)
+  behind_one v vs None = refl
+  behind_one v vs (Some n) = refl
+
+  next_along : (m : Label) (ms : List Label) (v : Labelled X) (vs : List (Labelled X)) (place : ℕ)
+      → ((n : ℕ) → place_of l ms ≡ Some n → value_there vs (Some n) ≡ value_of l vs)
+      → place_of l (m ∷ ms) ≡ Some place
+      → value_there (v ∷ vs) (Some place)
+      ≡ value_there (v ∷ vs) (cond (is_same_label l m) (Some 0) (option_map suc (place_of l (labels_now vs))))
+  next_along m ms v vs place later = by (is_same_label l m)
+    where
+      further : (there : Option ℕ) → place_of l ms ≡ there → option_map suc there ≡ Some place
+          → value_there (v ∷ vs) (Some place)
+          ≡ value_there (v ∷ vs) (option_map suc (place_of l (labels_now vs)))
+      further None none h = absurd cc
+      further (Some n) some h =
+          ap (value_there (v ∷ vs)) (sym h) ∙ later n some ∙ behind_one v vs (place_of l (labels_now vs))
+
+      by : (b : Bool) → cond b (Some 0) (option_map suc (place_of l ms)) ≡ Some place
+          → value_there (v ∷ vs) (Some place)
+          ≡ value_there (v ∷ vs) (cond b (Some 0) (option_map suc (place_of l (labels_now vs))))
+      by true h = ap (value_there (v ∷ vs)) (sym h)
+      by false h = further (place_of l ms) refl h
+
+  -- the value with the label of one stands at its place, if it is there
+  pub found_along : (own : List Label) (vs : List (Labelled X)) (place : ℕ) → place_of l own ≡ Some place
+      → GoAlong own (labels_now vs) → value_there vs (Some place) ≡ value_of l vs
+  found_along [] vs place found along = absurd cc
+  found_along (m ∷ ms) [] place found along = refl
+  found_along (m ∷ ms) (v ∷ vs) place found along =
+      next_along m ms v vs place (λ n some. found_along ms vs n some along.1) found
+      ∙ ap (λ k. value_there (v ∷ vs) (cond (is_same_label l k) (Some 0) (option_map suc (place_of l (labels_now vs)))))
+      along.0
 
 -- ** places of labels
 

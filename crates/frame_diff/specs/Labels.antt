@@ -93,7 +93,13 @@ abbrev pub place_of : Label → List Label → Option ℕ
 place_of l [] = None
 place_of l (m ∷ ms) = cond (is_same_label l m) (Some 0) (option_map suc (place_of l ms))
 
--- a map has the place of each label of the others; where there is none, both lists have the same labels
+-- one of two lists begins with the other
+abbrev pub GoAlong : List Label → List Label → Type 0
+GoAlong [] ms = Unit {0}
+GoAlong (l ∷ ls) [] = Unit {0}
+GoAlong (l ∷ ls) (m ∷ ms) = (l ≡ m) × GoAlong ls ms
+
+-- a map has the place of each label of the others; where there is none, both lists go along
 abbrev pub IsIndex : Option (BTreeMap Label ℕ) → List Label → List Label → Type 0
-IsIndex None own others = own ≡ others
+IsIndex None own others = GoAlong own others
 IsIndex (Some places) own others = (l : Label) → get label_cmp places l ≡ place_of l others

@@ -21,7 +21,7 @@ ghost use Rattle.frame_diff.specs.Walked.{step_items};
 ghost use Rattle.frame_diff.specs.declared.keys.Key.TheVariants as Keys;
 
 use crate::counters::is_passed;
-use crate::keyed::{Labelled, label_all, places_unless_same, push_labelled, value_beside};
+use crate::keyed::{Labelled, label_all, places_unless_along, push_labelled, value_beside};
 use crate::keys::Key;
 use crate::labels::Label;
 use crate::leaf::{Texts, Value, is_same, put_alone};
@@ -300,7 +300,7 @@ pub(crate) fn tell_others(
         return Ok(());
     }
     let theirs = kept_in(texts.alloc, pass.is_state, others)?;
-    let places = places_unless_same(texts.alloc, values.as_slice(), theirs.as_slice())?;
+    let places = places_unless_along(texts.alloc, values.as_slice(), theirs.as_slice())?;
     let list = join(texts.alloc, path, "other")?;
     let mut place = 0;
     for one in values.as_slice() {

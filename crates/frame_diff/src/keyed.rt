@@ -1,7 +1,7 @@
 //! What lists tell whose values are told apart by a number that each says.
 
 ghost use Rattle.std.specs.Prelude.{◌≡◌, ◌++◌, [], ◌∷◌, Bool, IfOk, IfSome, List as Seq, None, OnOk};
-ghost use Rattle.std.specs.Prelude.{Some, option_map, true};
+ghost use Rattle.std.specs.Prelude.{Some, option_map, slice_get, true};
 ghost use Rattle.shown.specs.Drafts.{with_members};
 ghost use Rattle.frame_shown.specs.Items.{objects};
 ghost use Rattle.frame_diff.specs.Groups.{group_inside, is_entries, picked, value_at};
@@ -9,7 +9,8 @@ ghost use Rattle.frame_diff.specs.Items.{items_told};
 ghost use Rattle.frame_diff.specs.Keyed.{AreIn, AreLabelled, FindsAt, IsIn, StandsFor, helds_now, labels_now};
 ghost use Rattle.frame_diff.specs.Keyed.{numbers_now, picked_numbers, value_of, values_now};
 ghost use Rattle.frame_diff.specs.Keys.{key_at};
-ghost use Rattle.frame_diff.specs.Labels.{IsIndex, are_ascending, first_labels, label_step, labels_of, place_of};
+ghost use Rattle.frame_diff.specs.Labels.{GoAlong, IsIndex, are_ascending, first_labels, label_step, labels_of};
+ghost use Rattle.frame_diff.specs.Labels.{place_of};
 ghost use Rattle.frame_diff.specs.Walked.{AreBeside, HasNames, Holding, Showing, StandBeside, step_items};
 ghost use Rattle.frame_diff.specs.declared.labels.Label.{Label as Mark};
 ghost use Rattle.frame_diff.specs.declared.walk.Attributes.{Attributes as Lists};
@@ -168,16 +169,16 @@ fn values_in<'a>(
     Ok(values)
 }
 
-/// Whether two lists have the same labels, in the same order.
-fn are_same<V>(own: &[Labelled<V>], others: &[Labelled<V>]) -> bool
-    ensures { result ≡ true → labels_now own.now ≡ labels_now others.now }
+/// Whether one of two lists begins with the labels of the other.
+fn go_along<V>(own: &[Labelled<V>], others: &[Labelled<V>]) -> bool
+    ensures { result ≡ true → GoAlong (labels_now own.now) (labels_now others.now) }
 {
-    if own.len() != others.len() {
-        return false;
-    }
     let mut place = 0;
     for one in own {
-        if one.label != others[place].label {
+        let Some(other) = others.get(place) else {
+            return true;
+        };
+        if one.label != other.label {
             return false;
         }
         place += 1;
@@ -198,19 +199,36 @@ fn places_of<V>(alloc: Global, values: &[Labelled<V>]) -> Result<Places, AllocEr
     Ok(places)
 }
 
-/// Where each of the other labels stands, unless both lists have the same ones in the same order.
-pub(crate) fn places_unless_same<V>(
+/// Where each of the other labels stands, unless one of both lists begins with the labels of the other.
+pub(crate) fn places_unless_along<V>(
     alloc: Global,
     own: &[Labelled<V>],
     others: &[Labelled<V>],
 ) -> Result<Option<Places>, AllocError>
     ensures { IfOk result (λ places. IsIndex places (labels_now own.now) (labels_now others.now)) }
 {
-    if are_same(own, others) {
+    if go_along(own, others) {
         return Ok(None);
     }
     let places = places_of(alloc, others)?;
     Ok(Some(places))
+}
+
+/// The value at a place, if there is one.
+fn value_there<V: Copy>(place: usize, values: &[Labelled<V>]) -> Option<V>
+    ensures { result ≡ option_map (λ v. v.value) (slice_get values.now place) }
+{
+    let value = values.get(place)?;
+    Some(value.value)
+}
+
+/// The value with a label, if there is one.
+fn value_in<V: Copy>(places: &Places, label: Label, values: &[Labelled<V>]) -> Option<V>
+    ensures { (own : Seq Mark) → IsIndex (Some places.now) own (labels_now values.now)
+        → result ≡ value_of label values.now }
+{
+    let place = *places.get(&label)?;
+    value_there(place, values)
 }
 
 /// The other value with the label of one at a place, if there is one.
@@ -223,12 +241,10 @@ pub(crate) fn value_beside<V: Copy>(
     ensures { (own : Seq Mark) → place_of label own ≡ Some place
         → IsIndex places.now own (labels_now others.now) → result ≡ value_of label others.now }
 {
-    let there = match places {
-        Some(places) => *places.get(&label)?,
-        None => place,
-    };
-    let other = others.get(there)?;
-    Some(other.value)
+    match places {
+        Some(places) => value_in(places, label, others),
+        None => value_there(place, others),
+    }
 }
 
 /// Tells of a value beside the one with its label, or of all of it as a whole, if there is none.
@@ -280,7 +296,7 @@ pub(crate) fn tell_keyed<W: Walk, V: Values>(
 {
     let values = values_in(texts.alloc, pass.is_state, key, own)?;
     let theirs = values_in(texts.alloc, pass.is_state, key, others)?;
-    let places = places_unless_same(texts.alloc, values.as_slice(), theirs.as_slice())?;
+    let places = places_unless_along(texts.alloc, values.as_slice(), theirs.as_slice())?;
     let mut place = 0;
     for one in values.as_slice() {
         let beside = value_beside(&places, one.label, place, theirs.as_slice());
