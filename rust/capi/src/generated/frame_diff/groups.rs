@@ -3,7 +3,7 @@
 
 use crate::frame_diff::keyed::{keyed_beside, tell_keyed};
 use crate::frame_diff::keys::{Key, key_in};
-use crate::frame_diff::leaf::{Texts, Value, is_same, tell_leaf};
+use crate::frame_diff::leaf::{Texts, Value, is_same, put_alone, tell_leaf};
 use crate::frame_diff::list::behind;
 use crate::frame_diff::lists::{is_without, none_of, tell_object};
 use crate::frame_diff::named::{is_each, is_unnamed};
@@ -12,6 +12,7 @@ use crate::frame_diff::path::{join, join_place};
 use crate::frame_diff::same::is_same_list;
 use crate::frame_diff::value::tell_value;
 use crate::frame_diff::walk::{Attribute, Attributes, Pass, Walk};
+use crate::frame_diff::wholes::put_entry;
 use crate::frame_shown::depth::Above;
 use crate::frame_shown::form::{Form, List, Table, Way, row_in};
 use crate::nla_wire::{NlaBuffer, NlasIterator};
@@ -265,6 +266,17 @@ fn tell_picked<W: Walk>(
     tell_alone::<W>(texts, pass, page, path, own, beside)
 }
 
+/// Adds the change of an attribute that one side alone has.
+fn put_attribute<W: Walk>(
+    pass: Pass,
+    page: &mut Page,
+    path: &str,
+    own: Attribute<'_>,
+) -> Result<(), AllocError> {
+    let value = Value::Payload(own.way, own.payload);
+    put_alone::<W>(own.around, page, path, pass.side, value)
+}
+
 /// What the values of a list are.
 pub(crate) trait Values {
     /// Tells of one of them beside another one, if there is one.
@@ -275,6 +287,15 @@ pub(crate) trait Values {
         path: &str,
         own: Attribute<'_>,
         beside: Option<Attribute<'_>>,
+    ) -> Result<(), AllocError>;
+
+    /// Tells of one of them that one side alone has, as a whole.
+    fn tell_whole<W: Walk>(
+        texts: &mut Texts,
+        pass: Pass,
+        page: &mut Page,
+        path: &str,
+        own: Attribute<'_>,
     ) -> Result<(), AllocError>;
 }
 
@@ -292,6 +313,19 @@ impl Values for Group {
     ) -> Result<(), AllocError> {
         tell_picked::<W>(texts, pass, page, path, own, beside)
     }
+
+    fn tell_whole<W: Walk>(
+        texts: &mut Texts,
+        pass: Pass,
+        page: &mut Page,
+        path: &str,
+        own: Attribute<'_>,
+    ) -> Result<(), AllocError> {
+        match own.list {
+            List::Entries(group) => put_entry::<W>(texts, pass, page, path, group, own),
+            _ => put_attribute::<W>(pass, page, path, own),
+        }
+    }
 }
 
 /// Attributes that are the values of a list.
@@ -307,6 +341,16 @@ impl Values for Array {
         beside: Option<Attribute<'_>>,
     ) -> Result<(), AllocError> {
         tell_alone::<W>(texts, pass, page, path, own, beside)
+    }
+
+    fn tell_whole<W: Walk>(
+        _texts: &mut Texts,
+        pass: Pass,
+        page: &mut Page,
+        path: &str,
+        own: Attribute<'_>,
+    ) -> Result<(), AllocError> {
+        put_attribute::<W>(pass, page, path, own)
     }
 }
 

@@ -3,12 +3,15 @@
 
 use crate::rattle::prelude::Vec;
 use crate::frame_diff::counters::is_passed;
-use crate::frame_diff::leaf::{Texts, Value, is_same};
-use crate::frame_diff::list::behind;
-use crate::frame_diff::path::{join, join_place};
+use crate::frame_diff::keyed::{Labelled, label_all, places_unless_along, push_labelled, value_beside};
+use crate::frame_diff::keys::Key;
+use crate::frame_diff::labels::Label;
+use crate::frame_diff::leaf::{Texts, Value, is_same, put_alone};
+use crate::frame_diff::path::{join, join_label};
 use crate::frame_diff::rows::{Row, tell_rows};
 use crate::frame_diff::side::Side;
 use crate::frame_diff::walk::{Attributes, Pass};
+use crate::frame_shown::depth::Bottom;
 use crate::frame_shown::form::{Around, Form, Way, name_in, row_in};
 use crate::nla_wire::{NLA_TYPE_MASK, NlaBuffer, NlasIterator};
 use crate::shown::Page;
@@ -64,16 +67,8 @@ fn rows_of<'a>(alloc: Global, kept: Kept<'a>) -> Result<Vec<Row<'a>>, AllocError
     Ok(rows)
 }
 
-/// What one says, if there is one.
-fn rows_beside<'a>(alloc: Global, kept: Option<Kept<'a>>) -> Result<Vec<Row<'a>>, AllocError> {
-    match kept {
-        Some(kept) => rows_of(alloc, kept),
-        None => Ok(Vec::new(alloc)),
-    }
-}
-
-/// Tells of an attribute that is kept beside another one, if there is one.
-fn tell_kept(
+/// Tells of an attribute that is kept beside another one, by what both say.
+fn tell_both(
     texts: &mut Texts,
     cx: &Around<'_>,
     theirs: &Around<'_>,
@@ -81,11 +76,23 @@ fn tell_kept(
     path: &str,
     side: Side,
     own: Kept<'_>,
-    beside: Option<Kept<'_>>,
+    other: Kept<'_>,
 ) -> Result<(), AllocError> {
     let own = rows_of(texts.alloc, own)?;
-    let there = rows_beside(texts.alloc, beside)?;
+    let there = rows_of(texts.alloc, other)?;
     tell_rows(texts, cx, theirs, page, path, side, &own, &there)
+}
+
+/// Adds the change of one that one side alone has, with all that it says.
+fn put_kept(
+    cx: &Around<'_>,
+    page: &mut Page,
+    path: &str,
+    side: Side,
+    own: Kept<'_>,
+) -> Result<(), AllocError> {
+    let value = Value::Kept(own.name, own.kind, own.payload);
+    put_alone::<Bottom>(cx, page, path, side, value)
 }
 
 /// The kind that is shown of one that is kept.
@@ -121,117 +128,103 @@ fn look_at<'a>(is_state: bool, list: Attributes<'a>, frame: &NlaBuffer<'a>) -> E
     })
 }
 
-/// Whether it has a place.
-fn has_place(entry: Entry<'_>) -> bool {
+/// Adds what is kept of an attribute of a number, as if none before it had it.
+fn push_entry<'a>(
+    values: &mut Vec<Labelled<Option<Kept<'a>>>>,
+    number: u16,
+    entry: Entry<'a>,
+) -> Result<(), AllocError> {
     match entry {
-        Entry::Named => false,
-        Entry::Passed | Entry::Kept(_) => true,
+        Entry::Named => Ok(()),
+        Entry::Passed => push_labelled(values, Some(number.into()), None),
+        Entry::Kept(kept) => push_labelled(values, Some(number.into()), Some(kept)),
     }
 }
 
-/// The one that is kept.
-fn kept_of<'a>(entry: Entry<'a>) -> Option<Kept<'a>> {
-    match entry {
-        Entry::Kept(kept) => Some(kept),
-        Entry::Named | Entry::Passed => None,
-    }
-}
-
-/// The first one that has a place, and the bytes behind it; one with a name where there is none.
-fn next_entry<'a>(is_state: bool, list: Attributes<'a>) -> (Entry<'a>, &'a [u8]) {
-    let mut rest = list.bytes;
+/// The attributes of a list that are kept, each with its label, as if no two had one number.
+fn first_kept<'a>(
+    alloc: Global,
+    is_state: bool,
+    list: Attributes<'a>,
+) -> Result<Vec<Labelled<Option<Kept<'a>>>>, AllocError> {
+    let mut values = Vec::new(alloc);
     for item in NlasIterator::new(list.bytes) {
         let frame = match item {
             Ok(frame) => frame,
             _ => break,
         };
-        rest = behind(rest, &frame);
         let entry = look_at(is_state, list, &frame);
-        if has_place(entry) {
-            return (entry, rest);
-        }
+        push_entry(&mut values, frame.kind(), entry)?;
     }
-    (Entry::Named, b"")
+    Ok(values)
 }
 
-/// What stands beside one of them at its place in another list, where that goes on, and where it goes on behind it.
-fn beside_entry<'a>(
+/// The attributes of a list that are kept, each with its label. Where there are none, no memory is taken.
+fn kept_in<'a>(
+    alloc: Global,
     is_state: bool,
-    own: Entry<'_>,
-    others: Attributes<'a>,
-    there: &'a [u8],
-) -> (Entry<'a>, &'a [u8]) {
-    if !has_place(own) {
-        return (Entry::Named, there);
-    }
-    next_entry(
-        is_state,
-        Attributes {
-            bytes: there,
-            ..others
-        },
-    )
+    list: Attributes<'a>,
+) -> Result<Vec<Labelled<Option<Kept<'a>>>>, AllocError> {
+    let mut values = first_kept(alloc, is_state, list)?;
+    label_all(alloc, &mut values)?;
+    Ok(values)
 }
 
-/// Whether what stands beside one that is kept says the same.
-fn is_same_kept(own: Kept<'_>, beside: Option<Kept<'_>>) -> bool {
-    let other = match beside {
-        Some(other) => other,
-        _ => return false,
-    };
+/// Whether two that are kept say the same.
+fn is_same_kept(own: Kept<'_>, other: Kept<'_>) -> bool {
     other.kind == own.kind && own.name == other.name && is_same(own.payload, other.payload)
 }
 
-/// Tells of one that is kept, beside the one at its place, if there is one. One that says the same costs a look.
-fn tell_placed(
+/// Tells of one that is kept at its label, beside the one with this label: by what both say, or as a whole, if there is
+/// none. One that says the same costs a look.
+fn tell_kept(
     texts: &mut Texts,
     cx: &Around<'_>,
     theirs: &Around<'_>,
     page: &mut Page,
     path: &str,
     side: Side,
-    place: usize,
+    label: Label,
     own: Kept<'_>,
     beside: Option<Kept<'_>>,
 ) -> Result<(), AllocError> {
-    if is_same_kept(own, beside) {
+    let other = match beside {
+        Some(other) => other,
+        _ => {
+            let text = join_label(texts.alloc, path, Key::Number.name(), label)?;
+            return put_kept(cx, page, text.as_str(), side, own);
+        }
+    };
+    if is_same_kept(own, other) {
         return Ok(());
     }
-    let list = join(texts.alloc, path, "other")?;
-    let text = join_place(texts.alloc, list.as_str(), place)?;
-    tell_kept(texts, cx, theirs, page, text.as_str(), side, own, beside)
+    let text = join_label(texts.alloc, path, Key::Number.name(), label)?;
+    tell_both(texts, cx, theirs, page, text.as_str(), side, own, other)
 }
 
-/// Tells of one in the list of those that are kept, beside the one at its place.
-fn tell_entry(
+/// Tells of one that is kept, unless it is passed over, beside the one with its label, if there is one.
+fn tell_labelled(
     texts: &mut Texts,
-    pass: Pass,
+    cx: &Around<'_>,
+    theirs: &Around<'_>,
     page: &mut Page,
     path: &str,
-    cx: &Around<'_>,
-    place: usize,
-    others: Attributes<'_>,
-    entry: Entry<'_>,
-    beside: Entry<'_>,
+    side: Side,
+    own: Labelled<Option<Kept<'_>>>,
+    beside: Option<Option<Kept<'_>>>,
 ) -> Result<(), AllocError> {
-    let own = match entry {
-        Entry::Kept(own) => own,
+    let kept = match own.value {
+        Some(kept) => kept,
         _ => return Ok(()),
     };
-    let beside = kept_of(beside);
-    let theirs = others.around;
-    tell_placed(texts, cx, theirs, page, path, pass.side, place, own, beside)
+    let other = match beside {
+        Some(other) => other,
+        None => None,
+    };
+    tell_kept(texts, cx, theirs, page, path, side, own.label, kept, other)
 }
 
-/// The place of the next one.
-fn more_by(entry: Entry<'_>, place: usize) -> usize {
-    match entry {
-        Entry::Named => place,
-        Entry::Passed | Entry::Kept(_) => place + 1,
-    }
-}
-
-/// Tells of the attributes of a list that are kept, each beside the one at its place in another list, as members of a
+/// Tells of the attributes of a list that are kept, each beside the one of its number in another list, as members of a
 /// list of their own.
 pub(crate) fn tell_others(
     texts: &mut Texts,
@@ -241,20 +234,20 @@ pub(crate) fn tell_others(
     own: Attributes<'_>,
     others: Attributes<'_>,
 ) -> Result<(), AllocError> {
+    let values = kept_in(texts.alloc, pass.is_state, own)?;
+    if values.is_empty() {
+        return Ok(());
+    }
+    let theirs = kept_in(texts.alloc, pass.is_state, others)?;
+    let places = places_unless_along(texts.alloc, values.as_slice(), theirs.as_slice())?;
+    let list = join(texts.alloc, path, "other")?;
     let mut place = 0;
-    let mut there = others.bytes;
-    for item in NlasIterator::new(own.bytes) {
-        let frame = match item {
-            Ok(frame) => frame,
-            _ => break,
-        };
-        let entry = look_at(pass.is_state, own, &frame);
-        let (beside, next) = beside_entry(pass.is_state, entry, others, there);
-        there = next;
-        tell_entry(
-            texts, pass, page, path, own.around, place, others, entry, beside,
-        )?;
-        place = more_by(entry, place);
+    for one in values.as_slice() {
+        let beside = value_beside(&places, one.label, place, theirs.as_slice());
+        let cx = others.around;
+        let text = list.as_str();
+        tell_labelled(texts, own.around, cx, page, text, pass.side, *one, beside)?;
+        place += 1;
     }
     Ok(())
 }

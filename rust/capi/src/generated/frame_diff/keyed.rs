@@ -15,11 +15,56 @@ use crate::rattle::alloc::{AllocError, Global};
 
 /// A value of a list, with its label.
 #[derive(Clone, Copy)]
-pub struct Labelled<'a> {
+pub struct Labelled<V> {
     /// The label.
     pub label: Label,
     /// The value.
-    pub value: Attribute<'a>,
+    pub value: V,
+}
+
+/// Adds a value, as if none before it had its number.
+pub(crate) fn push_labelled<V>(
+    values: &mut Vec<Labelled<V>>,
+    number: Option<u64>,
+    value: V,
+) -> Result<(), AllocError> {
+    let label = Label { number, again: 0 };
+    values.push(Labelled { label, value })?;
+    Ok(())
+}
+
+/// Whether the numbers of all values ascend.
+fn are_ascending<V>(values: &[Labelled<V>]) -> bool {
+    let mut before = None;
+    for one in values {
+        let number = one.label.number;
+        if !is_above(before, number) {
+            return false;
+        }
+        before = number;
+    }
+    true
+}
+
+/// Counts of each value those before it with its number.
+fn count_each<V>(alloc: Global, values: &mut Vec<Labelled<V>>) -> Result<(), AllocError> {
+    let mut counts = Counts::new(alloc);
+    let mut place = 0;
+    while place < values.len() {
+        let number = values[place].label.number;
+        let again = count(&mut counts, number)?;
+        values[place].label = Label { number, again };
+        place += 1;
+    }
+    Ok(())
+}
+
+/// Labels values that have labels as if no two had one number. Where their numbers ascend, none is counted.
+pub(crate) fn label_all<V>(alloc: Global, values: &mut Vec<Labelled<V>>) -> Result<(), AllocError> {
+    if are_ascending(values.as_slice()) {
+        return Ok(());
+    }
+    count_each(alloc, values)
 }
 
 /// Another list with this key; a list without values where it has none, or another one.
@@ -37,7 +82,7 @@ pub(crate) fn keyed_beside<'a>(
 
 /// Adds a value, if there is one, as if none before it had its number.
 fn push_first<'a>(
-    values: &mut Vec<Labelled<'a>>,
+    values: &mut Vec<Labelled<Attribute<'a>>>,
     key: Key,
     value: Option<Attribute<'a>>,
 ) -> Result<(), AllocError> {
@@ -45,10 +90,7 @@ fn push_first<'a>(
         Some(value) => value,
         _ => return Ok(()),
     };
-    let number = number_of(key, value);
-    let label = Label { number, again: 0 };
-    values.push(Labelled { label, value })?;
-    Ok(())
+    push_labelled(values, number_of(key, value), value)
 }
 
 /// The values of a list, each with its label, as if no two had one number.
@@ -57,7 +99,7 @@ fn first_values<'a>(
     is_state: bool,
     key: Key,
     list: Attributes<'a>,
-) -> Result<Vec<Labelled<'a>>, AllocError> {
+) -> Result<Vec<Labelled<Attribute<'a>>>, AllocError> {
     let mut values = Vec::new(alloc);
     for item in NlasIterator::new(list.bytes) {
         let frame = match item {
@@ -69,78 +111,27 @@ fn first_values<'a>(
     Ok(values)
 }
 
-/// Adds a value, if there is one, of whose number those before it are counted.
-fn push_counted<'a>(
-    counts: &mut Counts,
-    values: &mut Vec<Labelled<'a>>,
-    key: Key,
-    value: Option<Attribute<'a>>,
-) -> Result<(), AllocError> {
-    let value = match value {
-        Some(value) => value,
-        _ => return Ok(()),
-    };
-    let number = number_of(key, value);
-    let again = count(counts, number)?;
-    let label = Label { number, again };
-    values.push(Labelled { label, value })?;
-    Ok(())
-}
-
 /// The values of a list, each with its label.
-fn counted_values<'a>(
-    alloc: Global,
-    is_state: bool,
-    key: Key,
-    list: Attributes<'a>,
-) -> Result<Vec<Labelled<'a>>, AllocError> {
-    let mut counts = Counts::new(alloc);
-    let mut values = Vec::new(alloc);
-    for item in NlasIterator::new(list.bytes) {
-        let frame = match item {
-            Ok(frame) => frame,
-            _ => break,
-        };
-        push_counted(&mut counts, &mut values, key, pick(is_state, list, &frame))?;
-    }
-    Ok(values)
-}
-
-/// Whether the numbers of all values ascend.
-fn are_ascending(values: &[Labelled<'_>]) -> bool {
-    let mut before = None;
-    for one in values {
-        let number = one.label.number;
-        if !is_above(before, number) {
-            return false;
-        }
-        before = number;
-    }
-    true
-}
-
-/// The values of a list, each with its label. Where their numbers ascend, none is counted.
 fn values_in<'a>(
     alloc: Global,
     is_state: bool,
     key: Key,
     list: Attributes<'a>,
-) -> Result<Vec<Labelled<'a>>, AllocError> {
-    let values = first_values(alloc, is_state, key, list)?;
-    if are_ascending(values.as_slice()) {
-        return Ok(values);
-    }
-    counted_values(alloc, is_state, key, list)
+) -> Result<Vec<Labelled<Attribute<'a>>>, AllocError> {
+    let mut values = first_values(alloc, is_state, key, list)?;
+    label_all(alloc, &mut values)?;
+    Ok(values)
 }
 
-/// Whether two lists have the same labels, in the same order.
-fn are_same(own: &[Labelled<'_>], others: &[Labelled<'_>]) -> bool {
-    if own.len() != others.len() {
-        return false;
-    }
+/// Whether one of two lists begins with the labels of the other.
+fn go_along<V>(own: &[Labelled<V>], others: &[Labelled<V>]) -> bool {
     let mut place = 0;
     for one in own {
-        if one.label != others[place].label {
+        let other = match others.get(place) {
+            Some(other) => other,
+            _ => return true,
+        };
+        if one.label != other.label {
             return false;
         }
         place += 1;
@@ -149,7 +140,7 @@ fn are_same(own: &[Labelled<'_>], others: &[Labelled<'_>]) -> bool {
 }
 
 /// Where each of these labels stands: the first of those that are the same.
-fn places_of(alloc: Global, values: &[Labelled<'_>]) -> Result<Places, AllocError> {
+fn places_of<V>(alloc: Global, values: &[Labelled<V>]) -> Result<Places, AllocError> {
     let mut places = Places::new(alloc);
     let mut place = values.len();
     while place > 0 {
@@ -159,46 +150,60 @@ fn places_of(alloc: Global, values: &[Labelled<'_>]) -> Result<Places, AllocErro
     Ok(places)
 }
 
-/// Where each of the other labels stands, unless both lists have the same ones in the same order.
-fn places_unless_same(
+/// Where each of the other labels stands, unless one of both lists begins with the labels of the other.
+pub(crate) fn places_unless_along<V>(
     alloc: Global,
-    own: &[Labelled<'_>],
-    others: &[Labelled<'_>],
+    own: &[Labelled<V>],
+    others: &[Labelled<V>],
 ) -> Result<Option<Places>, AllocError> {
-    if are_same(own, others) {
+    if go_along(own, others) {
         return Ok(None);
     }
     let places = places_of(alloc, others)?;
     Ok(Some(places))
 }
 
+/// The value at a place, if there is one.
+fn value_there<V: Copy>(place: usize, values: &[Labelled<V>]) -> Option<V> {
+    let value = values.get(place)?;
+    Some(value.value)
+}
+
+/// The value with a label, if there is one.
+fn value_in<V: Copy>(places: &Places, label: Label, values: &[Labelled<V>]) -> Option<V> {
+    let place = *places.get(&label)?;
+    value_there(place, values)
+}
+
 /// The other value with the label of one at a place, if there is one.
-fn value_beside<'a>(
+pub(crate) fn value_beside<V: Copy>(
     places: &Option<Places>,
     label: Label,
     place: usize,
-    others: &[Labelled<'a>],
-) -> Option<Attribute<'a>> {
-    let there = match places {
-        Some(places) => *places.get(&label)?,
-        None => place,
-    };
-    let other = others.get(there)?;
-    Some(other.value)
+    others: &[Labelled<V>],
+) -> Option<V> {
+    match places {
+        Some(places) => value_in(places, label, others),
+        None => value_there(place, others),
+    }
 }
 
-/// Tells of a value beside the one with its label.
+/// Tells of a value beside the one with its label, or of all of it as a whole, if there is none.
 fn tell_labelled<W: Walk, V: Values>(
     texts: &mut Texts,
     pass: Pass,
     page: &mut Page,
     path: &str,
     key: Key,
-    own: Labelled<'_>,
+    own: Labelled<Attribute<'_>>,
     beside: Option<Attribute<'_>>,
 ) -> Result<(), AllocError> {
     let text = join_label(texts.alloc, path, key.name(), own.label)?;
-    V::tell_one::<W>(texts, pass, page, text.as_str(), own.value, beside)
+    if beside.is_some() {
+        V::tell_one::<W>(texts, pass, page, text.as_str(), own.value, beside)
+    } else {
+        V::tell_whole::<W>(texts, pass, page, text.as_str(), own.value)
+    }
 }
 
 /// Tells of the values of a list, each beside the one with its label in another list with the same key.
@@ -213,7 +218,7 @@ pub(crate) fn tell_keyed<W: Walk, V: Values>(
 ) -> Result<(), AllocError> {
     let values = values_in(texts.alloc, pass.is_state, key, own)?;
     let theirs = values_in(texts.alloc, pass.is_state, key, others)?;
-    let places = places_unless_same(texts.alloc, values.as_slice(), theirs.as_slice())?;
+    let places = places_unless_along(texts.alloc, values.as_slice(), theirs.as_slice())?;
     let mut place = 0;
     for one in values.as_slice() {
         let beside = value_beside(&places, one.label, place, theirs.as_slice());

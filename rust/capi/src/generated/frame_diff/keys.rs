@@ -21,6 +21,8 @@ pub enum Key {
     From,
     /// That of a function.
     Vf,
+    /// That of an attribute that is kept as it is.
+    Number,
 }
 
 impl Key {
@@ -31,6 +33,7 @@ impl Key {
             Key::Msti => "msti",
             Key::From => "from",
             Key::Vf => "vf",
+            Key::Number => "number",
         }
     }
 }
@@ -42,6 +45,7 @@ pub(crate) fn is_key(key: Key, other: Option<Key>) -> bool {
         (Key::Msti, Some(Key::Msti)) => true,
         (Key::From, Some(Key::From)) => true,
         (Key::Vf, Some(Key::Vf)) => true,
+        (Key::Number, Some(Key::Number)) => true,
         _ => false,
     }
 }

@@ -10,12 +10,20 @@ pub fn law_once() {}
 /// Members beside the same tell nothing.
 pub fn law_silent() {}
 
-/// What is told of two messages, or of two states, is what differs between all leaves of both, each path once; of a
-/// message beside itself nothing.
+/// Leaf by leaf, what is told where values with labels that stand alone are told as a whole is what differs between the
+/// leaves of both.
+pub fn law_wholes() {}
+
+/// What is told of two messages, or of two states, is what differs between all leaves of both, where a value with a
+/// label that stands alone is a leaf. Leaf by leaf it is what differs between all leaves. Each path is told once. Of a
+/// message beside itself nothing is told.
 pub fn law_messages() {}
 
 /// A state passes over the attributes that the table of `link_state` clears, and no other.
 pub fn law_counters() {}
+
+/// Nothing that a state clears is in what is told of it as a whole.
+pub fn law_settled() {}
 
 /// What is written behind the text of a path is an object for each change that is told.
 pub fn law_items() {}

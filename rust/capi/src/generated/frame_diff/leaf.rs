@@ -42,6 +42,8 @@ pub enum Value<'a> {
     Listed(List, &'a [u8]),
     /// The attributes of a list that are the values of the list of a number.
     Array(List, u16, &'a [u8]),
+    /// An attribute that is kept as it is: the name that its number has all the same, if any, its kind and its payload.
+    Kept(&'a str, u16, &'a [u8]),
 }
 
 /// Room for the texts that are compared.
@@ -126,6 +128,30 @@ fn show_array<D: Depth>(
     show_one_array::<D>(cx, page, name, &list, number, bytes)
 }
 
+/// Adds a name where it is not empty.
+fn show_name(page: &mut Page, text: &str) -> Result<(), AllocError> {
+    if text.is_empty() {
+        return Ok(());
+    }
+    page.string("name", text)
+}
+
+/// Adds an attribute that is kept as it is.
+fn show_kept(
+    page: &mut Page,
+    name: &str,
+    text: &str,
+    kind: u16,
+    payload: &[u8],
+) -> Result<(), AllocError> {
+    page.begin(name, Nest::Object)?;
+    page.number("number", (kind & NLA_TYPE_MASK).into())?;
+    show_name(page, text)?;
+    show_flags(page, "flags", kind)?;
+    page.hex("payload", payload)?;
+    page.end()
+}
+
 /// Adds a value.
 fn show_value<D: Depth>(
     cx: &Around<'_>,
@@ -148,6 +174,7 @@ fn show_value<D: Depth>(
         Value::Array(list, number, bytes) => {
             show_array::<D>(cx, page, name, list, number, bytes)
         }
+        Value::Kept(text, kind, payload) => show_kept(page, name, text, kind, payload),
     }
 }
 
@@ -212,7 +239,7 @@ pub(crate) fn is_shown_same<D: Depth>(
 }
 
 /// Adds the change of a value that one side alone has.
-fn put_alone<D: Depth>(
+pub(crate) fn put_alone<D: Depth>(
     cx: &Around<'_>,
     page: &mut Page,
     path: &str,

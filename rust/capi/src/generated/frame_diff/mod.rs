@@ -25,3 +25,4 @@ mod same;
 pub mod side;
 pub mod value;
 pub mod walk;
+mod wholes;

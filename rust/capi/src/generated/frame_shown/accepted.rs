@@ -19,7 +19,7 @@ fn is_accepted(frame: &NlaBuffer<'_>, family: u8) -> bool {
 }
 
 /// Adds an attribute as it is spelled, with zeros for its padding.
-fn push_frame(out: &mut Vec<u8>, frame: &NlaBuffer<'_>) -> Result<(), AllocError> {
+pub fn push_frame(out: &mut Vec<u8>, frame: &NlaBuffer<'_>) -> Result<(), AllocError> {
     let end = out.len() + padded_len(frame.value().len());
     out.extend_from_slice(&frame.length().to_ne_bytes())?;
     out.extend_from_slice(&frame.kind_with_flags().to_ne_bytes())?;
