@@ -213,9 +213,9 @@ ptrdiff_t linkwire_show(const uint8_t *message, size_t len, uint32_t order, uint
  * Attributes IFLA_EVENT of four bytes, which announcements alone have, are left out of both messages first, as
  * linkdiff(1) does. The list is written, and its length returned, as `linkwire_show` does; 0, and `out` is unchanged,
  * exactly where the state encodings of what is left are equal. With LINKWIRE_COUNTERS the canonical encodings are
- * compared, so that what moves by itself is told too; with LINKWIRE_LENIENT the lenient ones of either. Both messages
- * are shown in one order. Or -20; or the refusal, -1 to -7, -16, -17 or -18, of the first that is refused, and `out` is
- * unchanged. Takes memory. */
+ * compared, and counters are told too; with LINKWIRE_LENIENT the lenient ones of either. Both messages are shown in one
+ * order. Or -20; or the refusal, -1 to -7, -16, -17 or -18, of the first that is refused, and `out` is unchanged. Takes
+ * memory. */
 ptrdiff_t linkwire_diff(const uint8_t *old_message, size_t old_len, const uint8_t *new_message, size_t new_len,
                         uint32_t order, uint32_t flags, char *out, size_t cap);
 
