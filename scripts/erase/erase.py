@@ -20,14 +20,12 @@ import borrowed
 import derives
 import keys
 import memory
-import older
 import owed
 import paths
 import rules
 import surface
 import typed
 import words
-from examples import Examples
 from source import Source, Unknown
 
 HERE = Path(__file__).resolve().parent
@@ -80,7 +78,7 @@ class Mode:
         self.memory_names = set()           # functions that fail for memory alone
         self.public = set()                 # names that a user sees
         self.conditions = []                # what calls require that a user sees
-        self.examples = Examples() if self.is_crate else None
+        self.examples = words.examples() if self.is_crate else {}       # those that no call has yet
 
     def sources(self):
         """The sources of what is made: the crate of each, its name without `.rt`, and its path."""
@@ -128,12 +126,11 @@ def erase(path, text, crate, mode):
         rules.apply(s, rules.NEVER)
         owed.check(s, found, mode.public)
         words.docs(s, lambda name, call: owed.told(
-            call, found.get(name, []), mode.memory_names, mode.examples.of(name)), mode.public)
+            call, found.get(name, []), mode.memory_names, mode.examples.pop(name, None)), mode.public)
         surface.must_use(s, mode.public)
         imported += paths.of_alloc(s)
     if not mode.is_tests:
-        older.let_else(s)
-        older.ranges(s)
+        rules.apply(s, rules.OLDER)
     return with_imports(s.rust(), "".join(f"use {path};\n" for path in imported))
 
 
@@ -216,9 +213,8 @@ def make_all(mode, out):
         write(out / "src" / "generated" / "places.rs", typed.text())
         write(out / "src" / "generated" / "keys.rs", keys.text())
         write(out / "MOVING.md", typed.moving(read(TOP / "rust" / "MOVING.md")))
-        unused = mode.examples.keys() - mode.examples.shown
-        if unused:
-            raise Unknown(f"examples.md: no public call is named {min(unused)}")
+        if mode.examples:
+            raise Unknown(f"examples.md: no public call is named {min(mode.examples)}")
         write(out / "conditions.txt", "\n".join(sorted(mode.conditions)) + "\n")
         lay_out(out / "src" / "generated")
 

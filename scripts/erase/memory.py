@@ -41,15 +41,6 @@ def asked_calls(s, names):
     s.put(rf"/(?P<call>(?:{calls}|\.\s*(?:{GROWS}))/ (..) /)\s*\?/", "$call")
 
 
-def types(s):
-    """`List`, `Text` and `Bytes` are `Vec`, `String` and `Vec<u8>`, but for variants of their names."""
-    rules.apply(s, rules.OWN_TYPES)
-    enums = [range(*it.span("x")) for it in s.find("enum /\\w+/ {$x..}")]
-    s.put(rf"/(?<!::){rules.LISTS[1:-1]}(?!\s*\()/",
-          lambda it: None if any(it.start() in enum for enum in enums) and s.outer(it.start()) == "{"
-          else rules.TYPES[it["type"]])
-
-
 def memory(s, names):
     """All of it. `names` are the functions of the whole package that fail for memory alone."""
     paths.drop_names(s, lambda name, _: name in rules.GONE)
@@ -57,5 +48,10 @@ def memory(s, names):
     unwrap_functions(s)
     rules.apply(s, rules.MAKERS)
     asked_calls(s, names)
-    types(s)
+    rules.apply(s, rules.OWN_TYPES)
+    enums = [range(*it.span("x")) for it in s.find("enum /\\w+/ {$x..}")]
+    # but for variants of their names
+    s.put(rf"/(?<!::){rules.LISTS[1:-1]}(?!\s*\()/",
+          lambda it: None if any(it.start() in enum for enum in enums) and s.outer(it.start()) == "{"
+          else rules.TYPES[it["type"]])
     rules.apply(s, rules.ALLOCATORS)

@@ -1,5 +1,7 @@
 """What is dropped and replaced in each source, as tables: a form, and what stands for it, or behind `!` why the form is
 refused. They are put in their order, so that a form behind another one is looked for in what that one left."""
+import re
+
 from source import PAIR
 
 CLAUSE = rf"\b(?:requires|ensures)\b\s*\*?\s*\w*\s*\{{(?P<clause>{PAIR}).*?\}}(?P=clause)"
@@ -26,7 +28,6 @@ STATES = [
     # the brace of the body, or the semicolon, comes to the end of the signature
     (rf"/,\s*(?:{CLAUSE}(?P<gap>\s*))+(?=[{{;])/", ",$gap"),
     (rf"/\s*(?:{CLAUSE}\s*)+(?=[{{;])/", " "),
-    (f"/{CLAUSE}/", ""),
     (r"/,?\s+(?=;)/", ""),
     (r"/\b(?:requires|ensures)\b/", "!a clause without braces"),
     *only_ghosts("Model"),
@@ -155,7 +156,6 @@ ALLOCATORS = [
 # Casts of which a proof has shown that nothing is lost are checked.
 NARROWING = [
     (r"( $x as /(?P<to>i8|i16|i32)\b/ ) /(?=\s*\.)/", "narrow_signed::<$to>($x)"),
-    (r"( $x as u16 ) /(?=\s*\.)/", "narrow($x)"),
     (r"/(?<![.\w])(?P<x>[^\W\d]\w*)/ as /(?P<to>i8|i16|i32)\b/", "narrow_signed::<$to>($x)"),
     (r"/(?<![.\w])(?P<x>[^\W\d]\w*)/ as u16", "narrow($x)"),
     (r"/\bas (?P<to>u8|u32)\b/", "!a cast to $to, of which no checked form is known"),
@@ -184,10 +184,34 @@ NEVER = [
 ]
 
 
+def as_match(found):
+    """`let PATTERN = value else { .. };` as a `match`."""
+    pattern, indent = found["x"].strip(), re.search(r" *$", found.string[:found.start()])[0]
+    names = re.findall(r"(?<![.\w])(?<!::)([a-z]\w*)(?!\w|\s*[({:])", pattern)
+    bound = names[0] if len(names) == 1 else f"({', '.join(names)})"
+    line = found["body"].strip().removesuffix(";")
+    body = "{" + found["body"].replace("\n", "\n    ") + "}" if re.search(r"[\n;]", line) else line + ","
+    return "\n".join([f"let {bound} = " * (bound != "()") + f"match {found['y'].strip()} {{",
+                      f"{indent}    {pattern} => {bound},", f"{indent}    _ => {body}", f"{indent}}};"])
+
+
+def closed(arm):
+    """The arm of a range without its end, with the last number of the range."""
+    base = hex if arm["end"].startswith("0x") else str
+    return f"{arm['front']}..={base(int(arm['end'], 0) - 1)} =>"
+
+
+# What Rust 1.63 has not, which Debian 12 has; not `if let`, and `let x = if .. {} else {}`.
+OLDER = [
+    (r"/(?<!if )(?<!while )\blet\b/ $x.. /=(?!=)/ $y.. /(?<!\}.)\s\belse\b/ {$body..} ;", as_match),
+    (r"/(?P<front>\n +\w+)\.\.(?P<end>\w+) =>/", closed),
+]
+
+
 def apply(s, rules):
-    """Puts what stands for each form, and refuses what is refused."""
+    """Puts what stands for each form, a text or what a function makes of it, and refuses what is refused."""
     for what, new in rules:
-        if new.startswith("!"):
+        if not callable(new) and new.startswith("!"):
             s.refuse(what, new[1:])
         else:
             s.put(what, new)

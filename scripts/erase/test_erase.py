@@ -12,7 +12,6 @@ import derives
 import erase
 import keys
 import memory
-import older
 import paths
 import rules
 import surface
@@ -65,8 +64,7 @@ MAKES = {
     "refused members": lambda text: refused(
         lambda it: keys.inner("link_nest", it, "LinkXdp", "A member of IFLA_XDP."), text),
     "names of a format": lambda text: " ".join(derives.names_in(text)) + "\n",
-    "let_else": by(older.let_else),
-    "reserved": by_rules(rules.RESERVED), "narrowing": by_rules(rules.NARROWING), "hide_calls": by(surface.hide_calls),
+    "let_else": by_rules(rules.OLDER), "reserved": by_rules(rules.RESERVED), "narrowing": by_rules(rules.NARROWING), "hide_calls": by(surface.hide_calls),
     "other_names": by(surface.other_names),
     "inline_optimized": by_rules(rules.CRATE), "unwrap_functions": by(memory.unwrap_functions),
     "without memory": by(lambda s: memory.memory(s, set())),

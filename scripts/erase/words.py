@@ -1,6 +1,7 @@
 """The words of the docs: what the crate has not, and what a Rust user looks for."""
 import re
 import textwrap
+from pathlib import Path
 
 from source import PAIR, letters
 from surface import CALL, public_name
@@ -37,6 +38,24 @@ DOCS = "|".join(rf"[{marks}](?:[^\S\n]*\n[^\S\n]*[{marks}])*" for marks in map(l
 # The lines of docs, and the call that stands behind them and its attributes.
 BLOCK = rf"/(?P<docs>{DOCS})(?=\s*(?:#\[(?P<q>{PAIR}).*?\](?P=q)\s*)*{CALL[1:-1]}|)/"
 
+EXAMPLE = re.compile(r"^## (\S+)\n\n(?:Besides: ([^`]+)\.\n\n)?```rust\n(.*?)\n```$", re.M | re.S)
+
+
+def examples():
+    """The examples of examples.md: by the name of a public call, without its module, the paragraph of docs that has its
+    own, or that says which call's it stands in too."""
+    text, found = Path(__file__).with_name("examples.md").read_text("utf-8"), {}
+    parts = EXAMPLE.findall(text)
+    if len(parts) != text.count("\n## "):
+        raise ValueError("examples.md: a part has another form")
+    for name, besides, code in parts:
+        link = f"[`{name.removeprefix('info::')}`](crate::{name}) has an example."
+        shown = [(name, ["```", *code.split("\n"), "```"])]
+        for one, paragraph in shown + [(other, [link]) for other in besides.replace(",", " ").split()]:
+            if found.setdefault(one.removeprefix("info::"), paragraph) is not paragraph:
+                raise ValueError(f"examples.md: {one} has two examples")
+    return found
+
 
 def lines_of(s, block):
     return [s.held[it][3:].removeprefix(" ") for it in block if it in s.held]
@@ -61,12 +80,6 @@ def said(paragraph):
     for pattern, instead in SAID:
         new = pattern.sub(instead, new)
     return paragraph if new == text else [new] if new.strip() else []
-
-
-def wrapped(paragraph, width):
-    if len(paragraph) > 1 or paragraph[0].startswith(("#", "```", "|", " ")):
-        return paragraph
-    return textwrap.wrap(paragraph[0], width, break_long_words=False, break_on_hyphens=False)
 
 
 def docs(s, told, public):
@@ -94,9 +107,11 @@ def written(s, found, paragraphs_):
     """The docs as lines, from the place on where they begin."""
     mark = s.held[found["docs"][0]][:3]
     indent = re.sub(r"[\f\v]", "", s.text[s.text.rfind("\n", 0, found.start()) + 1:found.start()])
-    lines = []
-    for paragraph in paragraphs_:
-        lines += [""] * bool(lines) + wrapped(paragraph, WIDTH - len(indent) - 4)
+    lines, width = [], WIDTH - len(indent) - 4
+    for one in paragraphs_:
+        if len(one) == 1 and not one[0].startswith(("#", "```", "|", " ")):
+            one = textwrap.wrap(one[0], width, break_long_words=False, break_on_hyphens=False)
+        lines += [""] * bool(lines) + one
     return f"\n{indent}".join(f"{mark} {line}".rstrip() for line in lines)
 
 
