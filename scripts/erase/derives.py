@@ -16,7 +16,7 @@ GROWS = set("""
     LinkLayerType LinkMessage LinkMode LinkPhysId LinkProtoInfoBridge LinkProtoInfoInet6 LinkProtocolDownReason LinkXdp
     Map MctpPhysBinding Prop State Stats Stats64 VfInfo VfInfoBroadcast VfInfoGuid VfInfoLinkState VfInfoMac VfInfoRate
     VfInfoRssQueryEn VfInfoSpoofCheck VfInfoTrust VfInfoTxRate VfInfoVlan VfLinkState VfPort VfStats VfVlan VfVlanInfo
-    VlanProtocol WirelessEvent XdpAttached
+    VlanProtocol WirelessEvent WirelessEventView XdpAttached
 """.split())
 SERDE = '#[cfg_attr(feature = "serde", derive(serde::Serialize, serde::Deserialize))]'
 ORDER = ["Clone", "Copy", "Debug", "Default", "PartialEq", "Eq", "PartialOrd", "Ord", "Hash"]
@@ -25,9 +25,6 @@ EMPTY = {"LinkVfInfo", "LinkVfPort"}
 # Equality of these is written out, for their models, or they are not compared in the sources.
 COMPARED = {"DefaultNla", "Element", "Field", "Info", "KindRow", "Member", "NlaBuffer", "Place", "Plain", "Row",
             "Size", "Style", "Value", "WirelessEventView"}
-# A new kernel adds to these too, which borrow and so are not stored.
-BORROW = {"WirelessEventView"}
-
 
 ATTRIBUTES = rf"(?:\s*(?:#\[(?P<%s>{PAIR}).*?\](?P=%s)|{DOC}))*\s*"
 BODY = rf"(?:\{{(?P<p>{PAIR})(?P<named>.*?)\}}(?P=p)|\((?P<q>{PAIR})(?P<listed>.*?)\)(?P=q))?"
@@ -56,14 +53,13 @@ def derives(s, is_crate):
 
 
 def stored(s, found, kept):
-    """A value of a message can be stored, by the feature `serde`."""
+    """A value of a message can be stored, by the feature `serde`, if it does not borrow."""
     name = found["type"]
-    if "Eq" in kept and name not in NOT_STORED and not found["front"].startswith("<"):
-        keeps_others = found["kind"] == "enum" and re.search(r"\bOther\b", found["named"])
-        if keeps_others and name not in GROWS:
-            s.fail(found.start("type"), f"{name} keeps others, and is not in GROWS of derives.py")
-        return "\n" + SERDE + "\n#[non_exhaustive]" * (name in GROWS)
-    return "\n#[non_exhaustive]" * (name in BORROW)
+    is_stored = "Eq" in kept and name not in NOT_STORED and not found["front"].startswith("<")
+    keeps_others = found["kind"] == "enum" and re.search(r"\bOther\b", found["named"])
+    if is_stored and keeps_others and name not in GROWS:
+        s.fail(found.start("type"), f"{name} keeps others, and is not in GROWS of derives.py")
+    return f"\n{SERDE}" * is_stored + "\n#[non_exhaustive]" * (name in GROWS)
 
 
 def wanted(s, name, had, kept):
