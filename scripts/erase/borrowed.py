@@ -58,7 +58,7 @@ def variants(rows):
     return [f"    {row.name}({value(row.held)})," for row in rows] + ["    Other(NlaBuffer<'a>),"]
 
 
-def stands(enum, owned, variant, type_, row, reader):
+def stands(owned, variant, type_, row, reader):
     name, held = row.name, row.held
     if is_list(held):
         line = f"{owned} ({variant}.{name} v) = {reader} v.now >>= λ vs. Ok ({type_}.{name} vs)"
@@ -104,16 +104,12 @@ def attributes(text):
 OTHER = keys.Row("", "Other", "DefaultNla", "", "", "")
 
 
-def readers():
-    """By variant the reader of its list, as the table names it."""
-    for line, name, variant in re.findall(r"^    (?:& )?(line|line_where|written) .*?(\w+) Attributes\.(\w+)",
-                                          table_of("link_msg"), re.M):
-        yield variant, f"{name}.grammar.reads" if line == "written" else f"{name}.codec.grammar.reads"
-
-
 def attribute_specs(text):
-    reader = dict(readers())
-    lines = [stands("BorrowedAttribute", "owned", "Borrowed", "Attributes", row, reader.get(row.name))
+    # by variant the reader of its list, as the table names it
+    reader = {variant: f"{name}.grammar.reads" if line == "written" else f"{name}.codec.grammar.reads"
+              for line, name, variant in re.findall(
+                  r"^    (?:& )?(line|line_where|written) .*?(\w+) Attributes\.(\w+)", table_of("link_msg"), re.M)}
+    lines = [stands("owned", "Borrowed", "Attributes", row, reader.get(row.name))
              for row in [*keys.rows(), OTHER]]
     return between(text, r"^abbrev pub owned : .*\n([\s\S]*?)\n\Z", lines)
 
@@ -122,10 +118,9 @@ def attribute_specs(text):
 
 def inner(crate):
     """The enums of a crate: its name, what is said of it, and its rows."""
-    for one, _, source in keys.sources():
-        if one == crate:
-            for enum, said in keys.enums(source):
-                yield enum, said, list(keys.inner_rows(source, enum))
+    for source in keys.sources(crate):
+        for enum, said in keys.enums(source):
+            yield enum, said, list(keys.inner_rows(source, enum))
 
 
 def place_of(crate, enum):
@@ -198,18 +193,9 @@ def member_specs(crate, text):
                 place = place_of(crate, re.fullmatch(r"List<(\w+)>", row.held)[1])
                 listed = f"(list {place}.grammar)"
                 reader = (f"(not_empty {listed})" if row.how == "some" else listed) + ".reads"
-            lines.append(stands(enum, f"owned_{snake}", f"Borrowed{enum}Of", f"{enum}Of", row, reader))
+            lines.append(stands(f"owned_{snake}", f"Borrowed{enum}Of", f"{enum}Of", row, reader))
         text = between(text, rf"^abbrev pub owned_{snake} : .*\n([\s\S]*?)\n(?:\n|\Z)", lines)
     return text
-
-
-def made():
-    """The files, each with its text."""
-    yield "src/borrowed.rt", attributes
-    yield "specs/Borrowed.antt", attribute_specs
-    for crate in keys.INNER:
-        yield f"src/{module_of(crate)}.rt", functools.partial(members, crate)
-        yield f"specs/{module_of(crate).capitalize()}.antt", functools.partial(member_specs, crate)
 
 
 def squeezed(text):
@@ -219,7 +205,11 @@ def squeezed(text):
 
 def stale():
     """The files that are not what is made of the rows, each with its text."""
-    for path, make in made():
+    makes = {"src/borrowed.rt": attributes, "specs/Borrowed.antt": attribute_specs}
+    for crate in keys.INNER:
+        makes[f"src/{module_of(crate)}.rt"] = functools.partial(members, crate)
+        makes[f"specs/{module_of(crate).capitalize()}.antt"] = functools.partial(member_specs, crate)
+    for path, make in makes.items():
         there = VIEW / path
         before = there.read_text("utf-8")
         text = make(before)

@@ -58,10 +58,10 @@ def first(said):
     return found[1]
 
 
-def listed(held, said):
+def listed(held, is_some):
     """The value of a list, and how it is read."""
     inner = re.fullmatch(r"List<(\w+)>", held)[1]
-    return f"ListView<'a, {TYPED.get(inner, 'crate::' + inner)}>", "some" if "non-empty" in said else "list"
+    return f"ListView<'a, {TYPED.get(inner, 'crate::' + inner)}>", "some" if is_some else "list"
 
 
 def doc(said):
@@ -74,19 +74,15 @@ def snake(name):
 
 # ** the attributes of a message
 
-def families(said):
-    """Under which family of the header it is the variant: any, or the rest of them."""
-    named = re.search(r"of the family AF_(\w+)", said)
-    return named[1].capitalize() if named else "rest" if "of any other family" in said else "any"
-
-
 def rows():
     """The rows of `LinkAttribute`."""
     source = ROWS.read_text("utf-8")
     number_of = dict(re.findall(r"^ +(?:held|plain|mask) (\w+)\(\w+ => (IFLA_\w+)", source, re.M))
     for said, name, held in declared(source, "LinkAttribute"):
-        value, how = VALUES.get(held) or listed(held, said)
-        yield Row(said, name, held, number_of.get(name) or first(said), value, how, families(said))
+        family = re.search(r"of the family AF_(\w+)", said)
+        family = family[1].capitalize() if family else "rest" if "of any other family" in said else "any"
+        yield Row(said, name, held, number_of.get(name) or first(said),
+                  *(VALUES.get(held) or listed(held, "non-empty" in said)), family)
 
 
 def keyed(rows_):
@@ -96,23 +92,15 @@ def keyed(rows_):
 
 # ** the attributes of inner lists
 
-def member(said, name, held, some):
-    """The value of a member, and how it is read."""
-    if held == "Text":
-        return "&'a str", "text"
-    if held.startswith("List<"):
-        return listed(held, "non-empty" if name in some else "")
-    kind = held if held in NUMBERS else f"crate::rattle::net::{held}" if held == "Ipv6Addr" else f"crate::{held}"
-    return kind, "same"
-
-
 def inner_rows(source, enum):
     """The rows of an inner list."""
     some = re.findall(r"^ +some (\w+)\(", source, re.M)
-    for text, name, held in declared(source, enum):
-        if "written only" not in text:
-            value, how = member(text, name, held, some)
-            yield Row(text, name, held, first(text), value, how)
+    for said, name, held in declared(source, enum):
+        kind = held if held in NUMBERS else f"crate::rattle::net::{held}" if held == "Ipv6Addr" else f"crate::{held}"
+        value, how = (VALUES[held] if held == "Text" else
+                      listed(held, name in some) if held.startswith("List<") else (kind, "same"))
+        if "written only" not in said:
+            yield Row(said, name, held, first(said), value, how)
 
 
 def inner(crate, source, enum, said):
@@ -124,11 +112,9 @@ def inner(crate, source, enum, said):
     return typed.form("members", [], made + keyed(inner_rows(source, enum)))
 
 
-def sources():
-    """The sources of the crates of inner lists."""
-    for crate in INNER:
-        for path in sorted((CRATES / crate / "src").glob("*.rt")):
-            yield crate, path.stem, path.read_text("utf-8")
+def sources(crate):
+    """The sources of a crate."""
+    return [path.read_text("utf-8") for path in sorted((CRATES / crate / "src").glob("*.rt"))]
 
 
 def enums(source):
@@ -138,18 +124,12 @@ def enums(source):
             yield enum, " ".join(re.findall(r"/// (.*)", said))
 
 
-def entries(source):
-    """The entries of a source that are lists themselves: the type, and its members."""
-    return re.findall(r"^pub struct (\w+)\(pub List<(\w+)>\);[\s\S]*?const NUMBER: u16 = ", source, re.M)
-
-
 def lists():
-    """The enums of inner lists, and the lists of lists."""
-    for crate, _, source in sources():
-        for enum, said in enums(source):
-            yield inner(crate, source, enum, said)
-        for enum, held in entries(source):
-            yield f"entries!({enum} {held});\n"
+    """The enums of inner lists, and the entries that are lists themselves."""
+    for crate, source in ((crate, source) for crate in INNER for source in sources(crate)):
+        yield from (inner(crate, source, enum, said) for enum, said in enums(source))
+        for found in re.findall(r"^pub struct (\w+)\(pub List<(\w+)>\);[\s\S]*?const NUMBER: u16 = ", source, re.M):
+            yield f"entries!({' '.join(found)});\n"
 
 
 # ** the data of kinds
