@@ -38,11 +38,6 @@ def is_list(held):
     return held == "LinkVfPort" or held.startswith("List<") and held != "List<LinkExtentMask>"
 
 
-def value(held):
-    """The value over borrowed bytes: of a list its payload."""
-    return "&'a [u8]" if is_list(held) else HELD.get(held, (held,))[0]
-
-
 def arm(enum, row):
     """What is made of a payload."""
     if is_list(row.held):
@@ -55,7 +50,9 @@ def arm(enum, row):
 
 
 def variants(rows):
-    return [f"    {row.name}({value(row.held)})," for row in rows] + ["    Other(NlaBuffer<'a>),"]
+    """What variants hold over borrowed bytes, of a list its payload."""
+    held = [HELD.get("Bytes" if is_list(row.held) else row.held, (row.held,))[0] for row in rows]
+    return [f"    {row.name}({one})," for row, one in zip(rows, held)] + ["    Other(NlaBuffer<'a>),"]
 
 
 def stands(owned, variant, type_, row, reader):
@@ -76,28 +73,23 @@ def between(text, expression, lines):
 
 # ** the attributes of a message
 
-def outer_arm(row):
-    """The arm of a number that no family decides."""
-    made = arm("BorrowedAttribute", row)
-    if row.how == "sized":
-        other = "_ => Ok(BorrowedAttribute::Other(frame)),"
-        return f"{row.number} => match payload.len() {{ 2 => {made}, {other} }},"
-    return f"{row.number} => {made},"
-
-
 def attributes(text):
-    rows, families = list(keys.rows()), {}
-    arms = [outer_arm(row) for row in rows if row.family == "any"]
+    rows, families, arms, other = list(keys.rows()), {}, [], "_ => Ok(BorrowedAttribute::Other(frame)),"
     for row in rows:
+        made = arm("BorrowedAttribute", row)
         if row.family != "any":
             family = "_" if row.family == "rest" else f"AddressFamily::{row.family}"
-            families.setdefault(row.number, []).append(f"{family} => {arm('BorrowedAttribute', row)},")
+            families.setdefault(row.number, []).append(f"{family} => {made},")
+        elif row.how == "sized":
+            arms.append(f"{row.number} => match payload.len() {{ 2 => {made}, {other} }},")
+        else:
+            arms.append(f"{row.number} => {made},")
     text = between(text, r"^pub enum BorrowedAttribute<'a> \{\n([\s\S]*?)\n\}", variants(rows))
     for number, ones in families.items():
         name = number.removeprefix("IFLA_").lower().replace("protinfo", "proto_info")
         arms.append(f"{number} => {name}_of(frame, family),")
         text = between(text, rf"^fn {name}_of<[\s\S]*?    match family \{{\n([\s\S]*?)\n    \}}\n", ones)
-    arms.append("_ => Ok(BorrowedAttribute::Other(frame)),")
+    arms.append(other)
     return between(text, r"^pub\(crate\) fn read_frame<[\s\S]*?    match kind \{\n([\s\S]*?)\n    \}\n", arms)
 
 
