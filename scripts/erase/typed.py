@@ -1,10 +1,11 @@
 """Makes the types of link data of the tables of crates/link_info: an enum of each place, with a variant of each row."""
-import os
 import re
 import textwrap
+from pathlib import Path
 
-HERE = os.path.dirname(os.path.abspath(__file__))
-CRATE = os.path.join(HERE, "..", "..", "crates", "link_info", "src")
+HERE = Path(__file__).resolve().parent
+CRATE = HERE.parents[1] / "crates/link_info/src"
+TABLE = (HERE / "typed.txt").read_text("utf-8")
 SIZES = {"One": 1, "Two": 2, "Four": 4, "Eight": 8}
 WIDTH = 120
 NESTED = 0x8000                                 # NLA_F_NESTED
@@ -13,29 +14,17 @@ NESTED = 0x8000                                 # NLA_F_NESTED
 
 def names(section):
     """The rows of a part of typed.txt, by all words but the last, which is the name."""
-    with open(os.path.join(HERE, "typed.txt"), encoding="utf-8") as file:
-        part = re.search(rf"^\[{section}\]\n(.*?)(?:\n\n|\Z)", file.read(), re.M | re.S)[1]
+    part = re.search(rf"^\[{section}\]\n(.*?)(?:\n\n|\Z)", TABLE, re.M | re.S)[1]
     rows = [line.split() for line in part.strip().split("\n")]
     return {row[0] if len(row) < 3 else tuple(row[:-1]): row[-1] for row in rows}
 
 
 WORDS, PLACES, WHOLE, ROWS, VALUES = map(names, ("words", "places", "whole", "rows", "values"))
 TYPES, MEMBERS, FIELDS, MESSAGES = map(names, ("types", "members", "fields", "messages"))
-# Types that the crate has by hand.
-THERE = {"VlanProtocol": "crate::VlanProtocol"}
 
 # ** what the tables have not: they name what linkshow names, and no more
 
 NAMED, NUMBERS, FLAGS = map(names, ("named", "numbers", "flags"))
-
-
-def named(name):
-    """The names of a number that the tables show without: the type, whether these are flags, and each with its name."""
-    is_flags = any(one == name for one, _ in FLAGS)
-    rows = FLAGS if is_flags else NUMBERS
-    return name, is_flags, tuple((int(number, 0), text) for (one, number), text in rows.items() if one == name)
-
-
 # The width of such a type, where its rows have several.
 BITS = {"LacpState": 1}
 # Places that no table has, with what is said of them.
@@ -64,8 +53,7 @@ CONSTANT = re.compile(r"const (\w+): ([^=]+?)\s* = ([^;]+);", re.S)
 
 
 def read(name, crate=CRATE):
-    with open(os.path.join(crate, name), encoding="utf-8") as file:
-        return file.read()
+    return Path(crate, name).read_text("utf-8")
 
 
 def constants(text):
@@ -81,7 +69,7 @@ def constants(text):
 def tables(crate=CRATE):
     """The rows of each table, by its file and constant, and all other constants of the files."""
     found, common = {}, {}
-    files = [name[:-3] for name in os.listdir(os.path.join(crate, "tables"))]
+    files = [path.stem for path in Path(crate, "tables").iterdir()]
     for name in sorted(files, key=lambda it: (it != "mod", it)):
         local, items = dict(common), constants(read(f"tables/{name}.rt", crate))
         for wanted in KINDS:
@@ -150,8 +138,8 @@ class Maker:
         return name
 
     def number(self, name, size, names, is_flags):
-        if name in THERE:
-            return THERE[name]
+        if "::" in name:                        # the crate has it by hand
+            return name
         size = BITS.get(name, size)
         digits = hex if is_flags or size == 8 else str
         lines = [f'{digits(n)} {VALUES.get(text) or camel(text)} "{text}",' for n, text in names]
@@ -161,8 +149,12 @@ class Maker:
         """The type of a value of this spelling, which is made if it has names."""
         kind = plain[0]
         if (place, row) in NAMED and kind == "Unsigned":
-            name, is_flags, names = named(NAMED[place, row])
-            return self.number(name, plain[1], names, is_flags)
+            # a number that the tables show without names
+            name = NAMED[place, row]
+            is_flags = name in {one for one, _ in FLAGS}
+            rows = FLAGS if is_flags else NUMBERS
+            named = [(int(number, 0), text) for (one, number), text in rows.items() if one == name]
+            return self.number(name, plain[1], named, is_flags)
         if kind in ("Unsigned", "BigEndian"):
             return f"u{8 * plain[1]}"
         if kind == "Signed":
