@@ -34,11 +34,9 @@ CRATES = TOP / "crates"
 RATTLE = HERE / "rattle"                    # what stands for Rattle's std in the crate
 ROOTS = ["link_msg", "link_state", "link_view"]     # what they give again stands at the root
 TOPS = ROOTS + ["link_info"]                # they give again what a user sees
-RUN = ["args", "stdin", "stdout"]           # a program's stored run
 LEFT_OUT = ["laws", "exact", "values"]      # modules that state laws, and those that are Rust's own in the crate
 COMMON = ["number.rs", "str.rs"]
 MADE = ["LICENSE", "MOVING.md", "conditions.txt", "src/generated"]      # what is made of a crate's package
-EXPORTS = "link_c"                          # the crate of the library for C
 BY_HAND = TOP / "rust" / "src"              # the rest of its sources
 COPIED = "// Copied from scripts/erase/{}: do not edit here.\n"
 LIBRARIES = "//! The crates of the library for C, and what stands for Rattle's std.\n\n"
@@ -72,7 +70,7 @@ class Mode:
                   re.findall(r"^(\w+)[^:\n]*:?(.*)", read(TOP / "crates.txt"), re.M)}
         self.is_crate, self.is_tests = made == "crate", made == "tests"
         self.programs = [name for name in sorted(crates) if (CRATES / name / "src" / "main.rt").exists()]
-        tops = {"crate": TOPS, "capi": [EXPORTS]}.get(made, crates)
+        tops = {"crate": TOPS, "capi": ["link_c"]}.get(made, crates)
         self.libraries = sorted(below(crates, tops) - {*self.programs})
         self.programs = self.programs if self.is_tests else []
         self.memory_names = set()           # functions that fail for memory alone
@@ -131,23 +129,26 @@ def erase(path, text, crate, mode):
         imported += paths.of_alloc(s)
     if not mode.is_tests:
         rules.apply(s, rules.OLDER)
-    return with_imports(s.rust(), "".join(f"use {path};\n" for path in imported))
-
-
-def with_imports(text, imported):
-    """The text with imports after the comments and attributes of the whole file."""
+    text = s.rust()
+    # behind the comments and attributes of the whole file
     front = re.match(r"(?:(?://!|#!\[).*\n)*\n?", text).end()
     gap = "\n" * (bool(imported) and not text.startswith("use ", front))
-    return text[:front] + imported + gap + text[front:]
+    return text[:front] + "".join(f"use {path};\n" for path in imported) + gap + text[front:]
 
 
 def look(mode):
-    """The first pass: which functions of the package fail for memory alone, and which names a user sees."""
+    """The first pass: which functions of the package fail for memory alone, and which names a user sees; what the calls
+    by hand require, and whether lib.rs has the modules that are made."""
     for crate, base, path in mode.sources():
         s = Source(path, read(path))
-        mode.memory_names |= memory.fails_for_memory(s)
+        mode.memory_names |= {found["name"] for found in s.find(memory.FAILS)}
         if crate in TOPS and base == "lib":
             mode.public |= surface.given_again(s)
+    for path in BY_HAND.glob("*.rs"):
+        mode.conditions += owed.written(Source(path, read(path)))
+    named = re.findall(r'^#\[path = "generated/(\w+)/mod.rs"\]', read(BY_HAND / "lib.rs"), re.M)
+    if sorted(named) != sorted(mode.libraries + ["rattle"]):
+        raise Unknown(f"rust/src/lib.rs: the modules that are made are {', '.join(mode.libraries)}, rattle")
 
 
 def make(mode, out):
@@ -171,9 +172,8 @@ def copy_tests(mode, out):
         has_tests = str((CRATES / name / "src" / "tests.rt").exists()).lower()
         bins += f'\n[[bin]]\nname = "{name}"\npath = "src/bin/{name}/main.rs"\ntest = {has_tests}\n'
         (out / "runs" / name).mkdir(parents=True)
-        for it in RUN:
-            if (CRATES / name / it).exists():
-                shutil.copy(CRATES / name / it, out / "runs" / name)
+        for it in {"args", "stdin", "stdout"} & {path.name for path in (CRATES / name).iterdir()}:
+            shutil.copy(CRATES / name / it, out / "runs" / name)
     for name, mark, text in (("src/lib.rs", "// MODULES\n", modules), ("Cargo.toml", "# BINS\n", bins),
                              ("tests/stored.rs", "PROGRAMS", " ".join(mode.programs))):
         write(out / name, read(out / name).replace(mark, text))
@@ -191,22 +191,12 @@ def copy_std(mode, out):
     shutil.copy(TOP / "LICENSE", out / "LICENSE")
 
 
-def look_by_hand(mode):
-    """What the calls by hand require, and whether lib.rs has the modules that are made."""
-    for path in BY_HAND.glob("*.rs"):
-        mode.conditions += owed.written(Source(path, read(path)))
-    named = re.findall(r'^#\[path = "generated/(\w+)/mod.rs"\]', read(BY_HAND / "lib.rs"), re.M)
-    if sorted(named) != sorted(mode.libraries + ["rattle"]):
-        raise Unknown(f"rust/src/lib.rs: the modules that are made are {', '.join(mode.libraries)}, rattle")
-
-
 def make_all(mode, out):
     """All files of a package that are made."""
     for folder in ("src" if mode.is_tests else "src/generated", "runs"):
         shutil.rmtree(out / folder, ignore_errors=True)
     (copy_tests if mode.is_tests else copy_std)(mode, out)
     if mode.is_crate:
-        look_by_hand(mode)
         look(mode)
     make(mode, out)
     if mode.is_crate:

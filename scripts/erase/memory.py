@@ -11,11 +11,6 @@ FAILS = (r"/(?P<call>\bfn (?P<name>\w+)/ (..) /)/ - > Result < /(?P<type>[^{};]*
          r"/(?P<more>[^{};]*)(?P<body>/ {..} /|;)/")
 
 
-def fails_for_memory(s):
-    """The functions that return `Result<T, AllocError>`: their names."""
-    return {found["name"] for found in s.find(FAILS)}
-
-
 def unwrap_functions(s):
     """Those functions return their values, `Ok(value)` is the value."""
     def put(found):

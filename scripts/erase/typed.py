@@ -155,10 +155,8 @@ class Maker:
             rows = FLAGS if is_flags else NUMBERS
             named = [(int(number, 0), text) for (one, number), text in rows.items() if one == name]
             return self.number(name, plain[1], named, is_flags)
-        if kind in ("Unsigned", "BigEndian"):
-            return f"u{8 * plain[1]}"
-        if kind == "Signed":
-            return f"i{8 * plain[1]}"
+        if kind in ("Unsigned", "BigEndian", "Signed"):
+            return f"{'i' if kind == 'Signed' else 'u'}{8 * plain[1]}"
         if kind.endswith(("Named", "Flags")):
             return self.number(name, plain[1], plain[2], kind.endswith("Flags"))
         return {"Mac": "[u8; 6]", "Ipv4": "Ipv4Addr", "Ipv6": "Ipv6Addr"}.get(kind) or f"[u8; {plain[1]}]"
