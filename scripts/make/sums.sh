@@ -10,54 +10,36 @@
 #     sums.sh check           compares all; where rt is on the path and is not the toolchain that made them, it says so
 self=dist
 . "$(dirname "$0")/../common.sh"
-shopt -s inherit_errexit
+shopt -s inherit_errexit nullglob globstar
 export LC_ALL=C
 cd "$top"
 sums=dist/SUMS
-names() {
-    sed -n 's/^TEXTS = //p' dist/Makefile | sed "s/\$(PROGRAMS)/$(sed -n 's/^PROGRAMS = //p' dist/Makefile)/" |
-        tr ' ' '\n'
-}
-archs() {
-    awk '!/^#/ { print $1 }' scripts/make/targets.txt
-}
+read -ra names <<<"link_c $(sed -n 's/^PROGRAMS = //p' dist/Makefile)"
+mapfile -t archs < <(awk '!/^#/ { print $1 }' scripts/make/targets.txt)
+by_hand=(Makefile completions/* dist/*.c dist/*.in dist/*.map dist/Makefile include/*.h programs/*)
 
 # sources CRATE..: their sums
 sources() {
-    local it folders=()
+    local it files=()
     for it in "$@"; do
-        [ ! -d "crates/$it/src" ] || folders+=("crates/$it/src")
+        files+=("crates/$it/src"/**/*.rt)
     done
-    [ "${#folders[@]}" = 0 ] || find "${folders[@]}" -name '*.rt' -type f -exec sha256sum {} +
-}
-
-# what is written by hand
-hand_written() {
-    printf '%s\n' Makefile completions/* dist/*.c dist/*.in dist/*.map dist/Makefile include/*.h programs/*
+    sha256sum "${files[@]}" </dev/null
 }
 
 make_sums() {
-    local all=() name arch crate
-    for name in $(names); do
-        mapfile -t -O "${#all[@]}" all < <(crates_below "$name")
-    done
-    mapfile -t all < <(printf '%s\n' "${all[@]}" | sort -u)
+    local all arch crate
+    mapfile -t all < <(for it in "${names[@]}"; do crates_below "$it"; done | sort -u)
     echo "# What dist/ and a build are made of: sha256sum -c dist/SUMS compares the files, scripts/make/sums.sh all."
     echo "# toolchain $(rt version)"
     for crate in "${all[@]}"; do
         sed -n "s/^${crate}[: ]/# crates.txt &/p" crates.txt
     done
     sources "${all[@]}" | sort -k 2
-    for arch in $(archs); do
-        names | sed "s|.*|dist/$arch/&.s|" | xargs sha256sum
+    for arch in "${archs[@]}"; do
+        printf "dist/$arch/%s.s\n" "${names[@]}" | xargs sha256sum
     done
-    hand_written | xargs sha256sum
-}
-
-# the same, where the texts and their sources stay as they were
-make_written() {
-    sed '/^#/p; /  crates\//p; /  dist\/.*\.s$/p; d' "$sums"
-    hand_written | xargs sha256sum
+    sha256sum "${by_hand[@]}"
 }
 
 # unfit ARCH NAME..: of each text that does not fit a line, its name and what changed. Each file is read once.
@@ -80,36 +62,18 @@ unfit() {
 
 # changed NAME TEXT: what is not `now` as it `was`: first the lines of its crates, then their sources, and the text
 changed() {
-    local below lines it
+    local below
     grep -q "  $2$" <<<"$now" || { echo "$2 is missing"; return; }
     grep -q "^$1[: ]" <<<"$was" || { echo "$sums has no line of $1"; return; }
     below=$(crates_below "$1" | paste -sd '|')
-    lines=$(grep -E "^(${below:-$1})[: ]|  crates/($below)/src/|  $2$" <<<"$now"$'\n'"$was" | sort | uniq -u)
-    for it in '/  /!' '/  crates/' '/  dist/'; do
-        it=$(sed -n "$it{p;q;}" <<<"$lines")
-        case $it in
-        *'  crates/'*) echo "${it#*  } changed since dist/ was made" ;;
-        *'  dist/'*) echo "$2 is not the text of $sums" ;;
-        ?*) echo "the line of ${it%%[: ]*} in crates.txt changed since dist/ was made" ;;
-        '') continue ;;
-        esac
-        return
-    done
-}
-
-# unfit_written FILE..: the first that does not fit, and what is wrong with it
-unfit_written() {
-    local it
-    for it in "$@"; do
-        [ -e "$it" ] || { echo "$it is missing" && return; }
-    done
-    it=$(sha256sum "$@" | grep -vxFf "$sums" | sed -n '1s/^[^ ]* *//p') || true
-    [ -z "$it" ] || echo "$it is not the file of $sums"
+    grep -E "^(${below:-$1})[: ]|  crates/($below)/src/|  $2$" <<<"$now"$'\n'"$was" | sort | uniq -u |
+        sed "s|.*  \(crates/.*\)|2 \1 changed since dist/ was made|; s|.*  dist/.*|3 $2 is not the text of $sums|; t
+            s|\([a-z0-9_]*\).*|1 the line of \1 in crates.txt changed since dist/ was made|" | sort | sed -n '1s/..//p'
 }
 
 # why ARCH NAME.. -- FILE..
 why() {
-    local what names files words="$*"
+    local it what names files words="$*" fix=': make sums writes its sum anew, or put the file back'
     read -ra names <<<"${words%% -- *}"
     read -ra files <<<"${words#* -- }"
     what=$([ "${#names[@]}" -lt 2 ] || unfit "${names[@]}" | sed -n '1s/^[^ ]* //p')
@@ -119,16 +83,17 @@ why() {
             "proves one build"
         return
     fi
-    what=$(unfit_written "${files[@]}")
-    [ -z "$what" ] || echo "$what: make sums writes its sum anew, or put the file back"
+    for it in "${files[@]}"; do
+        [ -e "$it" ] || { echo "$it is missing$fix" && return; }
+    done
+    sha256sum "${files[@]}" | grep -vxFf "$sums" | sed -n "1s|^[^ ]* *\(.*\)|\1 is not the file of $sums$fix|p" || true
 }
 
 check() {
-    local arch what by all files
-    mapfile -t all < <(names)
-    mapfile -t files < <(hand_written && sed '/^#/d; /  crates\//d; /\.s$/d; s/^[^ ]* *//' "$sums")
-    for arch in $(archs); do
-        what=$(why "$arch" "${all[@]}" -- "${files[@]}")
+    local arch what by files
+    mapfile -t files < <(grep -vE '^#|  crates/|\.s$' "$sums" | sed 's/^[^ ]* *//')
+    for arch in "${archs[@]}"; do
+        what=$(why "$arch" "${names[@]}" -- "${by_hand[@]}" "${files[@]}")
         [ -z "$what" ] || fails "$what"
     done
     by=$(sed -n 's/^# toolchain //p' "$sums")
@@ -140,7 +105,8 @@ check() {
 
 case $1 in
 make) make_sums ;;
-written) make_written ;;
+# the texts and their sources stay as they were
+written) grep -E '^#|  crates/|  dist/.*\.s$' "$sums" && sha256sum "${by_hand[@]}" ;;
 unfit) unfit "${@:2}" | cut -d ' ' -f 1 ;;
 why) why "${@:2}" ;;
 check) check ;;
