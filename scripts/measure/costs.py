@@ -46,9 +46,7 @@ OPTIONS = {"linkshow--lenient": ["--lenient"], "linkshow--kernel": ["--kernel", 
 OF_OPTIONS = ["dumps", "repeats", "events", "damaged", "settings-64", "swapped-64", "all-refused", "refused-turning",
               "refused-64", "refused-256"]
 LIBRARY, CRATE, DUMP = "link_c", "rust", "linkdump--read"
-CALLS = ["check", "canonical_len", "canonical", "state", "same_message", "unlike_message", "same_state", "unlike_state",
-         "next", "pick", "put", "fault_at", "fault_path", "canonical_lenient_len", "canonical_lenient", "state_lenient",
-         "refusal_next", "show", "show_leniently", "diff", "diff_leniently"]
+CALLS = re.findall(r'^    \{"(\w+)", \1\},$', pathlib.Path(f"{HERE}/calls.c").read_text("ascii"), re.M)
 OF_CALLS = ["dumps", "requests", "functions-300", "damaged", "names-of-three", "all-refused"]
 OF_CRATE = [f"{CRATE}_{call}" for call in ("check", "parse", "to_vec", "attributes", "view", "unchecked_view")]
 # What is counted: the text it stands in, or what else is built for it, and how it is run, `{}` its workload. The name
@@ -86,17 +84,6 @@ def stop(why):
 
 # ** building
 
-def functions(text):
-    """The names of the functions in a text."""
-    return set(re.findall(r"^\t\.type\t([\w.$]+),@function$", text, re.M))
-
-
-def uncounted(text):
-    """What a text calls of others that nothing counts."""
-    called = set(re.findall(r"\b([A-Za-z_]\w*)@(?:PLT|GOTPCREL)", text)) - functions(text)
-    return sorted(it for it in called - CALLED if not it.startswith("rattle_"))
-
-
 def link(texts, folder, names):
     """Builds these programs, and `calls` of the library, with what counts, and returns the functions of each text.
 
@@ -108,23 +95,19 @@ def link(texts, folder, names):
         subprocess.run([*CC, "-O2", "-fno-builtin", f"-I{TOP}/include", "-c", source], check=True, cwd=folder)
     for name in sorted(names - {CRATE, DUMP}):
         text = pathlib.Path(f"{texts}/{name}.s").read_text("utf-8")
-        if uncounted(text):
-            stop(f"{name}.s calls what nothing counts: {', '.join(uncounted(text))}")
-        own[name] = functions(text)
+        own[name] = set(re.findall(r"^\t\.type\t([\w.$]+),@function$", text, re.M))
+        others = set(re.findall(r"\b(?!rattle_)([A-Za-z_]\w*)@(?:PLT|GOTPCREL)", text)) - own[name] - CALLED
+        if others:
+            stop(f"{name}.s calls what nothing counts: {', '.join(sorted(others))}")
         more = ["calls.o", "-o", "calls"] if name == LIBRARY else ["errno.o", *LINKED, "-o", name]
         subprocess.run([*CC, *WRAP, f"{texts}/{name}.s", "heap.o", "count.o", *more], check=True, cwd=folder)
     if DUMP in names:
-        link_dump(folder)
+        sources = sorted(glob.glob(f"{TOP}/programs/linkdump*.c"))
+        words = ["-std=gnu11", "-D_GNU_SOURCE", "-DLINKDUMP_PCAP", "-O2", f"-I{TOP}/include", *WRAP, *sources]
+        subprocess.run([*CC, *words, "count.o", "-lpcap", "-o", "linkdump"], check=True, cwd=folder)
     if CRATE in names:
         link_crate(folder)
     return own
-
-
-def link_dump(folder):
-    """Builds linkdump with what counts."""
-    sources = sorted(glob.glob(f"{TOP}/programs/linkdump*.c"))
-    words = ["-std=gnu11", "-D_GNU_SOURCE", "-DLINKDUMP_PCAP", "-O2", f"-I{TOP}/include", *WRAP, *sources, "count.o"]
-    subprocess.run([*CC, *words, "-lpcap", "-o", "linkdump"], check=True, cwd=folder)
 
 
 def link_crate(folder):
@@ -264,29 +247,22 @@ def why_skipped():
     return None
 
 
-def unfit():
-    """The texts of dist/ that are not those of the sources."""
-    words = ["bash", f"{TOP}/scripts/make/sums.sh", "unfit", ARCH, *PROGRAMS, LIBRARY]
-    return subprocess.run(words, check=True, capture_output=True, text=True).stdout.split()
-
-
-def arguments():
+def main():
     parser = argparse.ArgumentParser(usage="costs.py [--make] [--texts FOLDER] [--rows FILE] [WHAT/WORKLOAD ..]")
     parser.add_argument("--make", action="store_true")
     parser.add_argument("--texts")
     parser.add_argument("--rows", default=ROWS)
     parser.add_argument("wanted", nargs="*")
-    return parser.parse_args()
-
-
-def main():
-    asked = arguments()
+    asked = parser.parse_args()
     skipped = why_skipped()
     if skipped:
         print(f"costs: skipped: {skipped}")
         return
-    if asked.texts is None and unfit():
-        stop(f"dist/ has other texts than those of the sources ({' '.join(unfit())}): make dist makes them anew")
+    if asked.texts is None:
+        words = ["bash", f"{TOP}/scripts/make/sums.sh", "unfit", ARCH, *PROGRAMS, LIBRARY]
+        unfit = subprocess.run(words, check=True, capture_output=True, text=True).stdout.split()
+        if unfit:
+            stop(f"dist/ has other texts than those of the sources ({' '.join(unfit)}): make dist makes them anew")
     workloads = cost_lines.workloads()
     wanted = {tuple(row.split("/")) for row in asked.wanted}
     rows = [row for row in all_rows(workloads) if not wanted or row in wanted]

@@ -13,6 +13,7 @@ edits/mutants.md has scores, and what else is kept. It uses what `make build` le
 import argparse
 import collections
 import functools
+import itertools
 import multiprocessing
 import os
 import random
@@ -57,16 +58,6 @@ class Run(NamedTuple):
     preloads: bool = False
 
 
-def words():
-    parser = argparse.ArgumentParser()
-    parser.add_argument("name", choices=("linkwire", "linkstate", "linkshow", "linkdiff", "link_c"))
-    for option, most in ("--count", 40), ("--seed", 7), ("--jobs", 2), ("--least", None):
-        parser.add_argument(option, type=int, default=most)
-    for option in "--list", "--unlike":
-        parser.add_argument(option, action="store_true")
-    return parser.parse_args()
-
-
 # ** mutants
 
 def turned(word):
@@ -106,17 +97,12 @@ def around(name, text, at, new, function):
         line = re.sub(r"\.LBB\d+_\d+|\.LJTI\d+_\d+", ".L", " ".join(line.split()))
         return re.sub(r"%[a-z]\w*", "%", line)
 
-    def near(step):
-        found, it = [], at + step
-        while len(found) < 4 and 0 <= it < len(text):
-            if text[it].strip() and not re.match(r"\t\.", text[it]):
-                found.append(plain(text[it]))
-            it += step
-        return found[::step]
+    def four(lines):
+        return list(itertools.islice((plain(it) for it in lines if it.strip() and not it.startswith("\t.")), 4))
 
     function, *own = re.split(r"\.([0-9a-f]{16})(?:\.\d+)?$", function or "")
-    return "; ".join([f"{name} {function}: ", *near(-1), f"[{plain(text[at])} -> {plain(new)}]", *near(1),
-                      *(f"of {it}" for it in own if it)])
+    return "; ".join([f"{name} {function}: ", *four(text[at - 1::-1])[::-1], f"[{plain(text[at])} -> {plain(new)}]",
+                      *four(text[at + 1:]), *(f"of {it}" for it in own if it)])
 
 
 def alike():
@@ -233,12 +219,6 @@ class Wanted(NamedTuple):
     there: set
 
 
-def is_told(name, folder, to, place, answered):
-    """Whether a run that comes to a place ends otherwise, or writes something else, than the text as it is."""
-    return any(run(it, to, "" if it.writes else f"{folder}/wanted{at}", want.most)[:2] != (want.status, True)
-               for at, (it, want) in enumerate(zip(runs(name, folder), answered)) if place in want.there)
-
-
 def answers(name, folder, text, lines):
     """Keeps what each run writes, and which of these lines it executes."""
     marked, last, wanted, to = [], 0, [], f"{folder}/marked"
@@ -262,14 +242,22 @@ def attempt(name, folder, text, wanted, work):
     to = f"{folder}/{number}"
     if not build(name, folder, [*text[:at], new, *text[at + 1:]], to):
         return "not built"
-    result = "told" if is_told(name, folder, to, at, wanted) else "kept"
+    # whether a run that comes to the place ends otherwise, or writes something else, than the text as it is
+    is_told = any(run(it, to, "" if it.writes else f"{folder}/wanted{which}", want.most)[:2] != (want.status, True)
+                  for which, (it, want) in enumerate(zip(runs(name, folder), wanted)) if at in want.there)
     for it in ("", ".s", ".o", ".seen", ".out"):
         Path(to + it).unlink(missing_ok=True)
-    return result
+    return "told" if is_told else "kept"
 
 
 def main():
-    given = words()
+    parser = argparse.ArgumentParser()
+    parser.add_argument("name", choices=("linkwire", "linkstate", "linkshow", "linkdiff", "link_c"))
+    for option, most in ("--count", 40), ("--seed", 7), ("--jobs", 2), ("--least", None):
+        parser.add_argument(option, type=int, default=most)
+    for option in "--list", "--unlike":
+        parser.add_argument(option, action="store_true")
+    given = parser.parse_args()
     os.chdir(TOP)
     if os.uname().machine != "x86_64":
         print("mutants: skipped: the texts that are changed are for x86_64")
@@ -301,16 +289,12 @@ def main():
             for (*_, what, fits), found in zip(work, tried):
                 results["told, and fits"] += fits and found == "told"
                 count("alike" if fits and found == "kept" else found, what)
-    tell(given, results)
-
-
-def tell(given, results):
     told, kept = results["told"], results["kept"]
-    print(f"mutants: {given.name}: seed {given.seed}: {told} of the {told + kept} that are executed and not alike are "
+    print(f"mutants: {name}: seed {given.seed}: {told} of the {told + kept} that are executed and not alike are "
           f"told; {results['alike']} are alike, and {results['told, and fits']} of the told fit a pattern of those; "
           f"{results['never executed']} are never executed, {results['not built']} do not assemble")
     if given.least is not None and told * 100 < given.least * (told + kept):
-        sys.exit(f"mutants: {given.name}: fewer than {given.least} of a hundred are told")
+        sys.exit(f"mutants: {name}: fewer than {given.least} of a hundred are told")
 
 
 if __name__ == "__main__":
