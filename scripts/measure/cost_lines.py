@@ -50,16 +50,6 @@ def turning(attributes):
 
 # ** messages as kernels send them
 
-def of_host(host, messages):
-    """Lines with the name of a machine in front."""
-    return [f"host={host} {message.hex()}" for message in messages]
-
-
-def with_index(message, index):
-    """The message, of another interface."""
-    return message[:4] + struct.pack("<i", index) + message[8:]
-
-
 def counters(number):
     """The statistics of a virtual function: all differ."""
     return frame(8, b"".join(frame(kind, struct.pack("<Q", number + kind)) for kind in (0, 1, 2, 3, 4, 5, 7, 8)))
@@ -151,18 +141,20 @@ def with_words(words):
 
 # ** the workloads
 
-def of_messages():
-    """The workloads of messages alone, by name; those that the calls of the library take are among them."""
+def workloads():
+    """The bytes of each workload, a line for each message, by name."""
     of = stored()
-    dumps = of["dump"]
+    dumps, first, again = of["dump"], of["first"], of["again"]
     kept = names(b"a name of twenty\0", 320)
     # numbers that no kernel sends
     unknown = [frame(1000 + number, b"kept") for number in range(2048)]
-    return {
+    # of messages alone; those that the calls of the library take are among them
+    messages = {
         "dumps": dumps,
-        "repeats": of["first"] + of["again"],
+        "repeats": first + again,
         "events": of["event"],
-        "collide": [with_index(message, 1 + at % 5) for at, message in enumerate(dumps)],
+        # five interfaces
+        "collide": [message[:4] + struct.pack("<i", 1 + at % 5) + message[8:] for at, message in enumerate(dumps)],
         "requests": of["request"],
         "functions-128": turning(functions(128)),
         "functions-300": turning(functions(300)),
@@ -192,30 +184,19 @@ def of_messages():
         # little more than 256 bytes, most of which is one text
         "one-text": [HEAD + alias for alias in aliases(240, 50)],
     }
-
-
-def of_text():
-    """The workloads with words in front of their messages, or with digits that are none, by name."""
-    of = stored()
-    first, again = of["first"], of["again"]
-    return {
-        "hosts": [line for messages in (first, again) for at in range(3) for line in of_host(f"rack{at}", messages)],
-        "one-host": of_host("rack", first + again + of["dump"] + of["event"]),
-        "no-digit": ["g" + message.hex()[1:] for message in of["dump"]],
+    # with words in front of their messages, or with digits that are none
+    lines = {
+        "hosts": [f"host=rack{at} {message.hex()}" for it in (first, again) for at in range(3) for message in it],
+        "one-host": [f"host=rack {message.hex()}" for message in first + again + dumps + of["event"]],
+        "no-digit": ["g" + message.hex()[1:] for message in dumps],
         "words-of-three": with_words("\1\1\1=\1\1\1 " * 7000),
         "words-of-a-quote": with_words('"=" ' * 7000),
         # the value is a byte that is no UTF-8, as surrogateescape has it
         "word-of-letters": with_words("\u00e9" * 15000 + '"=\udcff '),
         "long-key": with_words("\1" * 1_000_000 + "=1 "),
     }
-
-
-def workloads():
-    """The bytes of each workload, a line for each message, by name."""
-    found = {name: [message.hex() for message in messages] for name, messages in of_messages().items()}
-    found.update(of_text())
-    return {name: "".join(f"{line}\n" for line in lines).encode("utf-8", "surrogateescape")
-            for name, lines in found.items()}
+    lines = {name: [message.hex() for message in it] for name, it in messages.items()} | lines
+    return {name: "".join(f"{line}\n" for line in it).encode("utf-8", "surrogateescape") for name, it in lines.items()}
 
 
 def capture(lines):
