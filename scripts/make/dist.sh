@@ -5,7 +5,7 @@
 #     dist.sh --by-rattle NAME    has the toolchain's own compiler make a library
 . "$(dirname "$0")/../common.sh"
 cd "$top"
-read -ra programs <<<"$(sed -n 's/^PROGRAMS = //p' dist/Makefile)"
+read -ra names <<<"link_c $(sed -n 's/^PROGRAMS = //p' dist/Makefile)"
 mapfile -t archs < <(awk '!/^#/ { print $1 }' scripts/make/targets.txt)
 
 # verdicts NAME: what the toolchain said of the crate at last, for each processor
@@ -70,13 +70,11 @@ esac
 # a program that is new has no text yet, and sums want one
 for arch in "${archs[@]}"; do
     mkdir -p "dist/$arch"
-    for name in link_c "${programs[@]}"; do
-        [ -e "dist/$arch/$name.s" ] || : >"dist/$arch/$name.s"
-    done
+    printf "dist/$arch/%s.s\n" "${names[@]}" | xargs touch -a
 done
 # what changes meanwhile is seen by the sums: they are taken before and after
 scripts/make/sums.sh make | grep '  crates/' >"$folder/before"
-for name in link_c "${programs[@]}"; do
+for name in "${names[@]}"; do
     scripts/make/progress.sh "$name" "$folder/log" python3 "$top/scripts/make/text.py" "$folder"
     verdicts "$name"
 done
