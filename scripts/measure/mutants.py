@@ -1,15 +1,15 @@
 #!/usr/bin/env python3
 """Turns one instruction of a text in dist/ at a time, and looks whether the runs of `make self-test` tell.
 
-    mutants.py NAME [--count N] [--seed N] [--jobs N] [--least PERCENT] [--list] [--unlike]
+    mutants.py NAME [--count N] [--seed N] [--jobs N] [--least PERCENT] [--list]
 
 NAME is a program, or link_c for the library's calls. A conditional jump or move is turned round or moved by one, or a
 number is changed by one, in the file that is built of the text. A copy of the text in which each such place leaves a
 mark says first which runs come to it: a mutant runs those alone. It is told where an answer differs, or the program
 fails, or takes eight times as much of the processor's time. One that no run can tell is alike: tests/second/alike.txt
 has patterns of those, with reasons. With --least it fails where fewer than so many of a hundred are told, of those that
-are executed and not alike; --list prints what becomes of each; with --unlike those that a pattern fits are not run.
-edits/mutants.md has scores, and what else is kept. It uses what `make build` leaves in out/."""
+are executed and not alike; --list prints what becomes of each. edits/mutants.md has scores, and what else is kept. It
+uses what `make build` leaves in out/."""
 import argparse
 import collections
 import functools
@@ -48,13 +48,12 @@ __attribute__((constructor)) static void keep(void) {
 
 
 class Run(NamedTuple):
-    """Words of the program, the file it reads, the file it writes to if it is not looked at, and the words of a script
-    that runs it, in which TO is the program; or those of a program that calls the library, which it preloads."""
+    """The words of a command, in which TO is the program, the file it reads, the file it writes to if it is not looked
+    at, and whether it calls the library, which it then preloads."""
 
-    words: tuple = ()
+    words: tuple = ("TO",)
     reads: str = "/dev/null"
     writes: str = ""
-    script: tuple = ()
     preloads: bool = False
 
 
@@ -162,11 +161,11 @@ def runs(name, folder):
     """What `make self-test` runs of a program, or of the library, the short ones first."""
     if name == "link_c":
         sets = [("lines", it, what) for it in ("more", "mixed", "all") for what in ("calls", "held")]
-        return [Run(script=(f"{folder}/test.{it[0]}", *it[1:]), preloads=True)
-                for it in (*((it,) for it in TESTS), *sets)]
+        return [Run((f"{folder}/test.{it[0]}", *it[1:]), preloads=True) for it in (*((it,) for it in TESTS), *sets)]
     said = [line.split(" ")[2:] for line in (TOP / "tests/program/said.txt").read_text().split("\n")
             if line.startswith(f"$ {name} ")]
-    short = [Run((), str(TOP / f"crates/{name}/stdin")), Run(("--version",)), Run((), f"{folder}/digits", "/dev/full")]
+    short = [Run(reads=str(TOP / f"crates/{name}/stdin")), Run(("TO", "--version")),
+             Run(reads=f"{folder}/digits", writes="/dev/full")]
     parts = ["more", "digits", "mixed", *(f"all.{it:02}" for it in range(PARTS))]
     long = {"linkwire": [("", it) for it in parts],
             "linkstate": [(given, it) for given in ("", "--lenient") for it in parts],
@@ -178,11 +177,11 @@ def runs(name, folder):
     if name == "linkdiff":
         streams, files = str(TOP / "tests/second/streams.txt"), (f"{folder}/old", f"{folder}/new")
         each = (), ("--lenient",), ("--counters",), ("--counters", "--lenient")
-        short += [Run(it, streams) for it in (*each, ("--changes-only",), ("--changes-only", "--lenient"))]
-        short += [Run((*it, *files)) for it in each]
-    return [*short, *(Run(tuple(it), str(TOP)) for it in said),
-            *(Run(tuple(given.split()), f"{folder}/{made}") for given, made in long[name]),
-            Run(script=("sh", "tests/second/watched.sh", name, "TO", folder, f"{folder}/watch.so"))]
+        short += [Run(("TO", *it), streams) for it in (*each, ("--changes-only",), ("--changes-only", "--lenient"))]
+        short += [Run(("TO", *it, *files)) for it in each]
+    return [*short, *(Run(("TO", *it), str(TOP)) for it in said),
+            *(Run(("TO", *given.split()), f"{folder}/{made}") for given, made in long[name]),
+            Run(("sh", "tests/second/watched.sh", name, "TO", folder, f"{folder}/watch.so"))]
 
 
 def run(it, to, held, most=60):
@@ -194,7 +193,7 @@ def run(it, to, held, most=60):
     with open(f"{to}.seen", "wb") as seen:
         seen.truncate(1 << 20)
     source = os.open(it.reads, os.O_RDONLY)
-    command = [to if word == "TO" else word for word in it.script or (to, *it.words)]
+    command = [to if word == "TO" else word for word in it.words]
     # it ends at the first byte that differs, and then the program's next write ends that
     compared = subprocess.Popen(["cmp", "-s", "-", held], stdin=subprocess.PIPE) if held else None
     with compared.stdin if compared else open(it.writes or f"{to}.out", "wb") as out:
@@ -211,16 +210,9 @@ def run(it, to, held, most=60):
     return status, not compared or compared.wait() == 0, b"" if held else Path(f"{to}.seen").read_bytes()
 
 
-class Wanted(NamedTuple):
-    """What a run of the text as it is comes to: its status, the seconds it may take, and which lines it executes."""
-
-    status: int
-    most: int
-    there: set
-
-
 def answers(name, folder, text, lines):
-    """Keeps what each run writes, and which of these lines it executes."""
+    """Keeps what each run of the text as it is writes: its status, the seconds that another may take, and which of
+    these lines it executes."""
     marked, last, wanted, to = [], 0, [], f"{folder}/marked"
     for number, at in enumerate(lines):
         marked += [*text[last:at], f"\tmovb $1, mutants_seen+{number}(%rip)"]
@@ -233,20 +225,19 @@ def answers(name, folder, text, lines):
         took = resource.getrusage(resource.RUSAGE_CHILDREN).ru_utime - before
         if not it.writes:
             os.rename(f"{to}.out", f"{folder}/wanted{at}")
-        wanted.append(Wanted(status, 1 + int(8 * took), {line for mark, line in zip(seen, lines) if mark}))
+        wanted.append((status, 1 + int(8 * took), {line for mark, line in zip(seen, lines) if mark}))
     return wanted
 
 
 def attempt(name, folder, text, wanted, work):
-    number, at, new, *_ = work
-    to = f"{folder}/{number}"
-    if not build(name, folder, [*text[:at], new, *text[at + 1:]], to):
-        return "not built"
-    # whether a run that comes to the place ends otherwise, or writes something else, than the text as it is
-    is_told = any(run(it, to, "" if it.writes else f"{folder}/wanted{which}", want.most)[:2] != (want.status, True)
-                  for which, (it, want) in enumerate(zip(runs(name, folder), wanted)) if at in want.there)
-    for it in ("", ".s", ".o", ".seen", ".out"):
-        Path(to + it).unlink(missing_ok=True)
+    at, new, *_ = work
+    with tempfile.TemporaryDirectory(dir=folder) as own:
+        to = f"{own}/{name}"
+        if not build(name, folder, [*text[:at], new, *text[at + 1:]], to):
+            return "not built"
+        # whether a run that comes to the place ends otherwise, or writes something else, than the text as it is
+        is_told = any(run(it, to, "" if it.writes else f"{folder}/wanted{which}", most)[:2] != (status, True) for which,
+                      (it, (status, most, there)) in enumerate(zip(runs(name, folder), wanted)) if at in there)
     return "told" if is_told else "kept"
 
 
@@ -255,8 +246,7 @@ def main():
     parser.add_argument("name", choices=("linkwire", "linkstate", "linkshow", "linkdiff", "link_c"))
     for option, most in ("--count", 40), ("--seed", 7), ("--jobs", 2), ("--least", None):
         parser.add_argument(option, type=int, default=most)
-    for option in "--list", "--unlike":
-        parser.add_argument(option, action="store_true")
+    parser.add_argument("--list", action="store_true")
     given = parser.parse_args()
     os.chdir(TOP)
     if os.uname().machine != "x86_64":
@@ -269,7 +259,7 @@ def main():
     with tempfile.TemporaryDirectory() as folder:
         prepare(name, folder, text)
         wanted = answers(name, folder, text, sorted({at for at, *_ in picked}))
-        there = set().union(*(it.there for it in wanted))
+        there = set().union(*(there for *_, there in wanted))
         pattern, results, work = alike(), collections.Counter(), []
 
         def count(found, what):
@@ -280,10 +270,10 @@ def main():
             new = changed(text[at], how, random.Random(chance.random()))
             what = f"{function}: {at + 1}: {' '.join(text[at].split())} -> {' '.join(new.split())}"
             fits = bool(pattern.search(around(name, text, at, new, function)))
-            if at in there and not (fits and given.unlike):
-                work.append((len(work), at, new, what, fits))
+            if at in there:
+                work.append((at, new, what, fits))
             else:
-                count("alike" if at in there else "never executed", what)
+                count("never executed", what)
         with multiprocessing.Pool(given.jobs) as pool:
             tried = pool.imap(functools.partial(attempt, name, folder, text, wanted), work)
             for (*_, what, fits), found in zip(work, tried):
