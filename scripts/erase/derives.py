@@ -64,7 +64,7 @@ def stored(s, found, kept):
 
 def wanted(s, name, had, kept):
     """What a Rust user expects: each type is `Clone`, and one with `Eq` has `Hash`."""
-    kept = {*kept, *["Clone"] * (not s.has(f"Clone for {name}")), *["PartialEq", "Eq"] * (name in COMPARED)}
+    kept = {*kept, *["Clone"] * (not any(s.find(f"Clone for {name}"))), *["PartialEq", "Eq"] * (name in COMPARED)}
     kept |= {one for one, is_kept in (("Hash", "Eq" in kept), ("Default", name in EMPTY)) if is_kept}
     kept -= {"Debug"} if name in FLAG_SETS else set()
     return [one for one in ORDER if one in kept] + [one for one in had if one in kept and one not in ORDER]

@@ -32,8 +32,7 @@ HERE = Path(__file__).resolve().parent
 TOP = HERE.parents[1]
 CRATES = TOP / "crates"
 RATTLE = HERE / "rattle"                    # what stands for Rattle's std in the crate
-ROOTS = ["link_msg", "link_state", "link_view"]     # what they give again stands at the root
-TOPS = ROOTS + ["link_info"]                # they give again what a user sees
+TOPS = ["link_msg", "link_state", "link_view", "link_info"]     # they give again what a user sees
 LEFT_OUT = ["laws", "exact", "values"]      # modules that state laws, and those that are Rust's own in the crate
 COMMON = ["number.rs", "str.rs"]
 MADE = ["LICENSE", "MOVING.md", "conditions.txt", "src/generated"]      # what is made of a crate's package
@@ -151,14 +150,6 @@ def look(mode):
         raise Unknown(f"rust/src/lib.rs: the modules that are made are {', '.join(mode.libraries)}, rattle")
 
 
-def make(mode, out):
-    for crate, base, path in mode.sources():
-        text = erase(path.relative_to(TOP), read(path), crate, mode)
-        folder = "bin" if crate in mode.programs else "" if mode.is_tests else "generated"
-        to = out / "src" / folder / crate / ("mod" if base == "lib" else base)
-        write(to.with_suffix(".rs"), MARK.format(f"{crate}/src/{base}.rt") + text)
-
-
 def copy_tests(mode, out):
     """What stands for Rattle's std in the package of the tests, its modules and programs, of which only those that have
     tests are compiled as tests too, and their stored runs, which the tests compare with what their Rust says."""
@@ -198,7 +189,11 @@ def make_all(mode, out):
     (copy_tests if mode.is_tests else copy_std)(mode, out)
     if mode.is_crate:
         look(mode)
-    make(mode, out)
+    for crate, base, path in mode.sources():
+        text = erase(path.relative_to(TOP), read(path), crate, mode)
+        folder = "bin" if crate in mode.programs else "" if mode.is_tests else "generated"
+        to = out / "src" / folder / crate / ("mod" if base == "lib" else base)
+        write(to.with_suffix(".rs"), MARK.format(f"{crate}/src/{base}.rt") + text)
     if mode.is_crate:
         write(out / "src" / "generated" / "places.rs", typed.text())
         write(out / "src" / "generated" / "keys.rs", keys.text())

@@ -85,7 +85,7 @@ def ours(s, is_program, is_crate):
         ("prelude", name, rf"(?<!::)\b{name}\b") for name in OF_ALLOC]
     found = {}
     for module, name, there in rows + PRELUDE:
-        if s.has(f"/{there}/"):
+        if any(s.find(f"/{there}/")):
             found.setdefault(module, []).append(name)
     for module, names in found.items():
         names = sorted(names) if module == "prelude" else names

@@ -141,9 +141,6 @@ class Source:
     def find(self, what):
         return form(what).finditer(self.text) if all(word in self.text for word in words(what)) else ()
 
-    def has(self, what):
-        return any(True for _ in self.find(what))
-
     def replaced(self, text, what, new=""):
         """A text with something in the place of each such form, until none is left: a text in which `$x` is the part of
         that name, or what a function says of it, None to leave it as it is."""

@@ -11,10 +11,8 @@ ORDER = "Nor are those of machines with different byte orders, which `BYTE_ORDER
 # Sentences about what only Rattle has, as the joined text of a paragraph has them, and what the crate says there.
 SAID = [(re.compile(pattern), text) for pattern, text in [
     (r"(It takes no memory), and (?:so )?never returns `OutOfMemory`\.", r"\1."),
-    (r"[,;] and never `OutOfMemory`", ""),
-    (r", and out of memory with `OutOfMemory`", ""),
-    (r"[,;]?,? (or|and)( with)? `OutOfMemory`(, which says nothing of the \w+)?", ""),
     (r" The cause is never `OutOfMemory`\.", ""),
+    (r"[,;]* (or|and)( never| with| out of memory with)? `OutOfMemory`(, which says nothing of the \w+)?", ""),
     (r"^It fails only for lack of memory\.", ""),
     (r", or out of memory\.", "."),
     (r"[;,] or there is no memory", ""),
@@ -26,8 +24,7 @@ SAID = [(re.compile(pattern), text) for pattern, text in [
     (r"; for the proof: [^.]*\.", "."),
     (r" It does nothing\.", ""),
     (r"(in host order), lowest byte first", r"\1"),
-    (r"with the lowest byte first", "in host order"),
-    (r"lowest byte first", "in host order"),
+    (r"(with the )?lowest byte first", "in host order"),
     (r"(so a store keeps the number beside its keys\.)", r"\1 " + ORDER),
     (r"the length of (?:the|their) encoding is a `usize`", "the encoding is no longer than memory can be"),
     (r"`growth_per_byte`", "79"),
