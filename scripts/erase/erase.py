@@ -195,7 +195,7 @@ def make_all(mode, out):
         to = out / "src" / folder / crate / ("mod" if base == "lib" else base)
         write(to.with_suffix(".rs"), MARK.format(f"{crate}/src/{base}.rt") + text)
     if mode.is_crate:
-        write(out / "src" / "generated" / "places.rs", typed.text())
+        write(out / "src" / "generated" / "places.rs", typed.Maker().make())
         write(out / "src" / "generated" / "keys.rs", keys.text())
         write(out / "MOVING.md", typed.moving(read(TOP / "rust" / "MOVING.md")))
         if mode.examples:
