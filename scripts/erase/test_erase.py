@@ -21,8 +21,8 @@ from source import Source, Unknown
 FORM = re.compile(r"^== (.*)\n([\s\S]*?)^--\n([\s\S]*?)(?=^== |\Z)", re.M)
 
 
-def refused(make, text):
-    """Why a source is refused."""
+def said(make, text):
+    """What is made of a source, or why it is refused."""
     try:
         return make(text)
     except (Unknown, ValueError) as error:
@@ -57,12 +57,11 @@ def by_rules(table):
 
 
 MAKES = {
-    "refused": lambda text: refused(lambda it: made(it, "link_msg", "crate"), text),
-    "refused in tests": lambda text: refused(lambda it: made(it, "message_diff", "tests"), text),
+    "refused": lambda text: made(text, "link_msg", "crate"),
+    "refused in tests": lambda text: made(text, "message_diff", "tests"),
     "made in tests": lambda text: made(text, "message_diff", "tests"),
-    "refused types": lambda text: refused(put_all, text),
-    "refused members": lambda text: refused(
-        lambda it: keys.inner("link_nest", it, "LinkXdp", "A member of IFLA_XDP."), text),
+    "refused types": put_all,
+    "refused members": lambda text: keys.inner("link_nest", text, "LinkXdp", "A member of IFLA_XDP."),
     "names of a format": lambda text: " ".join(derives.names_in(text)) + "\n",
     "let_else": by_rules(rules.OLDER), "reserved": by_rules(rules.RESERVED), "narrowing": by_rules(rules.NARROWING), "hide_calls": by(surface.hide_calls),
     "other_names": by(surface.other_names),
@@ -75,7 +74,7 @@ MAKES = {
 
 def main():
     forms = FORM.findall(Path(__file__).with_name("forms.txt").read_text("utf-8"))
-    wrong = [(text, it) for what, text, wanted in forms for it in [MAKES[what](text)] if it != wanted]
+    wrong = [(text, it) for what, text, wanted in forms for it in [said(MAKES[what], text)] if it != wanted]
     if wrong:
         return "\n".join(f"{text}made into:\n{it}" for text, it in wrong)
     counts = Counter(what for what, _, _ in forms)

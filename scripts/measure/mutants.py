@@ -34,17 +34,6 @@ CONDITION = re.compile(r"(j|set|(cmov))([abgl]e|n[es]|[abegls])((?(2)[qlw]?))")
 BY_ONE = {"jb": "jbe", "jbe": "jb", "ja": "jae", "jae": "ja", "jl": "jle", "jle": "jl", "jg": "jge", "jge": "jg"}
 # as dist/Makefile links a program
 WRAPS = [f"-Wl,--wrap={name}" for name in ("main", "read", "write")]
-# keeps marks in the file that SEEN names
-WATCH = """#include <fcntl.h>
-#include <stdlib.h>
-#include <sys/mman.h>
-_Alignas(4096) __attribute__((visibility("hidden"))) char mutants_seen[1 << 20];
-__attribute__((constructor)) static void keep(void) {
-    int seen = open(getenv("SEEN"), O_RDWR);
-    if (mmap(mutants_seen, sizeof mutants_seen, PROT_READ | PROT_WRITE, MAP_SHARED | MAP_FIXED, seen, 0) == MAP_FAILED)
-        abort();
-}
-"""
 
 
 class Run(NamedTuple):
@@ -125,7 +114,7 @@ def build(name, folder, text, to):
     if name == "link_c":
         more = "-shared", f"-Wl,-soname,{LIBRARY},--version-script={TOP}/dist/liblinkwire.map"
     return compiles("-c", "-o", f"{to}.o", f"{to}.s") and compiles(
-        "-o", to, f"{to}.o", f"{folder}/watch.o", made / "heap.o", *more)
+        "-o", to, f"{to}.o", f"{folder}/marks.o", made / "heap.o", *more)
 
 
 def prepare(name, folder, text):
@@ -137,8 +126,7 @@ def prepare(name, folder, text):
             subprocess.run([f"{folder}/lines", it], stdout=to, check=True, cwd=TOP)
     subprocess.run(["split", "-d", "-n", f"l/{PARTS}", f"{folder}/all", f"{folder}/all."], check=True)
     compiles(*compiler, "-shared", "-fPIC", "-o", f"{folder}/watch.so", TOP / "tests/second/watch.c")
-    Path(f"{folder}/watch.c").write_text(WATCH)
-    compiles("-c", "-O2", "-fPIC", "-o", f"{folder}/watch.o", f"{folder}/watch.c")
+    compiles("-c", "-O2", "-fPIC", "-o", f"{folder}/marks.o", TOP / "scripts/measure/marks.c")
     if name == "linkdiff":
         streams, hosts = (path.read_bytes().splitlines(True)
                           for path in (TOP / "tests/second/streams.txt", Path(f"{folder}/hosts")))
