@@ -96,11 +96,12 @@ def inner_rows(source, enum):
     """The rows of an inner list."""
     some = re.findall(r"^ +some (\w+)\(", source, re.M)
     for said, name, held in declared(source, enum):
+        if "written only" in said:
+            continue
         kind = held if held in NUMBERS else f"crate::rattle::net::{held}" if held == "Ipv6Addr" else f"crate::{held}"
         value, how = (VALUES[held] if held == "Text" else
                       listed(held, name in some) if held.startswith("List<") else (kind, "same"))
-        if "written only" not in said:
-            yield Row(said, name, held, first(said), value, how)
+        yield Row(said, name, held, first(said), value, how)
 
 
 def inner(crate, source, enum, said):

@@ -44,16 +44,15 @@ def put_all(text):
 
 
 def by(rewrite):
-    """What one rewrite makes of a source."""
+    """What one rewrite, or a table of rules, makes of a source."""
     def made(text):
         s = Source("a.rt", text)
-        rewrite(s)
+        if callable(rewrite):
+            rewrite(s)
+        else:
+            rules.apply(s, rewrite)
         return s.rust()
     return made
-
-
-def by_rules(table):
-    return by(lambda s: rules.apply(s, table))
 
 
 MAKES = {
@@ -63,9 +62,9 @@ MAKES = {
     "refused types": put_all,
     "refused members": lambda text: keys.inner("link_nest", text, "LinkXdp", "A member of IFLA_XDP."),
     "names of a format": lambda text: " ".join(derives.names_in(text)) + "\n",
-    "let_else": by_rules(rules.OLDER), "reserved": by_rules(rules.RESERVED), "narrowing": by_rules(rules.NARROWING), "hide_calls": by(surface.hide_calls),
-    "other_names": by(surface.other_names),
-    "inline_optimized": by_rules(rules.CRATE), "unwrap_functions": by(memory.unwrap_functions),
+    "let_else": by(rules.OLDER), "reserved": by(rules.RESERVED), "narrowing": by(rules.NARROWING),
+    "hide_calls": by(surface.hide_calls), "other_names": by(surface.other_names),
+    "inline_optimized": by(rules.CRATE), "unwrap_functions": by(memory.unwrap_functions),
     "without memory": by(lambda s: memory.memory(s, set())),
     "derives": by(lambda s: derives.derives(s, is_crate=True)),
     "paths": by(lambda s: paths.paths(s, "line_filter", [], is_program=False, is_crate=False)),

@@ -173,24 +173,17 @@ def all_rows(workloads):
     return rows + [(call, workload) for workload in OF_CALLS for call in OF_CRATE] + [(DUMP, "events")]
 
 
-def write(folder, workloads):
-    """Writes the lines of each workload, those before and after its middle, and a capture of the announcements."""
-    for workload, text in workloads.items():
-        lines = text.splitlines(keepends=True)
-        middle = len(lines) // 2
-        for end, part in {"lines": lines, "before": lines[:middle], "after": lines[middle:]}.items():
-            with open(f"{folder}/{workload}.{end}", "wb") as it:
-                it.writelines(part)
-    with open(f"{folder}/events.pcap", "wb") as it:
-        it.write(cost_lines.capture(workloads["events"].split()))
-
-
 def counted(texts, workloads, rows):
     """The numbers of these rows, several side by side."""
     jobs = int(os.environ.get("JOBS", len(os.sched_getaffinity(0))))
     with tempfile.TemporaryDirectory() as folder:
         own = link(texts, folder, {COUNTED[what][0] for what, _ in rows})
-        write(folder, workloads)
+        for workload, text in workloads.items():
+            lines = text.splitlines(keepends=True)
+            middle = len(lines) // 2
+            for end, part in {"lines": lines, "before": lines[:middle], "after": lines[middle:]}.items():
+                pathlib.Path(f"{folder}/{workload}.{end}").write_bytes(b"".join(part))
+        pathlib.Path(f"{folder}/events.pcap").write_bytes(cost_lines.capture(workloads["events"].split()))
         with concurrent.futures.ThreadPoolExecutor(jobs) as pool:
             runs = {row: pool.submit(count, folder, *row, own.get(COUNTED[row[0]][0], set())) for row in rows}
             return {row: run.result() for row, run in runs.items()}
@@ -237,16 +230,6 @@ def remarks(at_most, now, columns):
                 yield f"{'/'.join(row)}: {of}: lower the row, which has {most}"
 
 
-def why_skipped():
-    """Why nothing can be counted here, if so."""
-    if not shutil.which("valgrind"):
-        return "valgrind is not installed"
-    machine = subprocess.run([*CC, "-dumpmachine"], check=True, capture_output=True, text=True).stdout.strip()
-    if machine.partition("-")[0] not in (ARCH, "amd64"):
-        return f"the rows are for x86-64, and {CC[0]} compiles for {machine}"
-    return None
-
-
 def main():
     parser = argparse.ArgumentParser(usage="costs.py [--make] [--texts FOLDER] [--rows FILE] [WHAT/WORKLOAD ..]")
     parser.add_argument("--make", action="store_true")
@@ -254,10 +237,11 @@ def main():
     parser.add_argument("--rows", default=ROWS)
     parser.add_argument("wanted", nargs="*")
     asked = parser.parse_args()
-    skipped = why_skipped()
-    if skipped:
-        print(f"costs: skipped: {skipped}")
-        return
+    if not shutil.which("valgrind"):
+        return print("costs: skipped: valgrind is not installed")
+    machine = subprocess.run([*CC, "-dumpmachine"], check=True, capture_output=True, text=True).stdout.strip()
+    if machine.partition("-")[0] not in (ARCH, "amd64"):
+        return print(f"costs: skipped: the rows are for x86-64, and {CC[0]} compiles for {machine}")
     if asked.texts is None:
         words = ["bash", f"{TOP}/scripts/make/sums.sh", "unfit", ARCH, *PROGRAMS, LIBRARY]
         unfit = subprocess.run(words, check=True, capture_output=True, text=True).stdout.split()
@@ -276,14 +260,14 @@ def main():
         print(TITLE, *(f"#: {name}={version}\n" for name, version in here.items()), sep="", end="")
         for row, numbers in now.items():
             print(*row, *numbers)
-        return
-    at_most = {row: numbers for row, numbers in most.items()
-               if (not wanted or row in wanted) and row[0] not in over}
+        return None
+    at_most = {row: numbers for row, numbers in most.items() if (not wanted or row in wanted) and row[0] not in over}
     found = list(remarks(at_most, now, columns))
     if found:
         stop("\ncosts: ".join(found))
     left = [*sorted(over), *(UNITS[it] for it in columns)]
-    print(f"costs: {len(now)} rows hold" + (f"; passed over, of other versions: {', '.join(left)}" if left else ""))
+    tail = f"; passed over, of other versions: {', '.join(left)}" if left else ""
+    return print(f"costs: {len(now)} rows hold{tail}")
 
 
 if __name__ == "__main__":
