@@ -30,7 +30,6 @@ HELD = {"Bytes": ("&'a [u8]", "v.now"), "Text": ("&'a str", "v.now"), "DefaultNl
 
 @functools.lru_cache(maxsize=None)
 def table_of(crate):
-    """The lines of a crate's tables."""
     return (keys.CRATES / crate / "specs" / "Tables.antt").read_text("utf-8")
 
 

@@ -54,10 +54,7 @@ def write(path, text):
 
 def below(crates, names):
     """These crates and those below them."""
-    found = set()
-    for name in names:
-        found |= {name, *below(crates, crates[name])} if name in crates else set()
-    return found
+    return {it for name in names if name in crates for it in {name, *below(crates, crates[name])}}
 
 
 class Mode:

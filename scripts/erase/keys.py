@@ -3,8 +3,8 @@ of link data as typed.py has them. A key is a type for a variant; those of an in
 the name of its enum.
 """
 import re
+from collections import namedtuple
 from pathlib import Path
-from typing import NamedTuple
 
 import typed
 
@@ -28,18 +28,9 @@ VALUES = {"Bytes": ("&'a [u8]", "bytes"), "Text": ("&'a str", "text"), "bool": (
 TYPED = {"AfSpecBridge": "typed::AfSpecBridge", "LinkProtoInfoBridge": "typed::InfoBridgePort"}
 NUMBERS = {"u8", "u16", "u32", "u64", "i32"}
 
-
-class Row(NamedTuple):
-    """A variant: what is said of it, its name, what it holds, its number, its value, how that is read, and under which
-    families of a message's header."""
-
-    said: str
-    name: str
-    held: str
-    number: str
-    value: str
-    how: str
-    family: str = "any"
+# A variant: what is said of it, its name, what it holds, its number, its value, how that is read, and under which
+# families of a message's header.
+Row = namedtuple("Row", "said name held number value how family", defaults=["any"])
 
 
 def declared(text, enum):
@@ -75,7 +66,6 @@ def snake(name):
 # ** the attributes of a message
 
 def rows():
-    """The rows of `LinkAttribute`."""
     source = ROWS.read_text("utf-8")
     number_of = dict(re.findall(r"^ +(?:held|plain|mask) (\w+)\(\w+ => (IFLA_\w+)", source, re.M))
     for said, name, held in declared(source, "LinkAttribute"):
@@ -93,7 +83,6 @@ def keyed(rows_):
 # ** the attributes of inner lists
 
 def inner_rows(source, enum):
-    """The rows of an inner list."""
     some = re.findall(r"^ +some (\w+)\(", source, re.M)
     for said, name, held in declared(source, enum):
         if "written only" in said:
@@ -114,7 +103,6 @@ def inner(crate, source, enum, said):
 
 
 def sources(crate):
-    """The sources of a crate."""
     return [path.read_text("utf-8") for path in sorted((CRATES / crate / "src").glob("*.rt"))]
 
 

@@ -24,7 +24,6 @@ import subprocess
 import sys
 import tempfile
 from pathlib import Path
-from typing import NamedTuple
 
 TOP = Path(__file__).resolve().parents[2]
 ROUND = {"e": "ne", "b": "ae", "a": "be", "l": "ge", "g": "le", "s": "ns"}
@@ -34,17 +33,9 @@ CONDITION = re.compile(r"(j|set|(cmov))([abgl]e|n[es]|[abegls])((?(2)[qlw]?))")
 BY_ONE = {"jb": "jbe", "jbe": "jb", "ja": "jae", "jae": "ja", "jl": "jle", "jle": "jl", "jg": "jge", "jge": "jg"}
 # as dist/Makefile links a program
 WRAPS = [f"-Wl,--wrap={name}" for name in ("main", "read", "write")]
-
-
-class Run(NamedTuple):
-    """The words of a command, in which TO is the program, the file it reads, the file it writes to if it is not looked
-    at, and whether it calls the library, which it then preloads."""
-
-    words: tuple = ("TO",)
-    reads: str = "/dev/null"
-    writes: str = ""
-    preloads: bool = False
-
+# The words of a command, in which TO is the program, the file it reads, the file it writes to if it is not looked at,
+# and whether it calls the library, which it then preloads.
+Run = collections.namedtuple("Run", "words reads writes preloads", defaults=[("TO",), "/dev/null", "", False])
 
 # ** mutants
 
