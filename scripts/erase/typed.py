@@ -53,11 +53,9 @@ def tables(crate=CRATE):
     found, common = {}, {}
     files = [path.stem for path in Path(crate, "tables").iterdir()]
     for name in sorted(files, key=lambda it: (it != "mod", it)):
-        local, items = dict(common), constants(read(f"tables/{name}.rt", crate))
-        for wanted in KINDS:
-            for one, kind, text in items:
-                if kind == wanted:
-                    local[one] = found[name, one] = eval(text, local)
+        local, items = dict(common), [it for it in constants(read(f"tables/{name}.rt", crate)) if it[1] in KINDS]
+        for one, _, text in sorted(items, key=lambda it: KINDS.index(it[1])):
+            local[one] = found[name, one] = eval(text, local)
         common = common or local                # what all have
     return found
 
