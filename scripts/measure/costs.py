@@ -126,33 +126,25 @@ def link_crate(folder):
 
 # ** counting
 
-COST = re.compile(r"[+\-*\d]\S* (\d+)")
-NAME = re.compile(r"(c?fn|c?ob)=\((\d+)\)(?: (.*))?")
-
-
 def instructions(path, own, program):
     """How many of callgrind's file are in these functions themselves; with none, in the program's own."""
-    names, total, is_own, is_call = {}, 0, False, False
-    with open(path, encoding="utf-8") as it:
-        for line in it:
-            name, cost = NAME.match(line), COST.match(line)
-            if name:
-                # a name is written out once; '2 is a function that called itself
-                known = names.setdefault((name[1][-2:], name[2]), re.sub(r"'\d+$", "", name[3] or ""))
-                if line.startswith("fn=" if own else "ob="):
-                    is_own = known in own if own else known == program
-            elif cost and not is_call and is_own:
-                total += int(cost[1])
-            # the line behind `calls=` has what the called function took
-            is_call = line.startswith("calls=")
+    total, is_own = 0, False
+    # the line behind `calls=` has what the called function took
+    for line in re.sub(r"^calls=.*\n.*\n", "", pathlib.Path(path).read_text("utf-8"), flags=re.M).splitlines():
+        word, _, name = line.partition("=")
+        if word == ("fn" if own else "ob"):
+            # '2 is a function that called itself
+            is_own = re.sub(r"'\d+$", "", name) in (own or {program})
+        elif is_own and line[:1].isdigit():
+            total += int(line.split()[1])
     return total
 
 
 def count(folder, what, workload, own):
     """What a run takes, by UNITS. These are the functions of its text."""
     of, runs = f"{folder}/{what}.{workload}", [word.format(workload) for word in COUNTED[what][1]]
-    valgrind = ["valgrind", "--tool=callgrind", f"--callgrind-out-file={of}.out", "--error-exitcode=99"]
-    valgrind += ["--toggle-collect=counted"] if what in OF_CRATE else []
+    valgrind = ["valgrind", "--tool=callgrind", f"--callgrind-out-file={of}.out", "--error-exitcode=99",
+                "--compress-strings=no", "--compress-pos=no", *["--toggle-collect=counted"] * (what in OF_CRATE)]
     with open(f"{folder}/{workload}.lines", "rb") as lines:
         ran = subprocess.run([*valgrind, *runs], stdin=lines, stdout=subprocess.DEVNULL, stderr=subprocess.PIPE,
                              check=False, cwd=folder, env={**os.environ, "COSTS": f"{of}.txt"})
