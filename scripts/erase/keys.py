@@ -127,13 +127,11 @@ class Borrowed(typed.Maker):
     """The places of link data, with their values over borrowed bytes."""
 
     def value(self, kind, form):
-        if form in ("text", "bytes", "message"):
-            return {"text": "&'a str", "bytes": "&'a [u8]", "message": "LinkView<'a>"}[form]
         held = kind[4:-1] if kind.startswith("Vec<") else kind
         is_there = held in NUMBERS or held.startswith(("[", "Ipv", "crate::"))
         held = held if is_there else f"typed::{held}"
-        return {"array": f"Values<'a, {held}>", "list": f"Values<'a, {held}>",
-                "nest": f"ListView<'a, {held}>"}.get(form, held)
+        return {"text": "&'a str", "bytes": "&'a [u8]", "message": "LinkView<'a>", "array": f"Values<'a, {held}>",
+                "list": f"Values<'a, {held}>", "nest": f"ListView<'a, {held}>"}.get(form, held)
 
     def place(self, place):
         name = typed.place_name(place)

@@ -121,7 +121,7 @@ def prepare(name, folder, text):
     if name == "linkdiff":
         streams, hosts = (path.read_bytes().splitlines(True)
                           for path in (TOP / "tests/second/streams.txt", Path(f"{folder}/hosts")))
-        for it, part in ("old", streams[:450]), ("new", streams[450:]), ("first", hosts[:6000]):
+        for it, part in (("streams", streams), ("old", streams[:450]), ("new", streams[450:]), ("first", hosts[:6000])):
             Path(f"{folder}/{it}").write_bytes(b"".join(part))
     if name == "link_c":
         build(name, folder, text, f"{folder}/{LIBRARY}")
@@ -146,18 +146,16 @@ def runs(name, folder):
     short = [Run(reads=str(TOP / f"crates/{name}/stdin")), Run(("TO", "--version")),
              Run(reads=f"{folder}/digits", writes="/dev/full")]
     parts = ["more", "digits", "mixed", *(f"all.{it:02}" for it in range(PARTS))]
+    each = "", "--lenient", "--counters", "--counters --lenient"
     long = {"linkwire": [("", it) for it in parts],
             "linkstate": [(given, it) for given in ("", "--lenient") for it in parts],
             "linkshow": [("", "worded"), ("--lenient --kernel 6.17", "worded"), *(("", it) for it in parts),
                          *(("--lenient --kernel 6.12.0", it) for it in parts if it != "digits")],
-            "linkdiff": [("", "worded"), ("--changes-only", "hosts"), (f"--lenient {folder}/first -", "hosts"),
+            "linkdiff": [*((it + files, "streams") for files in ("", f" {folder}/old {folder}/new") for it in each),
+                         ("--changes-only", "streams"), ("--changes-only --lenient", "streams"), ("", "worded"),
+                         ("--changes-only", "hosts"), (f"--lenient {folder}/first -", "hosts"),
                          *((given, it) for given in ("", "--counters --lenient")
                            for it in ("hosts", "turns", "changes", "news")), ("--changes-only", "news")]}
-    if name == "linkdiff":
-        streams, files = str(TOP / "tests/second/streams.txt"), (f"{folder}/old", f"{folder}/new")
-        each = (), ("--lenient",), ("--counters",), ("--counters", "--lenient")
-        short += [Run(("TO", *it), streams) for it in (*each, ("--changes-only",), ("--changes-only", "--lenient"))]
-        short += [Run(("TO", *it, *files)) for it in each]
     return [*short, *(Run(("TO", *it), str(TOP)) for it in said),
             *(Run(("TO", *given.split()), f"{folder}/{made}") for given, made in long[name]),
             Run(("sh", "tests/second/watched.sh", name, "TO", folder, f"{folder}/watch.so"))]
