@@ -138,31 +138,25 @@ impl<'a> [\s\S]*?unfolding\(([\s\S]*?)\)\)\]
 """, re.M)
 
 
-def parts(crate, enum, said, rows):
-    """The parts of a block that are made of the rows."""
-    opened = [f"{crate}::specs::Tables::{place_of(crate, enum)}"]
-    opened += ["nla_wire::specs::Grammar::unless_empty"] * any(row.how == "some" for row in rows)
-    arms = [f"{row.number} => {arm('Borrowed' + enum, row)}," for row in rows]
-    other = f"Ok(Borrowed{enum}::Other(frame))"
-    body = ["let payload = frame.value();", "match kind {", *arms, f"_ => {other},", "}"] if rows else [other]
-    said = said.split(" (linux/")[0].rstrip(".")
-    return (f"{said} over borrowed bytes: a variant for each of `{enum}`.", enum, "\n".join(variants(rows)),
-            ", ".join(opened), "\n".join(body))
-
-
 def names(crate, enum):
     """The names of an enum in what is written of it."""
     return place_of(crate, enum), f"owned_{keys.snake(enum)}", enum, f"specs.{module_of(crate).capitalize()}."
 
 
 def block(crate, enum, said, rows):
-    """What is written of an enum: what stands there of the first one, with other names and other parts."""
+    """What is written of an enum: what stands there of the first one, with other names, and parts made of the rows."""
     found = BLOCK.search((VIEW / f"src/{module_of(keys.INNER[0])}.rt").read_text("utf-8"))
     ends = [found.start(), *map(found.end, range(1, 6))], [*map(found.start, range(1, 6)), found.end()]
     text = "\0".join(found.string[start:end] for start, end in zip(*ends))
     for one, other in zip(names(keys.INNER[0], found[2]), names(crate, enum)):
         text = text.replace(one, other)
-    for part in parts(crate, enum, said, rows):
+    opened = [f"{crate}::specs::Tables::{place_of(crate, enum)}"]
+    opened += ["nla_wire::specs::Grammar::unless_empty"] * any(row.how == "some" for row in rows)
+    arms = [f"{row.number} => {arm('Borrowed' + enum, row)}," for row in rows]
+    other = f"Ok(Borrowed{enum}::Other(frame))"
+    body = ["let payload = frame.value();", "match kind {", *arms, f"_ => {other},", "}"] if rows else [other]
+    said = f"{said.split(' (linux/')[0].rstrip('.')} over borrowed bytes: a variant for each of `{enum}`."
+    for part in (said, enum, "\n".join(variants(rows)), ", ".join(opened), "\n".join(body)):
         text = text.replace("\0", part, 1)
     return text if rows else re.sub(r"\bkind\b", "_kind", text, count=2)     # `read` looks at none
 
