@@ -26,15 +26,16 @@ import subprocess
 import sys
 from collections import Counter, defaultdict, namedtuple
 
-from shared import TOP, answers, kernels, read, table
+from shared import TOP, answers, digits_of, kernels, read, table
 
-# our objects by kind, the name of the kind, and ip's
-PARTS = {"data": ("linkinfo.data", "kind", "linkinfo.info_data"),
-         "slave-data": ("linkinfo.slave-data", "slave-kind", "linkinfo.info_slave_data"),
-         "xstats": ("linkinfo.xstats", "kind", "linkinfo.info_xstats")}
+# ip's objects by kind, how it names the kind, and our objects
+PARTS = {"data": ("linkinfo.info_data.", "info_kind", "linkinfo.data."),
+         "slave-data": ("linkinfo.info_slave_data.", "info_slave_kind", "linkinfo.slave-data."),
+         "xstats": ("linkinfo.info_xstats.", "info_kind", "linkinfo.xstats.")}
 MISSING = type("Missing", (), {"__repr__": lambda _: "none"})()
 Row = namedtuple("Row", "field ours how args")
-World = namedtuple("World", "link first names path", defaults=("",))
+# what is around a value: our first message, the names of links by their numbers, and the objects in which ip has it
+World = namedtuple("World", "first names path", defaults=("",))
 
 # ** the table
 
@@ -62,10 +63,9 @@ def mapping(args):
 
 
 def words(theirs, ours, _, args):
-    """A name of theirs that we have otherwise, as another name or as a number."""
-    named = mapping(args)
-    text = "null" if theirs is None else str(theirs)
-    text = named.get(text, text)
+    """A name of theirs that we have otherwise, as another name or as a number; one without a name is [NUMBER]."""
+    text = "null" if theirs is None else str(theirs).strip("[]")
+    text = mapping(args).get(text, text)
     return (int(text, 0) if isinstance(ours, int) and re.fullmatch(r"-?\d+", text) else text), ours
 
 
@@ -124,26 +124,10 @@ def is_set(name, ours):
     return ours is not MISSING and name in (ours if isinstance(ours, list) else [])
 
 
-LINK_TYPES = {
-    "ether": 1, "loopback": 772, "ipip": 768, "tunnel6": 769, "sit": 776, "gre": 778, "gre6": 823, "can": 280,
-    "none": 65534, "ppp": 512, "slip": 256, "rsrvd": 260, "cslip": 257, "netlink": 824, "ieee802.11/radiotap": 803,
-    "ieee802.11": 801, "ieee802.15.4": 804, "ax25": 3, "netrom": 0, "rose": 270, "pimreg": 779, "ip/ddp": 777,
-    "vsockmon": 826, "6lowpan": 825, "void": 65535, "phonet": 820, "infiniband": 32, "ieee802.15.4/monitor": 805,
-}
-FLAG_BITS = ("up broadcast debug loopback point-to-point no-trailers running no-arp promisc all-multi master slave "
-             "multicast portsel auto-media dynamic lower-up dormant echo").split()
-# what a message says at its own moment of the carrier, and what sysfs keeps apart
-SYSFS_FLAGS = 0xffff & ~(0x40 | 0x100 | 0x200)
-
-
-def link_type(theirs, ours, *_):
-    number = theirs.strip("[]")
-    return LINK_TYPES.get(theirs, int(number) if number.isdigit() else theirs), ours
-
-
-def flag_bits(theirs, ours, *_):
-    bits = sum(1 << FLAG_BITS.index(it) for it in ours if it in FLAG_BITS)
-    return int(theirs, 0) & SYSFS_FLAGS, bits & SYSFS_FLAGS
+def flag_bits(theirs, ours, _, args):
+    """The bits of a number that have a name in the row, where '-' stands for one that is not compared."""
+    bits = {name: 1 << n for n, name in enumerate(args) if name != "-"}
+    return int(theirs, 0) & sum(bits.values()), sum(bits.get(name, 0) for name in ours)
 
 
 def same(theirs, ours, *_):
@@ -161,8 +145,7 @@ def number_of(bit):
 
 HOW = {
     "same": same, "words": words, "named": named, "address": address, "octets": octets, "bridge-id": bridge_id,
-    "device": device,
-    "link-type": link_type, "flag-bits": flag_bits, "nanoseconds": nanoseconds,
+    "device": device, "flag-bits": flag_bits, "nanoseconds": nanoseconds,
     "lower": lambda theirs, ours, *_: (theirs.lower(), ours),
     "dashes": lambda theirs, ours, *_: (theirs.lower().replace(" ", "-").replace("_", "-"), ours),
     "yes": lambda theirs, ours, *_: (bool(theirs), ours is not MISSING and bool(ours)),
@@ -191,22 +174,21 @@ HOW = {
 }
 # those that can do without our member, and those that ip names only where they are set
 ABSENT = "yes there bit no-bit bit-number mask device count link zero empty absent octets flags".split()
-NAMED_IF_SET = "bit no-bit mask there".split()
+NAMED_IF_SET = "bit mask there".split()
 
 # ** lists that are sets: what ip has to have of ours
 
 
-def link_flags(ours, *_):
-    named = {"no-arp": "NOARP", "no-trailers": "NOTRAILERS", "all-multi": "ALLMULTI", "auto-media": "AUTOMEDIA",
-             "point-to-point": "POINTOPOINT", "lower-up": "LOWER_UP"}
-    found = {named.get(it, str(it).upper()) for it in ours if it != "running"}
-    return found | ({"NO-CARRIER"} if "up" in ours and "running" not in ours else set())
-
-
 def flags(ours, args):
-    """Names with the dashes and capitals that ip has, or others that the row says."""
+    """Names as ip has them, in small letters and with dashes, or as the row says."""
     theirs = {mine: name for name, mine in mapping(args).items()}
     return {theirs.get(it, str(it)) for it in (ours if isinstance(ours, list) else [])}
+
+
+def link_flags(ours, args):
+    """ip names what runs only where it does not."""
+    stopped = {"no-carrier"} if "up" in ours and "running" not in ours else set()
+    return flags(ours, args) - {"running"} | stopped
 
 
 PORT_STATE = "active short_timeout aggregating in_sync collecting distributing defaulted expired".split()
@@ -220,32 +202,21 @@ SETS = {
 # ** our side
 
 
-def members(it, name):
-    """The members of a list; what is no list has none."""
-    value = it.get(name)
-    return value if isinstance(value, list) else []
-
-
 def find(it, path, at=()):
     """Our member, where a name of a list takes the next of the places; or MISSING."""
     at = list(at)
-    for name in path.split("."):
-        if not isinstance(it, dict):
-            return MISSING
+    for name in filter(None, path.split(".")):
+        it = it.get(name.removesuffix("[]"), MISSING) if isinstance(it, dict) else MISSING
         if name.endswith("[]"):
-            found, place = members(it, name[:-2]), at.pop(0) if at else 0
-            it = found[place] if place < len(found) else MISSING
-        else:
-            it = it.get(name, MISSING)
+            place = at.pop(0) if at else 0
+            it = it[place] if isinstance(it, list) and place < len(it) else MISSING
     return it
 
 
 def count(it, path, at):
     """How many members the last list of a path has."""
-    head, _, _ = path.rpartition("[]")
-    parent, _, name = head.rpartition(".")
-    where = find(it, parent, at) if parent else it
-    return len(members(where, name)) if isinstance(where, dict) else 0
+    found = find(it, path.rpartition("[]")[0], at)
+    return len(found) if isinstance(found, list) else 0
 
 
 def leaves(it, path="", at=(), sizes=(), parents=()):
@@ -264,37 +235,61 @@ def leaves(it, path="", at=(), sizes=(), parents=()):
 
 
 class Report:
-    """How often what is right, wrong, or not covered and why, by source and kind of field; and what is wrong."""
+    """How often what is right, wrong, or not covered, by kernel, source and kind of field; of what is not covered why,
+    and what is wrong."""
 
     def __init__(self, strict):
-        self.strict, self.found, self.wrong = strict, Counter(), defaultdict(list)
+        self.strict, self.release, self.found = strict, "live", Counter()
+        self.left, self.wrong = defaultdict(Counter), defaultdict(list)
 
     def says(self, is_right, source, kind, who, theirs, *ours):
-        if is_right:
-            self.found[source, "right", kind, None] += 1
-        else:
-            self.is_wrong(source, kind, who, theirs, *ours)
-
-    def is_wrong(self, source, kind, who, theirs, *ours):
-        self.found[source, "wrong", kind, None] += 1
-        self.wrong["%s %s" % (source, kind)].append((who, theirs) + ours)
+        self.found[self.release, source, "right" if is_right else "wrong", kind] += 1
+        if not is_right:
+            self.wrong[f"{source} {kind}"].append((who, theirs) + ours)
 
     def not_covered(self, source, kind, why):
-        self.found[source, "left", kind, why] += 1
+        self.found[self.release, source, "left", kind] += 1
+        self.left[source, why][kind] += 1
 
-    def no_row(self, source, kind, who, theirs):
-        if self.strict:
-            return self.is_wrong(source, kind, who, "no row", theirs)
-        return self.not_covered(source, kind, "a field without a row")
+    def row(self, rows, place, field, source, kind, who, theirs):
+        """The row of a field; nothing where there is none, or it says why messages have no such member."""
+        row = rows[place].get(field)
+        if row is None and self.strict:
+            self.says(False, source, kind, who, "no row", theirs)
+        elif row is None or row.ours == "-":
+            self.not_covered(source, kind, row.how if row else "a field without a row")
+        return row if row and row.ours != "-" else None
+
+    def show(self, name, releases):
+        """Prints counts by source."""
+        for source in ("ip", "sysfs", "proc"):
+            found = [(outcome, kind, n) for (release, where, outcome, kind), n in self.found.items()
+                     if where == source and release in releases]
+            right, wrong, left = (sum(n for it, _, n in found if it == outcome)
+                                  for outcome in ("right", "wrong", "left"))
+            if found:
+                print("%s: %s: %d values of %d right (%.2f %%), %d wrong; %d kinds of fields of %d"
+                      % (name, source, right, right + wrong + left, 100 * right / (right + wrong + left), wrong,
+                         len({kind for it, kind, _ in found if it == "right"}), len({kind for _, kind, _ in found})))
+
+    def finish(self):
+        """Prints what is not covered, by its reason, and what is wrong, of all."""
+        for (source, why), kinds in sorted(self.left.items()):
+            print("not covered: %s: %s:" % (source, why))
+            print("    %d values of %d kinds: %s" % (sum(kinds.values()), len(kinds), " ".join(sorted(kinds))))
+        for where, found in sorted(self.wrong.items()):
+            print("kernel_truth: wrong: %s, %d times: %s" % (where, len(found), " ".join(map(repr, found[:3]))),
+                  file=sys.stderr)
+        if self.wrong:
+            return 1
+        print("kernel_truth: ok")
+        return 0
 
 
 def between(it, first, last):
     """Equal to one, or a number that lies between."""
-    if it in (first, last):
-        return True
-    if all(isinstance(x, (int, float)) and not isinstance(x, bool) for x in (it, first, last)):
-        return min(first, last) <= it <= max(first, last)
-    return False
+    are_numbers = all(type(x) in (int, float) for x in (it, first, last))
+    return it in (first, last) or are_numbers and min(first, last) <= it <= max(first, last)
 
 
 def agrees(row, theirs, ours, world):
@@ -325,53 +320,37 @@ class Links:
         self.names = {n: it.get("ifname") for n, it in self.first.items()}
 
 
-def place_of(path, link):
-    """The part of the table in which a path of ip stands, with the path there and where our member is."""
-    kinds = {"kind": link.get("linkinfo", {}).get("info_kind"),
-             "slave-kind": link.get("linkinfo", {}).get("info_slave_kind")}
-    for part, (ours, kind, theirs) in PARTS.items():
-        if path.startswith(theirs + "."):
-            return (part, kinds[kind]), path[len(theirs) + 1:], ours + "."
-    return ("ip", None), path, ""
+def parts_of(link):
+    """The parts of the table that a link has: each with how its paths begin in ip's object, and in ours."""
+    info = link.get("linkinfo", {})
+    parts = [((part, info.get(kind)), theirs, ours) for part, (theirs, kind, ours) in PARTS.items()]
+    return [*parts, (("ip", None), "", "")]
 
 
 def label(place, field):
     return field if place[1] is None else "%s<%s>.%s" % (*place, field)
 
 
-def row_of(rows, place, field, *where, report):
-    """The row of a field, else nothing, and the report says why; `where` is its source, its kind, who, and theirs."""
-    row = rows[place].get(field)
-    if row is None:
-        report.no_row(*where)
-    elif row.ours == "-":
-        report.not_covered(*where[:2], row.how)
-    else:
-        return row
-    return None
-
-
 def compare_link(rows, link, links, who, report):
     """Each value of ip's object of one link."""
     first, last = (it.get(link["ifindex"]) for it in (links.first, links.last))
     if first is None or last is None:
-        return report.is_wrong("ip", "ifindex", who, link["ifindex"], "not in both dumps")
-    seen = set()
+        return report.says(False, "ip", "ifindex", who, link["ifindex"], "not in both dumps")
+    seen, parts = set(), parts_of(link)
     for path, at, sizes, theirs, parents in leaves(link):
-        place, field, prefix = place_of(path, link)
+        place, begin, prefix = next(it for it in parts if path.startswith(it[1]))
+        field = path[len(begin):]
         seen.add((place, field))
         kind = label(place, field)
-        row = row_of(rows, place, field, "ip", kind, who, theirs, report=report)
+        row = report.row(rows, place, field, "ip", kind, who, theirs)
         if row and "fault" in first and find(first, prefix + row.ours, at) is MISSING:
             report.not_covered("ip", kind, "the message is refused: %s at %s" % (first["fault"], first.get("at")))
         elif row:
-            world = World(link, first, links.names, parents)
-            compare_value(row._replace(ours=prefix + row.ours), kind, (at, sizes, theirs), (first, last), world, who,
-                          report)
-    if "fault" not in first and report.strict:
-        for place in [("ip", None)] + [(part, link.get("linkinfo", {}).get("info_" + kind.replace("-", "_")))
-                                       for part, (_, kind, _) in PARTS.items()]:
-            unsaid(rows, place, seen, first, who, report)
+            compare_value(row._replace(ours=prefix + row.ours), kind, (at, sizes, theirs), (first, last),
+                          World(first, links.names, parents), who, report)
+    for place, _, prefix in parts if "fault" not in first and report.strict else ():
+        if not prefix or isinstance(find(first, prefix), dict):
+            unsaid(rows.get(place, {}), place, prefix, seen, first, who, report)
 
 
 def compare_value(row, kind, leaf, ours, world, who, report):
@@ -384,29 +363,25 @@ def compare_value(row, kind, leaf, ours, world, who, report):
         there = [] if theirs == [] else world.path[-1][name] if sizes else [theirs]
         report.says(any(same_set(row.how, there, it) for it in sets), "ip", kind, who, there, *sets)
     elif found[0] is MISSING and row.how not in ABSENT:
-        report.is_wrong("ip", kind, who, theirs, MISSING)
+        report.says(False, "ip", kind, who, theirs, MISSING)
     elif at and at[-1] == 0 and "[]" in row.ours and count(ours[0], row.ours, at[:-1]) != sizes[-1]:
-        report.is_wrong("ip", kind, who, "%d members" % sizes[-1], count(ours[0], row.ours, at[:-1]))
+        report.says(False, "ip", kind, who, "%d members" % sizes[-1], count(ours[0], row.ours, at[:-1]))
     else:
         report.says(agrees(row, [theirs], found, world), "ip", kind, who, theirs, *found)
 
 
 def same_set(how, theirs, ours):
     """Whether ip's list has the members of ours. Whether a master is down ip looks up."""
-    return {it.lower().replace("_", "-") if how == "flags" else it for it in theirs} - {"M-DOWN"} == ours
+    return {it.lower().replace("_", "-") if "flags" in how else it for it in theirs} - {"m-down"} == ours
 
 
-def unsaid(rows, place, seen, first, who, report):
+def unsaid(rows, place, prefix, seen, first, who, report):
     """What ip names only where it is set, and has not named, is not set."""
-    prefix = PARTS[place[0]][0] + "." if place[0] in PARTS else ""
-    if prefix and not isinstance(find(first, prefix[:-1]), dict):
-        return
-    for field, row in rows.get(place, {}).items():
+    for field, row in rows.items():
         if row.ours != "-" and row.how in NAMED_IF_SET and (place, field) not in seen:
             ours = find(first, prefix + row.ours)
-            unset = row.how == "no-bit" or not HOW[row.how](True, ours, None, row.args)[1]
-            if not unset:
-                report.is_wrong("ip", label(place, field), who, "not named", ours)
+            if HOW[row.how](True, ours, None, row.args)[1]:
+                report.says(False, "ip", label(place, field), who, "not named", ours)
 
 
 # ** sysfs and /proc
@@ -438,7 +413,49 @@ def of_machine(rows):
     return found
 
 
+def compare_files(rows, source, files, links, who, report):
+    """What sysfs or /proc said before the first dump and after the second; ours lies between."""
+    before, after = files
+    named = {it.get("ifname"): n for n, it in links.first.items() if "fault" not in it}
+    for (name, field), theirs in before.items():
+        whose = "%s %s" % (who, name)
+        if name not in named or theirs == "" and source == "sysfs":
+            continue
+        row = report.row(rows, (source, None), field, source, field, whose, theirs)
+        if not row:
+            continue
+        first, last = (it.get(named[name], {}) for it in (links.first, links.last))
+        parent, ours = find(first, row.ours.rpartition(".")[0]), find(first, row.ours)
+        if parent is MISSING or ours is MISSING and row.how not in ABSENT:
+            if parent is not MISSING and theirs not in ("0", ""):
+                report.not_covered(source, field, "the kernel leaves it out of the message")
+        elif isinstance(parent, list):
+            report.not_covered(source, field, "the names of these counters are not known of this kernel")
+        else:
+            both = theirs, after.get((name, field), theirs)
+            world, ours = World(first, links.names), (ours, find(last, row.ours))
+            report.says(agrees(row, both, ours, world), source, field, whose, both, ours)
+
+
+# ** what is compared
+
+
+def shown(program, lines, release):
+    return [json.loads(it) for it in answers(program, lines, "--kernel", release)]
+
+
+def compare(rows, dumps, said, files, who, report):
+    """One moment of one kernel: two dumps as they are shown, what ip said, and sysfs and /proc before and after."""
+    links = Links(*dumps)
+    for link in said:
+        compare_link(rows, link, links, "%s %s" % (who, link["ifname"]), report)
+    for source, both in files.items():
+        compare_files(rows, source, both, links, who, report)
+    return links
+
+
 def text_of(path):
+    """What a file has; of a link the name of what it leads to, and None where it cannot be read."""
     try:
         if os.path.islink(path):
             return os.path.basename(os.readlink(path))
@@ -448,54 +465,24 @@ def text_of(path):
         return None
 
 
-def compare_files(rows, source, files, links, who, report):
-    """What sysfs or /proc said before the first dump and after the second; ours lies between."""
-    before, after = files
-    named = {it.get("ifname"): n for n, it in links.first.items() if "fault" not in it}
-    for (name, field), theirs in before.items():
-        whose = "%s %s" % (who, name)
-        if name not in named or theirs == "" and source == "sysfs":
-            continue
-        row = row_of(rows, (source, None), field, source, field, whose, theirs, report=report)
-        if not row:
-            continue
-        first, last = (it.get(named[name], {}) for it in (links.first, links.last))
-        parent, ours = find(first, row.ours.rpartition(".")[0]) if "." in row.ours else first, find(first, row.ours)
-        if parent is MISSING or ours is MISSING and row.how not in ABSENT:
-            if parent is not MISSING and theirs not in ("0", ""):
-                report.not_covered(source, field, "the kernel leaves it out of the message")
-        elif isinstance(parent, list):
-            report.not_covered(source, field, "the names of these counters are not known of this kernel")
-        else:
-            both = theirs, after.get((name, field), theirs)
-            world, ours = World({}, first, links.names), (ours, find(last, row.ours))
-            report.says(agrees(row, both, ours, world), source, field, whose, both, ours)
-
-
-# ** the program
-
-
-def shown(program, lines, release):
-    return [json.loads(it) for it in answers(program, lines, "--kernel", release)]
-
-
-def hexadecimal(path):
-    with open(path, encoding="utf-8") as file:
-        return [line.strip() for line in file if line.strip() and not line.startswith("#")]
-
-
-def compare_label(rows, program, release, out, name, report):
-    """One moment of one kernel."""
-    it = os.path.join(out, "%s-" + name + "%s")
-    links = Links(*(shown(program, hexadecimal(it % ("truth", end)), release) for end in (".hex", ".hex2")))
-    with open(it % ("truth", ".json"), encoding="utf-8", errors="surrogateescape") as file:
-        said = json.loads(file.read(), strict=False)
-    for link in said:
-        compare_link(rows, link, links, "%s %s %s" % (release, name, link["ifname"]), report)
-    for source in ("sysfs", "proc"):
-        files = [it % (source, end) for end in ("-a.txt", "-b.txt")]
-        if all(map(os.path.exists, files)):
-            compare_files(rows, source, [of_file(source, path) for path in files], links, f"{release} {name}", report)
+def of_folder(folder, program, rows):
+    """Each moment of each kernel of a folder."""
+    report, releases = Report(True), []
+    for report.release, out in kernels(folder):
+        releases.append(report.release)
+        for path in sorted(glob.glob(f"{out}/truth-*.json")):
+            name = os.path.basename(path)[len("truth-"):-len(".json")]
+            dumps = [shown(program, digits_of(text_of(f"{out}/truth-{name}{end}")), report.release)
+                     for end in (".hex", ".hex2")]
+            files = {source: [f"{out}/{source}-{name}{end}" for end in ("-a.txt", "-b.txt")]
+                     for source in ("sysfs", "proc")}
+            files = {source: [of_file(source, it) for it in both] for source, both in files.items()
+                     if all(map(os.path.exists, both))}
+            compare(rows, dumps, json.loads(text_of(path), strict=False), files, f"{report.release} {name}", report)
+        report.show(report.release, releases[-1:])
+    if len(releases) > 1:
+        report.show("all kernels", releases)
+    return report.finish()
 
 
 # ** the kernel at hand
@@ -516,79 +503,27 @@ def live(program, linkdump, rows):
     refused = [it for it in commands if ran("ip", *shlex.split(it)).returncode]
     kinds = sorted({found.group(1) for it in refused for found in [re.search(r" (?:type|mode) (\w+)", it)] if found})
     print("kernel_truth: skipped: live: this kernel or its ip makes none of: %s" % (" ".join(kinds) or "none"))
-    release, report, dumps, said, files = os.uname().release, Report(False), [], None, [of_machine(rows)]
+    before, report, dumps = of_machine(rows), Report(False), []
     for _ in range(2):
         lines = ran(linkdump, "--plain").stdout.decode().split()
-        dumps.append(shown(program, lines, release))
-        if said is None:
-            said = json.loads(ran("ip", "-s", "-s", "-j", "-d", "link", "show").stdout.decode(), strict=False)
-    links = Links(*dumps)
-    files.append(of_machine(rows))
-    for link in said:
-        compare_link(rows, link, links, link["ifname"], report)
-    for source in files[0]:
-        compare_files(rows, source, [it[source] for it in files], links, "here", report)
+        dumps.append(shown(program, lines, os.uname().release))
+        said = ran("ip", "-s", "-s", "-j", "-d", "link", "show").stdout.decode() if len(dumps) == 1 else said
+    said, after = json.loads(said, strict=False), of_machine(rows)
+    links = compare(rows, dumps, said, {source: (it, after[source]) for source, it in before.items()}, "here", report)
     if not said or len(said) != len(links.first):
-        report.is_wrong("ip", "links", "a namespace", len(said), len(links.first))
+        report.says(False, "ip", "links", "a namespace", len(said), len(links.first))
     found = sorted({it["linkinfo"]["kind"] for it in links.first.values() if "kind" in it.get("linkinfo", {})})
     print("kernel_truth: live: %d links, of the kinds: %s" % (len(said), " ".join(found)))
-    show("live", report)
-    return finish([report])
-
-
-# ** what is printed
-
-
-def show(release, report):
-    """Counts by source."""
-    for source in ("ip", "sysfs", "proc"):
-        found = [(outcome, kind, n) for (where, outcome, kind, _), n in report.found.items() if where == source]
-        right, wrong, left = (sum(n for it, _, n in found if it == outcome) for outcome in ("right", "wrong", "left"))
-        if found:
-            print("%s: %s: %d values of %d right (%.2f %%), %d wrong; %d kinds of fields of %d"
-                  % (release, source, right, right + wrong + left, 100 * right / (right + wrong + left), wrong,
-                     len({kind for it, kind, _ in found if it == "right"}), len({kind for _, kind, _ in found})))
-
-
-def finish(reports):
-    """What is not covered, by its reason, and what is wrong, of all."""
-    whole = Report(True)
-    for it in reports:
-        whole.found.update(it.found)
-        for where, found in it.wrong.items():
-            whole.wrong[where] += found
-    if len(reports) > 1:
-        show("all kernels", whole)
-    for source, why in sorted({(source, why) for source, outcome, _, why in whole.found if outcome == "left"}):
-        fields = {it[2]: n for it, n in whole.found.items() if it[0] == source and it[3] == why}
-        print("not covered: %s: %s:" % (source, why))
-        print("    %d values of %d kinds: %s" % (sum(fields.values()), len(fields), " ".join(sorted(fields))))
-    for where, found in sorted(whole.wrong.items()):
-        print("kernel_truth: wrong: %s, %d times: %s" % (where, len(found), " ".join(map(repr, found[:3]))),
-              file=sys.stderr)
-    if whole.wrong:
-        return 1
-    print("kernel_truth: ok")
-    return 0
-
-
-def of_folder(folder, program, rows):
-    """Each kernel of a folder."""
-    reports = []
-    for release, out in kernels(folder):
-        report = Report(True)
-        for path in sorted(glob.glob(f"{out}/truth-*.json")):
-            compare_label(rows, program, release, out, os.path.basename(path)[len("truth-"):-len(".json")], report)
-        show(release, report)
-        reports.append(report)
-    return finish(reports)
+    report.show("live", ["live"])
+    return report.finish()
 
 
 def main():
     arguments = [it for it in sys.argv[1:] if not it.startswith("--")]
-    program, rows = arguments[0] if arguments else f"{TOP}/out/linkshow", read_table("scripts/test/kernel_fields.txt")
+    program, linkdump = arguments + [f"{TOP}/out/{it}" for it in ("linkshow", "linkdump")[len(arguments):]]
+    rows = read_table("scripts/test/kernel_fields.txt")
     if "--live" in sys.argv:
-        return live(program, arguments[1] if len(arguments) > 1 else os.path.join(TOP, "out", "linkdump"), rows)
+        return live(program, linkdump, rows)
     if not os.environ.get("KERNELS"):
         return print("kernel_truth: skipped: KERNELS names no folder of kernels")
     return of_folder(os.environ["KERNELS"], program, rows)

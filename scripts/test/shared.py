@@ -19,6 +19,11 @@ def read(name):
         return it.read()
 
 
+def digits_of(text):
+    """Returns the lines of a text that are hexadecimal digits alone."""
+    return re.findall("^(?:[0-9a-fA-F]{2})+$", text, re.M)
+
+
 def table(name):
     """Yields each row of a table: its section, and its words, between which two blanks or more stand; four go on."""
     section = ""
