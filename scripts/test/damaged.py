@@ -1,7 +1,7 @@
 #!/usr/bin/env python3
 """Damages lines, the same way each time, and holds what the programs say of them to the second reader of tests/second.
 
-    python3 scripts/test/damaged.py FOLDER [ROUNDS]
+    python3 scripts/test/damaged.py FOLDER
     python3 scripts/test/damaged.py --write FILE LINES
 
 FOLDER has linkwire, linkstate and linkshow. The lines are those of linkshow's stored run, those of linkwire's tests,
@@ -20,8 +20,9 @@ import subprocess
 import sys
 import tempfile
 from itertools import islice
+from pathlib import Path
 
-from shared import HEADER_SIZE, TOP, answers, attribute, compare, frames, pairs, read
+from shared import HEADER_SIZE, TOP, answers, attribute, compare, digits_of, frames, joined, pairs, read
 
 HEADER = "00" * 16
 LONG = [
@@ -34,17 +35,16 @@ LONG = [
 HOLDERS = {12: "IFLA_PROTINFO", 18: "IFLA_LINKINFO", 22: "IFLA_VFINFO_LIST", 24: "IFLA_VF_PORTS", 25: "IFLA_PORT_SELF",
            26: "IFLA_AF_SPEC", 43: "IFLA_XDP", 52: "IFLA_PROP_LIST", 55: "IFLA_PROTO_DOWN_REASON",
            62: "IFLA_DEVLINK_PORT", 65: "IFLA_DPLL_PIN"}
-LINE_BYTES = 2600  # a line of make_lines.py has fewer on average
+ROUNDS = 100  # how often each line is damaged
 HELD = "linkwire,linkstate,linkstate-lenient,linkshow,linkshow-lenient"
 
 
 def sources():
     """Returns the lines of linkshow's stored run, and the lines and canonical texts that linkwire's tests have."""
-    stored = [it for it in read("crates/linkshow/stdin").split("\n") if re.fullmatch("(?:[0-9a-fA-F]{2})+", it)]
-    tested = [digits for path in sorted(glob.glob("crates/linkwire/src/tests/*.rt", root_dir=TOP))
-              for digits in re.findall("[0-9a-fA-F]{32,}", re.sub(r"\\\n\s*", "", read(path))) if len(digits) % 2 == 0]
-    if not stored or not tested:
-        sys.exit("damaged: linkshow's stored run, or the tests of linkwire, have no lines")
+    tests = "\n".join(map(read, sorted(glob.glob("crates/linkwire/src/tests/*.rt", root_dir=TOP))))
+    found = re.findall("[0-9a-fA-F]{32,}", re.sub(r"\\\n\s*", "", tests))
+    stored, tested = digits_of(read("crates/linkshow/stdin")), [it for it in found if len(it) % 2 == 0]
+    assert stored and tested, "linkshow's stored run, or the tests of linkwire, have no lines"
     return list(dict.fromkeys(stored + tested))
 
 
@@ -78,10 +78,11 @@ def damaged(chance, line):
 
 def made(count):
     """Returns so many lines of bench/make_lines.py."""
-    with tempfile.NamedTemporaryFile("r", encoding="ascii") as it:
-        megabytes = str(max(1, count * LINE_BYTES // 1_000_000))
-        subprocess.run([sys.executable, f"{TOP}/bench/make_lines.py", it.name, megabytes], check=True, timeout=600)
-        return [line.rstrip("\n") for line in islice(it, count)]
+    command = [sys.executable, f"{TOP}/bench/make_lines.py", "/dev/stdout", "10000"]
+    with subprocess.Popen(command, stdout=subprocess.PIPE, text=True) as it:
+        lines = [line.rstrip("\n") for line in islice(it.stdout, count)]
+        it.kill()
+    return lines
 
 
 def object_of(pairs):
@@ -104,10 +105,9 @@ def fault_of(line, answer):
 # ** what linkshow --lenient says, by what it says without it of one attribute at a time
 
 def parts(message):
-    """Returns offset and line of a message of each attribute alone; None without a header, or where one is no frame."""
+    """Returns offset and line of a message of each attribute alone; nothing where one is no frame."""
     found, end = frames(message)
-    if len(message) < HEADER_SIZE or end < len(message):
-        return None
+    found = found if end >= len(message) else []
     return [(at, (message[:HEADER_SIZE] + attribute(kind, payload)).hex()) for at, kind, payload in found]
 
 
@@ -130,10 +130,8 @@ def refused_as(at, line, answer):
 
 def leniently(show, lines, shown):
     """Returns what the model says with --lenient, of most lines as without it, and of how many it is another answer."""
-    faults = [fault_of(line, answer) for line, answer in zip(lines, shown)]
-    split = {n: parts(bytes.fromhex(line)) for n, (line, fault) in enumerate(zip(lines, faults))
-             if fault not in (None, "not-hex")}
-    split = {n: found for n, found in split.items() if found is not None}
+    faulty = [n for n, (line, answer) in enumerate(zip(lines, shown)) if fault_of(line, answer) not in (None, "not-hex")]
+    split = {n: found for n in faulty if (found := parts(bytes.fromhex(lines[n])))}
     asked = list({line for found in split.values() for _, line in found})
     alone, accepted, refused = dict(zip(asked, answers(show, asked))), [], []
     for n, found in split.items():
@@ -146,20 +144,19 @@ def leniently(show, lines, shown):
     return wanted, len(split)
 
 
-def main(folder, rounds="100"):
+def main(folder):
     chance, messages = random.Random(1), [it.hex() for _, *pair in pairs() for it in pair]
     whole = sources() + messages
-    lines = whole + LONG + [damaged(chance, it) for it in whole + messages for _ in range(int(rounds))]
-    lines += [damaged(chance, it) for it in LONG for _ in range(int(rounds) // 10)]
+    lines = whole + LONG + [damaged(chance, it) for it in whole + messages for _ in range(ROUNDS)]
+    lines += [damaged(chance, it) for it in LONG for _ in range(ROUNDS // 10)]
     show = f"{folder}/linkshow"
     wanted, count = leniently(show, lines, answers(show, lines))
     found = answers(show, lines, "--lenient")
     compare("damaged: --lenient", lines, found, wanted)
     for line, answer in zip(lines, found):
         fault_of(line, answer)
-    with tempfile.NamedTemporaryFile("w", encoding="utf-8", newline="") as it:
-        it.writelines(line + "\n" for line in lines)
-        it.flush()
+    with tempfile.NamedTemporaryFile() as it:
+        Path(it.name).write_bytes(joined(lines))
         subprocess.run(["python3", f"{TOP}/tests/second/check.py", "--only", HELD, "--lines", it.name, folder, "-"],
                        check=True, cwd=TOP)
     print(f"damaged: {len(lines)} lines, damaged and whole, of which {count} are shown with --lenient alone: ok")
@@ -167,10 +164,7 @@ def main(folder, rounds="100"):
 
 def write(path, count):
     chance, lines = random.Random(2), made(int(count))
-    if len(lines) < int(count):
-        sys.exit(f"damaged: make_lines.py wrote {len(lines)} lines and not {count}: LINE_BYTES is too small")
-    with open(path, "w", encoding="utf-8", newline="") as out:
-        out.writelines(line + "\n" for line in [*(damaged(chance, it) for it in lines), *lines[::10]])
+    Path(path).write_bytes(joined([*(damaged(chance, it) for it in lines), *lines[::10]]))
 
 
 if __name__ == "__main__":

@@ -2,7 +2,7 @@
 """Takes a list of edits apart into the files that `rt must-fail` reads.
 
     python3 scripts/test/edits.py edits/CRATE.txt FOLDER [WORDS]
-    python3 scripts/test/edits.py --fit [edits/CRATE.txt ..]
+    python3 scripts/test/edits.py --fit
     python3 scripts/test/edits.py --table
     python3 scripts/test/edits.py --apply FILE.edit CRATE
 
@@ -13,16 +13,14 @@ the file; further pairs, and further files, may follow. A text goes on in lines 
 one blank in it. Each edit is written to FOLDER/NAME.edit, where NAME is its headline with _ between the words. With
 WORDS only those files stay in FOLDER whose name has these words, next to each other.
 
---fit says which edits of the lists (of all lists and of the gate's, in must-fail/, where none is named) do not fit
-their crate's files any more; where none is named, also whether the table of edits/README.md is as --table makes it,
-and which edit has no goal there.
+--fit says which edits of the lists and of the gate's, in must-fail/, do not fit their crate's files any more; also
+whether the table of edits/README.md is as --table makes it, and which edit has no goal there.
 --table makes the table of edits/README.md anew: a row for each edit of must-fail/ and tests/edits/ and of the groups
 '== the first to try', with the function in which its text stands. The goal of an edit is written into its row by hand,
 and stays there.
 --apply makes one edit in the files of a crate's folder.
 """
 
-import os
 import re
 import sys
 from pathlib import Path
@@ -43,20 +41,13 @@ def name_of(headline):
     return "_".join(re.findall(r"[a-z0-9]+", headline.lower()))
 
 
-def text_of(path):
-    try:
-        return Path(path).read_text("utf-8")
-    except (OSError, UnicodeDecodeError) as error:
-        sys.exit(f"{path}: it cannot be read: {error}")
-
-
 def lines_of(edit):
-    return text_of(edit).rstrip("\n").split("\n")
+    return Path(edit).read_text("utf-8").rstrip("\n").split("\n")
 
 
 def read(path):
     """Returns the edits of a list, as group, headline and lines, or stops and says which is not of the form."""
-    text, edits, groups, faults = text_of(path) + "\n", {}, [], []
+    text, edits, groups, faults = Path(path).read_text("utf-8") + "\n", {}, [], []
     for found in re.finditer(r"(?:.+\n)+", text):
         paragraph = found[0].replace("\n" + " " * 8, " ")
         where = f"{path}:{text.count(chr(10), 0, found.start()) + 1}"
@@ -78,6 +69,15 @@ def read(path):
     return [*edits.values()]
 
 
+def lists():
+    """Yields where the edits of the gate, and those of the lists, stand, the folder of their crate, and the edits as
+    group, headline and lines."""
+    for folder in sorted(TOP.glob("crates/*/must-fail")):
+        yield folder, folder.parent, [("", f"`{it.stem}`", lines_of(it)) for it in sorted(folder.glob("*.edit"))]
+    for path in sorted(TOP.glob("edits/*.txt")) + sorted(TOP.glob("tests/edits/*.txt")):
+        yield path, TOP / "crates" / path.stem, read(path)
+
+
 def take_apart(path, folder, words=""):
     folder = Path(folder)
     folder.mkdir(parents=True, exist_ok=True)
@@ -91,24 +91,30 @@ def take_apart(path, folder, words=""):
             file.unlink()
 
 
-def edited(lines, crate):
-    """Returns the texts of the files that an edit changes, by their path, and why it cannot be applied, or None."""
-    texts, path, old = {}, None, None
+def pairs_of(lines, crate):
+    """Yields of each pair of an edit the file, the old text and the new one."""
+    path, old = crate, ""
     for line in lines:
         key, _, text = line.partition(":")
-        text = text[1:]
         if key == "file":
-            path = crate / text
-            if not path.is_file():
-                return texts, f"there is no file {text}"
-            texts.setdefault(path, text_of(path))
+            path = crate / text[1:]
         elif key == "old":
-            old, count = text, texts[path].count(text)
-            if count != 1:
-                return texts, f"this text is in {path.relative_to(crate)} {count} times, and not once: " \
-                    f"{text.strip()[:80]}"
+            old = text[1:]
         else:
-            texts[path] = texts[path].replace(old, text)
+            yield path, old, text[1:]
+
+
+def edited(lines, crate):
+    """Returns the texts of the files that an edit changes, by their path, and why it cannot be applied, or None."""
+    texts = {}
+    for path, old, new in pairs_of(lines, crate):
+        if not path.is_file():
+            return texts, f"there is no file {path.relative_to(crate)}"
+        text = texts[path] if path in texts else path.read_text("utf-8")
+        if text.count(old) != 1:
+            return texts, f"this text is in {path.relative_to(crate)} {text.count(old)} times, and not once: " \
+                f"{old.strip()[:80]}"
+        texts[path] = text.replace(old, new)
     return texts, None
 
 
@@ -125,97 +131,51 @@ def owner(text, at):
     """Returns the function, the named type or the macro of a file in which a place of it stands, as `Type::name` or
     `name`."""
     head = text[:at] + text[at:].partition("\n")[0]
-    items = re.findall(r"^( *)(?:pub(?:\(crate\))? )?(?:const )?(?:final )?(?:fn|type) (\w+)|^()macro_rules! (\w+)",
-                       head, re.M)
+    items = re.findall(r"^( *)(?:pub(?:\(crate\))? )?(?:const )?(?:final )?(?:fn|type|macro_rules!) (\w+)", head, re.M)
     if not items:
         return ""
-    indent, name = items[-1][0], items[-1][1] or items[-1][3]
+    indent, name = items[-1]
     blocks = re.findall(r"^(?:pub )?(?:impl|trait)\b(?:<.*?>)? (?:[\w<>':, ]+ for )?(\w+)", head, re.M)
     return f"{blocks[-1]}::{name}" if indent and blocks else name
 
 
-def places(lines, crate):
-    """Returns the functions in which the old texts of an edit stand."""
-    found, path = set(), crate
-    for line in lines:
-        key, _, text = line.partition(": ")
-        if key == "file":
-            path = crate / text
-        elif key == "old" and path.is_file():
-            source = text_of(path)
-            found.add(owner(source, source.find(text)))
-    return ", ".join(f"`{it}`" for it in sorted(found) if it)
-
-
-def gates():
-    """Yields the folder of each crate's edits of the gate."""
-    return sorted(TOP.glob("crates/*/must-fail"))
-
-
-def edits_to_list():
-    """Yields the edits that the gate and `make check` try, and those that lists have to be tried first: where, name,
-    and the functions that hold their texts."""
-    for folder in gates():
-        for path in sorted(folder.glob("*.edit")):
-            yield folder.parent.name, f"`{path.stem}`", places(lines_of(path), folder.parent)
-    for path in sorted(TOP.glob("edits/*.txt")):
-        for group, headline, lines in read(path):
-            if group == FIRST:
-                yield f"edits/{path.stem}", headline, places(lines, crate_of(path))
-    for path in sorted(TOP.glob("tests/edits/*.txt")):
-        for _, headline, lines in read(path):
-            yield "tests/edits", headline, places(lines, crate_of(path))
-
-
 def page_as_made():
-    """Returns the page of edits as it is, and as it is with its table made anew, with the goals that it has."""
-    page = text_of(PAGE)
+    """Returns the page of edits as it is, and as it is with its table made anew, with the goals that it has: a row for
+    each edit that the gate and `make check` try, and for those that lists have to be tried first."""
+    page, table = PAGE.read_text("utf-8"), TABLE
     rows = [[it.strip() for it in row.strip("|").split(" | ")] for row in page.split("\n") if row.count(" | ") == 3]
     goals = {(where.strip("`"), edit): goal for edit, _, goal, where in rows}
-    table = TABLE + "".join(f"| {edit} | {names} | {goals.get((where, edit), NO_GOAL)} | `{where}` |\n"
-                            for where, edit, names in edits_to_list())
+    for path, crate, edits in lists():
+        where = crate.name if path.is_dir() else "tests/edits" if path.parts[-3] == "tests" else f"edits/{crate.name}"
+        for group, headline, lines in edits:
+            if group == FIRST or not where.startswith("edits/"):
+                sources = [(it.read_text("utf-8"), old) for it, old, _ in pairs_of(lines, crate) if it.is_file()]
+                names = sorted({owner(text, text.find(old)) for text, old in sources} - {""})
+                table += f"| {headline} | {', '.join(f'`{it}`' for it in names)} | " \
+                    f"{goals.get((where, headline), NO_GOAL)} | `{where}` |\n"
     return page, MADE.sub(lambda _: table, page)
 
 
 # ** what fits
 
-def crate_of(path):
-    return TOP / "crates" / Path(path).stem
-
-
-def unfit(path, crate, edits):
-    """Prints which edits, pairs of a name and lines, do not fit, and returns how many."""
-    bad = [(name, why) for name, lines in edits for why in [edited(lines, crate)[1]] if why]
-    for name, why in bad:
-        print(f"{crate.name}: {name}: {why}")
-    print(f"{os.path.relpath(path, TOP)}: {len(edits)} edits, {len(bad)} do not fit")
-    return len(bad)
-
-
-def unfit_page():
-    """Prints in what the page of edits is not as it is made, and returns how many rows."""
+def fit():
+    """Prints in what the page of edits is not as it is made, and which edits do not fit; returns whether there are."""
     page, made = page_as_made()
     wrong = [f"no goal: {row}" for row in made.split("\n") if f" | {NO_GOAL} | " in row]
     wrong += ["it is not as 'python3 scripts/test/edits.py --table' makes it"] * (page != made)
-    for line in wrong:
-        print(f"{PAGE.relative_to(TOP)}: {line}")
-    return len(wrong)
-
-
-def fit(*paths):
-    failed = 0
-    if not paths:
-        failed = unfit_page()
-        failed += sum(unfit(it, it.parent, [(edit.name, lines_of(edit)) for edit in sorted(it.glob("*.edit"))])
-                      for it in gates())
-    for path in paths or sorted(TOP.glob("edits/*.txt")) + sorted(TOP.glob("tests/edits/*.txt")):
-        failed += unfit(path, crate_of(path), [edit[1:] for edit in read(path)])
-    return int(failed > 0)
+    told = [f"{PAGE.relative_to(TOP)}: {it}" for it in wrong]
+    count = len(told)
+    for path, crate, edits in lists():
+        bad = [f"{crate.name}: {headline}: {why}" for _, headline, lines in edits if (why := edited(lines, crate)[1])]
+        told += [*bad, f"{path.relative_to(TOP)}: {len(edits)} edits, {len(bad)} do not fit"]
+        count += len(bad)
+    print(*told, sep="\n")
+    return int(count > 0)
 
 
 def main(words):
-    if words[:1] == ["--fit"]:
-        return fit(*words[1:])
+    if words == ["--fit"]:
+        return fit()
     if words == ["--table"]:
         return PAGE.write_text(page_as_made()[1], "utf-8") and None
     if words[:1] == ["--apply"] and len(words) == 3:

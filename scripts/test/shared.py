@@ -42,9 +42,14 @@ def ran(program, given, *options):
     return it.stdout.split(b"\n")[:-1]
 
 
+def joined(lines):
+    """Returns the bytes of lines, which are texts or bytes."""
+    return b"".join((it if isinstance(it, bytes) else it.encode()) + b"\n" for it in lines)
+
+
 def said(program, lines, *options):
-    """Returns the lines that a program writes when it reads these, which are texts or bytes."""
-    return ran(program, b"".join((it if isinstance(it, bytes) else it.encode()) + b"\n" for it in lines), *options)
+    """Returns the lines that a program writes when it reads these."""
+    return ran(program, joined(lines), *options)
 
 
 def answers(program, lines, *options):
