@@ -24,27 +24,13 @@ NUMBERS = "link_msg", "link_vf", "link_nest", "link_afspec"
 ITEM = re.compile(r"^(?:abbrev |unfoldable )?(?:pub )?(?:(?:record|data) )?([^\s:]+) (?=.*:)(?![^:]*=)")
 USE = re.compile(r"^use Rattle\.(\S+?)(?: as (\S+)|\.\{(.*)\})?$", re.M)
 NAME = re.compile(r"[^\s(){},;:λ→×]+")
+# comments, and the fields `reads`, which no other line may cite
+UNREAD = re.compile(r" *--[^\n]*|^\s*pub reads :[^\n]*\n|\breads = [^;{}]*;?", re.M)
 BLOCK = re.compile(r"^```bytes\n([\s\S]*?)^```$", re.M)
 
 
 def fails(what):
     sys.exit(f"headline: {PAGE}: {what}")
-
-
-def without_reader(text):
-    """The lines of a definition without comments, and without the fields `reads`, which no other line may cite."""
-    text = re.sub(r" *--[^\n]*|^\s*pub reads :[^\n]*\n", "", text, flags=re.M)
-    kept, depth, skipped = "", 0, None
-    for at, char in enumerate(text):
-        if skipped is None and re.match(r"\breads = ", text[at:]) and not text[at - 1].isalnum():
-            skipped = depth
-        depth += (char in "({") - (char in ")}")
-        if skipped is not None and (depth < skipped or (char == ";" and depth == skipped)):
-            skipped = None
-            kept += char if char == "}" else ""
-        elif skipped is None:
-            kept += char
-    return kept
 
 
 class Module:
@@ -68,9 +54,8 @@ class Module:
                 self.items[current] = self.items.get(current, "") + line + "\n"
         self.names.update({it: (name, it) for it in self.items})
 
-    def cited(self, item):
-        """Where each name stands that a definition cites."""
-        body = without_reader(self.items[item])
+    def cited(self, body):
+        """Where each name stands that the lines of a definition cite."""
         for name in NAME.findall(body):
             first, _, rest = name.partition(".")
             if first in self.others and rest:
@@ -89,11 +74,11 @@ def walk(starts, is_left_out):
         modules.setdefault(module, Module(module))
         if name not in modules[module].items:
             sys.exit(f"headline: {module} has no {name}")
-        body = without_reader(modules[module].items[name])
+        body = UNREAD.sub("", modules[module].items[name])
         if re.search(r"\.reads\b", body):
             sys.exit(f"headline: {name} of {module} cites a reader")
         found[module, name] = sum(bool(line.strip()) for line in body.splitlines())
-        todo += modules[module].cited(name)
+        todo += modules[module].cited(body)
     return found
 
 

@@ -10,15 +10,14 @@ line is one of input, and behind the arrow stands what it adds; the page says ho
 those behind it are run, and with OLD and NEW one arrow stands behind the lines of both. The last line is
 'linkdiff page: ok'."""
 import json
-import os
 import re
 import struct
-import subprocess
 import sys
 import tempfile
+from pathlib import Path
 
 from headline import Module, hold_words, show, size, walk
-from shared import attribute, read, said
+from shared import attribute, joined, read, said
 
 PAGE = "docs/LINKDIFF.md"
 LINES, FRAMES = "message_diff.specs.", "frame_diff.specs."
@@ -132,51 +131,44 @@ def runs(linkdiff, words, lines):
 
 
 def runs_files(linkdiff, lines):
+    """What is told of two files, in one list."""
     middle = lines.index("NEW")
     with tempfile.TemporaryDirectory() as folder:
         for name, part in ("OLD", lines[1:middle]), ("NEW", lines[middle + 1:]):
-            with open(os.path.join(folder, name), "w", encoding="utf-8") as it:
-                it.writelines(spelled(line) + "\n" for line in part)
-        ran = subprocess.run([linkdiff, "OLD", "NEW"], capture_output=True, text=True, check=True, cwd=folder)
-    return [told(it) for it in ran.stdout.splitlines()]
+            Path(folder, name).write_bytes(joined(map(spelled, part)))
+        return [[told(it) for it in said(linkdiff, [], f"{folder}/OLD", f"{folder}/NEW")]]
 
 
 def hold(linkdiff, words, lines):
     """Looks whether the program tells of these lines what stands behind their arrows; returns how many they are."""
+    given, arrows, wanted = zip(*(map(str.strip, it.partition("->")) for it in lines))
     if "OLD" in words:
-        *lines, wanted = lines
-        found = [runs_files(linkdiff, lines)]
-        lines, wanted = ["two files"], [wanted.removeprefix("-> ")]
+        found = runs_files(linkdiff, given[:-1])
+        given, arrows, wanted = ["two files"], arrows[-1:], wanted[-1:]
     else:
-        parts = [it.partition("->") for it in lines]
-        if no_arrow := [line for line, arrow, _ in parts if not arrow]:
-            fails(f"'{no_arrow[0]}' has no arrow")
-        lines, wanted = [it[0].strip() for it in parts], [it[2].strip() for it in parts]
-        found = runs(linkdiff, words, lines)
-    for line, one, other in zip(lines, found, wanted):
+        found = runs(linkdiff, words, given)
+    for line, arrow, one, other in zip(given, arrows, found, wanted, strict=True):
+        if not arrow:
+            fails(f"'{line}' has no arrow")
         if "; ".join(one) != other:
             fails(f"'{line}': told is '{'; '.join(one)}'")
-    return len(lines)
+    return len(given)
 
 
 def streams(linkdiff, page):
     """Runs each stream; returns how many lines were held."""
     held = 0
     for block in STREAM.findall(page):
-        words, lines = [], []
-        for line in [*filter(lambda it: it and it[0] != "#", block.splitlines()), "linkdiff"]:
-            if line.split()[0] == "linkdiff":
-                held += hold(linkdiff, words, lines) if lines else 0
-                words, lines = line.split()[1:], []
-            else:
-                lines.append(line)
+        lines = "\n".join(it for it in block.splitlines() if it and it[0] != "#")
+        for words, part in re.findall(r"^(?:linkdiff ?(.*)\n)?((?:(?!linkdiff\b).*\n?)+)", lines, re.M):
+            held += hold(linkdiff, words.split(), part.splitlines())
     return held
 
 
 def main(linkdiff="out/linkdiff"):
     page = read(PAGE)
     print(f"linkdiff page: {count(of_linkdiff(), page)}")
-    held = streams(os.path.abspath(linkdiff), page)
+    held = streams(linkdiff, page)
     print(f"linkdiff page: {held} lines of {len(STREAM.findall(page))} streams\nlinkdiff page: ok")
 
 
