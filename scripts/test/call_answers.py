@@ -2,15 +2,13 @@
 """Compares what linkwire_show answers with what linkshow does, and what linkwire_diff tells with what linkdiff does,
 byte for byte.
 
-    python3 scripts/test/call_answers.py ARCHIVE LINKSHOW LINKDIFF [FILE..]
+    python3 scripts/test/call_answers.py ARCHIVE LINKSHOW LINKDIFF
 
-The files have lines of hexadecimal messages, with words in front of them or none; without files they are those of the
-repository. Each message is shown in each order of counters, as it is and damaged, strictly and leniently; and compared
-with the next one and with a damaged one, as states and as they are, strictly and leniently. By ARCHIVE tests/c/shown.c
-is built. The last line is 'call_answers: ok'.
+The messages are the lines of FILES, with words in front of them or none. Each is shown in each order of counters, as it
+is and damaged, strictly and leniently; and compared with the next one and with a damaged one, as states and as they
+are, strictly and leniently. By ARCHIVE tests/c/shown.c is built. The last line is 'call_answers: ok'.
 """
 
-import fileinput
 import os
 import random
 import re
@@ -19,7 +17,7 @@ import sys
 import tempfile
 
 from damaged import damaged_bytes
-from shared import HEADER_SIZE, TOP, answers, compare, frames, said
+from shared import HEADER_SIZE, TOP, answers, compare, frames, read, said
 
 FILES = ["tests/captures.txt", "tests/kernels/messages.txt", "crates/linkshow/stdin", "crates/linkwire/stdin",
          "crates/linkdiff/stdin", "bench/messages.txt"]
@@ -27,6 +25,7 @@ FILES = ["tests/captures.txt", "tests/kernels/messages.txt", "crates/linkshow/st
 ORDERS = {0: "6.14", 1: "6.12.3", 2: "6.18"}
 # the arguments of a program that stand for each flag of linkwire.h
 FLAGS = {1: "--lenient", 2: "--counters"}
+DIGITS = re.compile(r"(?<!\S)(?:[0-9a-fA-F]{2})+(?=\s*$)", re.M)
 LONGEST = 1 << 19
 DAMAGED = 4
 # linkdiff passes over a message with a name and IFLA_WIRELESS alone
@@ -34,13 +33,6 @@ WIRELESS = 11
 # an attribute IFLA_EVENT, which neither compares
 EVENT = bytes([8, 0, 44, 0, 4, 0, 0, 0])
 OTHER = "another interface"
-
-
-def lines_of(files):
-    """The digits of each line that has some."""
-    for words in map(bytes.split, fileinput.input(files, mode="rb")):
-        if words and re.fullmatch(rb"([0-9a-fA-F]{2})+", words[-1]) and len(words[-1]) <= LONGEST:
-            yield words[-1].lower().decode()
 
 
 def options(flags):
@@ -117,8 +109,8 @@ def compare_told(call, program, pairs):
     return count
 
 
-def main(archive, linkshow, linkdiff, *files):
-    lines = list(lines_of(files or [f"{TOP}/{it}" for it in FILES]))
+def main(archive, linkshow, linkdiff):
+    lines = [it.lower() for file in FILES for it in DIGITS.findall(read(file)) if len(it) <= LONGEST]
     chance = random.Random(58)
     more = [damaged_bytes(chance, line) for line in lines for _ in range(DAMAGED)]
     with tempfile.TemporaryDirectory() as folder:

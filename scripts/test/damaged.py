@@ -130,8 +130,9 @@ def refused_as(at, line, answer):
 
 def leniently(show, lines, shown):
     """Returns what the model says with --lenient, of most lines as without it, and of how many it is another answer."""
-    faulty = [n for n, (line, answer) in enumerate(zip(lines, shown)) if fault_of(line, answer) not in (None, "not-hex")]
-    split = {n: found for n in faulty if (found := parts(bytes.fromhex(lines[n])))}
+    faults = [fault_of(line, answer) for line, answer in zip(lines, shown)]
+    split = {n: found for n, fault in enumerate(faults)
+             if fault not in (None, "not-hex") and (found := parts(bytes.fromhex(lines[n])))}
     asked = list({line for found in split.values() for _, line in found})
     alone, accepted, refused = dict(zip(asked, answers(show, asked))), [], []
     for n, found in split.items():

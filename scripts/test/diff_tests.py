@@ -1,13 +1,12 @@
 #!/usr/bin/env python3
 """Holds linkdiff to told.py of tests/second, a model of docs/LINKDIFF.md, over messages of kernels.
 
-    python3 scripts/test/diff_tests.py LINKDIFF LINKSHOW [COUNT]
+    python3 scripts/test/diff_tests.py LINKDIFF LINKSHOW
 
 The lines are made: messages of tests/state/pairs.txt, beside themselves, beside the other one of their pair, which has
 the same state, and with attributes that are changed, renamed, moved, dropped and added; then with attributes among
-them that are refused, once or more often; and messages with lists, some values of which are damaged. COUNT says how
-many are made.
-Words in front of a line are told as linkshow tells them.
+them that are refused, once or more often; and messages with lists of addresses, some of which are damaged. Lists whose
+values say a number are those of tests/second/keyed.py. Words in front of a line are told as linkshow tells them.
 """
 import random
 import sys
@@ -16,6 +15,9 @@ from shared import HEADER_SIZE, TOP, answers, attribute, compare, frames, pairs,
 
 sys.path.append(f"{TOP}/tests/second")
 import told
+
+COUNT = 300  # how many are made of a kind
+WAYS = (), ("--counters",), ("--lenient",), ("--lenient", "--counters")
 
 
 def compare_words(linkdiff, linkshow):
@@ -61,28 +63,13 @@ def spoilt(rng, message):
     return message[:HEADER_SIZE] + b"".join(attribute(*it) for it in found)
 
 
-def listed(rng, number, value):
-    """Returns up to four attributes of a number, with values of numbers below 3; one in twelve is damaged."""
-    return [attribute(number, value(rng.randrange(3)) if rng.randrange(12) else b"odd")
-            for _ in range(rng.choice([0, 1, 1, 2, 3, 4]))]
-
-
-def with_lists(rng, which):
-    """Returns a message with lists, and with attributes that come twice: of a bridge, a vlan or a macvlan."""
-    spec = which == 0 and [
-        *listed(rng, 2, lambda n: bytes([2 * rng.randrange(3), 0, n, 0])),
-        *listed(rng, 3, lambda n: attribute(1, bytes([n, 0, 0, 0])) + attribute(2, bytes([n, 0]))),
-        *listed(rng, 6, lambda _: b"".join(listed(rng, 1, lambda n: attribute(1, bytes([n, 0]))))),
-        *listed(rng, 1, lambda n: bytes([n, 0])), *listed(rng, 99, lambda n: bytes(n))]
-    mappings = [attribute(number, b"".join(listed(rng, 1, lambda n: bytes([n, 0, 0, 0, rng.randrange(3), 0, 0, 0]))))
-                for number in (3, 4, 4)]
-    addresses = [attribute(5, b"".join(listed(rng, 4, lambda n: bytes([2, 0, 0, 0, 0, n]))))]
-    kind, found = [(b"bridge", spec), (b"vlan", mappings), (b"macvlan", addresses)][which]
-    rng.shuffle(found)
-    inside = b"".join(found)
-    info = attribute(1, kind + b"\0") + attribute(2, inside)
-    front = bytes([0 if which else 7, *bytes(3), 1, *bytes(HEADER_SIZE - 5)])
-    return front + (attribute(18, info) if which else attribute(26, inside))
+def with_addresses(rng):
+    """Returns a message of a macvlan with a list of addresses, of which some come twice; one in twelve is damaged."""
+    values = [bytes([2, 0, 0, 0, 0, rng.randrange(3)]) if rng.randrange(12) else b"odd"
+              for _ in range(rng.choice([0, 1, 1, 2, 3, 4]))]
+    addresses = attribute(5, b"".join(attribute(4, it) for it in values))
+    info = attribute(1, b"macvlan\0") + attribute(2, addresses)
+    return bytes([0, 0, 0, 0, 1, *bytes(HEADER_SIZE - 5)]) + attribute(18, info)
 
 
 def changed(linkdiff, linkshow, messages, *options):
@@ -97,7 +84,7 @@ def changed(linkdiff, linkshow, messages, *options):
     return sum(b'"change":"changed"' in it for it in found)
 
 
-def main(linkdiff, linkshow, count="300"):
+def main(linkdiff, linkshow):
     rng, stored = random.Random(7), pairs()
     compare_words(linkdiff, linkshow)
     if changed(linkdiff, linkshow, [pair for _, *pair in stored]):
@@ -106,18 +93,14 @@ def main(linkdiff, linkshow, count="300"):
     if changed(linkdiff, linkshow, [(one, one) for _, one, _ in stored], "--counters"):
         sys.exit("diff_tests: a message changed beside itself")
     print(f"diff_tests: {len(stored)} pairs of one state, of which nothing is told; with --counters {moved} differ")
-    made = [(one, altered(rng, other)) for _, one, other in rng.choices(stored, k=int(count))]
-    for options in (), ("--counters",), ("--lenient",), ("--lenient", "--counters"):
-        different = changed(linkdiff, linkshow, made, *options)
-        print(f"diff_tests: {' '.join([*options, count])} altered messages, of which {different} differ: ok")
-    made = [(spoilt(rng, one), spoilt(rng, rng.choice([one, other]))) for one, other in made]
-    for options in ("--lenient",), ("--lenient", "--counters"):
-        different = changed(linkdiff, linkshow, made, *options)
-        print(f"diff_tests: {' '.join([*options, count])} messages with refused attributes, {different} differ: ok")
-    made = [(with_lists(rng, at % 3), with_lists(rng, at % 3)) for at in range(int(count))]
-    for options in (), ("--counters",), ("--lenient",), ("--lenient", "--counters"):
-        different = changed(linkdiff, linkshow, made, *options)
-        print(f"diff_tests: {' '.join([*options, count])} messages with lists, of which {different} differ: ok")
+    made = [(one, altered(rng, other)) for _, one, other in rng.choices(stored, k=COUNT)]
+    refused = [(spoilt(rng, one), spoilt(rng, rng.choice([one, other]))) for one, other in made]
+    lists = [(with_addresses(rng), with_addresses(rng)) for _ in range(COUNT)]
+    for messages, what, ways in ((made, "altered messages", WAYS), (lists, "messages with lists", WAYS),
+                                 (refused, "messages with refused attributes", WAYS[2:])):
+        for options in ways:
+            different = changed(linkdiff, linkshow, messages, *options)
+            print(f"diff_tests: {' '.join([*options, str(COUNT)])} {what}, of which {different} differ: ok")
 
 
 if __name__ == "__main__":

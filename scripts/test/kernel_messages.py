@@ -1,8 +1,8 @@
 #!/usr/bin/env python3
 """Messages of real kernels, and what the programs answer: tests/kernels.
 
-    python3 scripts/test/kernel_messages.py [FOLDER]            runs the programs of FOLDER, else of out/, and compares
-    python3 scripts/test/kernel_messages.py --write [FOLDER]    stores what they answer
+    python3 scripts/test/kernel_messages.py            runs the programs of out/, and compares
+    python3 scripts/test/kernel_messages.py --write    stores what they answer
 
 messages.txt has a line of hexadecimal for each message, and in front of it one that says kernel, where the message is
 from, and the link. PROGRAM.txt has a line for each, as the program answers it; a '=' stands for the message's own
@@ -14,8 +14,9 @@ that is added stands at the end. The last line is 'kernel_messages: ok'.
 import os
 import sys
 from itertools import groupby
+from pathlib import Path
 
-from shared import TOP, answers, compare, read
+from shared import TOP, answers, compare, joined, read
 
 STORED = "tests/kernels/%s.txt"
 
@@ -37,16 +38,15 @@ def answered(name, path, listed):
 
 
 def main():
-    folder, listed = ([it for it in sys.argv[1:] if it != "--write"] or [f"{TOP}/out"])[0], messages()
+    listed = messages()
     for name in ("linkwire", "linkstate", "linkshow"):
-        path = f"{folder}/{name}"
+        path = f"{TOP}/out/{name}"
         if not os.access(path, os.X_OK):
             print(f"kernel_messages: skipped: {name} is not built")
             continue
         found = answered(name, path, listed)
         if "--write" in sys.argv:
-            with open(f"{TOP}/{STORED % name}", "w", encoding="utf-8", newline="") as it:
-                it.writelines(line + "\n" for line in found)
+            Path(TOP, STORED % name).write_bytes(joined(found))
         compare(f"kernel_messages: {name}", [digits for _, digits in listed], found,
                 read(STORED % name).split("\n")[:-1])
         print(f"kernel_messages: {name}: {len(listed)} answers as stored")

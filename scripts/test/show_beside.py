@@ -1,17 +1,16 @@
 #!/usr/bin/env python3
 """Compares what linkshow says of lines with what is shown of them where their values are read and written again.
 
-    python3 scripts/test/show_beside.py BESIDE LINKSHOW [ROUNDS [FILE..]]
+    python3 scripts/test/show_beside.py BESIDE LINKSHOW
 
 The lines are those of linkshow's stored run, those of linkwire's tests, those of tests/kernels, a few that are as long
-as a list can be, some that bench/make_lines.py makes, and the lines of each FILE; then each of them damaged, ROUNDS
-times. A line that is a message has to have the same answer of both, byte for byte, for each order of the counters of
-IPv6. Of a line that is none both have to show the same in front of the fault and, with --lenient, of the attributes
-that are accepted; linkshow alone tells the fault, and what is refused. The last line is 'show_beside: ok'.
+as a list can be, and some that bench/make_lines.py makes; then each of them damaged, all but the longest twice. A line
+that is a message has to have the same answer of both, byte for byte, for each order of the counters of IPv6. Of a line
+that is none both have to show the same in front of the fault and, with --lenient, of the attributes that are accepted;
+linkshow alone tells the fault, and what is refused. The last line is 'show_beside: ok'.
 """
 
 import random
-import re
 import sys
 
 from damaged import LONG, damaged, made, sources
@@ -26,12 +25,6 @@ REFUSED = b'{"fault":"refused"'
 NOT_HEX = b'{"fault":"not-hex"}'
 
 
-def lines_of(path):
-    """Returns the lines of a file that are hexadecimal digits alone."""
-    with open(path, encoding="utf-8", errors="replace") as it:
-        return re.findall("^(?:[0-9a-fA-F]{2})+$", it.read(), re.M)
-
-
 def wanted_of(shown):
     """Returns what beside has to write where linkshow writes this."""
     if shown.startswith(b'{"fault":') and shown != NOT_HEX:
@@ -41,13 +34,10 @@ def wanted_of(shown):
     return accepted + b"}" if comma else shown
 
 
-def main():
-    beside, show = sys.argv[1:3]
-    rounds = int(sys.argv[3]) if len(sys.argv) > 3 else 2
+def main(beside, show):
     chance = random.Random(3)
     whole = sources() + [digits for _, digits in messages()] + LONG + made(MADE_LINES)
-    whole += [line for path in sys.argv[4:] for line in lines_of(path)]
-    lines = whole + [damaged(chance, line) for line in whole for _ in range(rounds if len(line) < 20_000 else 1)]
+    lines = whole + [damaged(chance, line) for line in whole for _ in range(2 if len(line) < 20_000 else 1)]
     # linkshow takes what stands in front of a blank as words
     lines = [line for line in lines if " " not in line and "=" not in line]
     refused = 0
@@ -61,4 +51,4 @@ def main():
 
 
 if __name__ == "__main__":
-    main()
+    main(*sys.argv[1:])

@@ -17,7 +17,7 @@ import sys
 from pathlib import Path
 
 from damaged import sources
-from shared import TOP, answers, compare, kernels, pairs
+from shared import TOP, answers, compare, digits_of, kernels, pairs
 
 sys.path.append(f"{TOP}/tests/second")
 from check import Said
@@ -62,7 +62,7 @@ def states(linkstate, found):
 
 def dump(path):
     """Returns the messages of a dump by their indices."""
-    messages = [bytes.fromhex(line) for line in Path(path).read_text("utf-8").splitlines() if line[:1] not in ("", "#")]
+    messages = map(bytes.fromhex, digits_of(Path(path).read_text("utf-8")))
     return {int.from_bytes(message[4:8], "little"): message for message in messages}
 
 
@@ -81,19 +81,6 @@ def has_asked(name, first, second):
     return [(at, a ^ b) for at, (a, b) in enumerate(both) if a != b] == [ASKED.get(name)]
 
 
-def compare_kernels(linkstate, folder):
-    """Looks at the pairs of each kernel of a folder."""
-    for release, out in kernels(folder):
-        found = states(linkstate, pairs_of(release, out))
-        moved = {name: pair for name, pair in found.items() if pair[0] != pair[1]}
-        wrong = [name for name, pair in moved.items() if not has_asked(name, *pair)]
-        if wrong or not found:
-            sys.exit(f"state_tests: kernel {release}: {len(found)} pairs; of two states, or refused once: {wrong}")
-        print(f"state_tests: kernel {release}: {len(found)} pairs, {list(found.values()).count((b'refused',) * 2)} "
-              f"refused twice, the others of one state; two where an interface asked for routers: "
-              f"{', '.join(moved) or 'none'}")
-
-
 def main(linkstate):
     chance, found = random.Random(2), pairs()
     lines = sources() + [it.hex() for _, *pair in found for it in pair]
@@ -103,9 +90,18 @@ def main(linkstate):
     if wrong:
         sys.exit(f"state_tests: two states, or a refusal: {wrong}")
     print(f"state_tests: {with_words} lines with words; {len(found)} pairs of one state")
-    if os.environ.get("KERNELS"):
-        return compare_kernels(linkstate, os.environ["KERNELS"])
-    return print("state_tests: skipped: KERNELS names no folder of kernels")
+    if not os.environ.get("KERNELS"):
+        print("state_tests: skipped: KERNELS names no folder of kernels")
+        return
+    for release, out in kernels(os.environ["KERNELS"]):
+        found = states(linkstate, pairs_of(release, out))
+        moved = {name: pair for name, pair in found.items() if pair[0] != pair[1]}
+        wrong = [name for name, pair in moved.items() if not has_asked(name, *pair)]
+        if wrong or not found:
+            sys.exit(f"state_tests: kernel {release}: {len(found)} pairs; of two states, or refused once: {wrong}")
+        print(f"state_tests: kernel {release}: {len(found)} pairs, {list(found.values()).count((b'refused',) * 2)} "
+              f"refused twice, the others of one state; two where an interface asked for routers: "
+              f"{', '.join(moved) or 'none'}")
 
 
 if __name__ == "__main__":
