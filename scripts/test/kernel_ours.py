@@ -24,6 +24,8 @@ FORMS = {"u8": Form("u8"), "u16": Form("u16"), "u32": Form("u32"), "u64": Form("
          "text": Form("string"), "bytes": Form("binary"), "address": Form("binary"),
          "ext_mask": Form("u32", value="LinkExtentMask"), "phys_id": Form("binary", value="LinkPhysId"),
          "event": Form("binary", value="WirelessEvent")}
+# how fields of records are read
+ORDERS = {"number": "u", "be_number": "be", "signed": "s"}
 # forms of link_info
 LETTERS = {"Unsigned": "u", "BigEndian": "be", "Signed": "s", "Named": "u", "BigEndianNamed": "be", "Flags": "u",
            "BigEndianFlags": "be"}
@@ -89,7 +91,7 @@ class Repository:
         for text in [*self.second.RECORDS, *self.texts("link_msg/specs/Header.antt")]:
             for prefix, kind, body in re.findall(r"^.*?\b(\w+)_of : List ℕ → (\w+)\n\1_of \w+ =\s+(.*?)(?=\n\n|\Z)",
                                                  text, re.M | re.S):
-                fields = sorted(self.uniform(body, text) or self.single(kind, body), key=lambda it: it.offset)
+                fields = sorted(self.fields(kind, body, text), key=lambda it: it.offset)
                 order = re.search(rf"^{prefix}_(?:members|bytes) v =\s+(.*?)(?=\n\n|\Z)", text, re.M | re.S).group(1)
                 written = list(dict.fromkeys(re.findall(r"\bv\.(\w+)", order)))
                 if written != [it.name for it in fields]:
@@ -98,30 +100,21 @@ class Repository:
                 self.records[kind], self.prefixes[prefix] = (fields, size), kind
 
     @staticmethod
-    def uniform(body, text):
-        """Fields of one width: the record of a function from the number of a field."""
-        found = re.match(r"\w+ \(λ i\. (signed_at|number_at) w(\d+) payload \((\d+) \* i\)\)", body)
-        if found:
-            letter, step = "s" if found.group(1) == "signed_at" else "u", int(found.group(3))
-            return [Field(name, step * int(i), letter + found.group(2))
-                    for name, i in re.findall(r"(\w+) = field (\d+);", text)]
-        return None
-
-    @staticmethod
-    def single(kind, body):
-        """Fields of several widths, each with its offset."""
-        fields = []
-        for name, it in re.findall(r"(\w+) = ([^;}]+)[;}]", body.partition("{")[2]):
-            number = re.search(r"\b(be_)?number_at w(\d+) \w+ (\d+)", it)
+    def fields(kind, body, text):
+        """The fields of a record, each with its offset: of several widths, or of one by a function of their number."""
+        one = re.match(r"\w+ \(λ i\. (\w+_at w\d+ payload) \((\d+) \* i\)\)", body)
+        rows = [(name, f"{one[1]} {int(one[2]) * int(i)}") for name, i in re.findall(r"(\w+) = field (\d+);", text)] \
+            if one else re.findall(r"(\w+) = ([^;}]+)[;}]", body.partition("{")[2])
+        for name, it in rows:
+            number = re.search(r"\b(number|be_number|signed)_at w(\d+) \w+ (\d+)", it)
             octets = re.search(r"\b(?:slice_index \w+ (\d+)|zero_filled (\d+) (?:\(drop (\d+) \w+\)|\w+))", it)
             if number:
-                fields.append(Field(name, int(number.group(3)), (number.group(1) or "u").strip("_") + number.group(2)))
+                yield Field(name, int(number[3]), ORDERS[number[1]] + number[2])
             elif octets:
                 at, count, after = octets.groups()
-                fields.append(Field(name, int(at or after or 0), count + " bytes" if count else "u8"))
+                yield Field(name, int(at or after or 0), count + " bytes" if count else "u8")
             else:
                 raise Unread(f"{kind}.{name}: how it is read: {it}")
-        return fields
 
     # ** places of messages
 

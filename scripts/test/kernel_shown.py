@@ -2,12 +2,14 @@
 kernel_tables.py: number, name and form of each attribute, names of flags and values, fields of records. A number that
 no spec has is kept, and its name stands beside the kernel's headers."""
 
+import ast
 import fnmatch
 import re
 
 from kernel_names import OWN_FIELDS, PLACES, REASONS, ROWS
 
 NAMES = "frame_shown/src/tables.rt"
+SPELLED = re.compile(r"\b(?:Form|Field)::\w+(?:\((?:[^()]|\([^()]*\))*\))?")
 SIZES = {"Size::One": "u8", "Size::Two": "u16", "Size::Four": "u32", "Size::Eight": "u64"}
 # forms, by the types of rt_link.yaml or of values; what has none of these has code of its own
 FORMS = {"Form::%s(%s)" % (form, size): word for form in ("Number", "Exact") for size, word in SIZES.items()}
@@ -21,23 +23,11 @@ FIELDS = {"Field::Number(%s)" % size: word for size, word in SIZES.items()}
 FIELDS |= {"Field::Setting": "u32", "Field::LinkState": "u32", "Field::Protocol": "be16", "Field::Address": "32 bytes"}
 
 
-def parts(text):
-    """What stands between the commas of a list, with all that is in brackets in one part."""
-    found, depth = [""], 0
-    for letter in text:
-        depth += (letter == "(") - (letter == ")")
-        if letter == "," and not depth:
-            found.append("")
-        else:
-            found[-1] += letter
-    return [it for it in found if it]
-
-
 def tables(code):
-    """The rows of each constant: words, numbers as such."""
-    for name, body in re.findall(r"pub const (\w+): \[[^;]*; \d+\] =\s*\[(.*?)\];", code, re.S):
-        rows = parts(re.sub(r"\s|,(?=\s*\))", "", body))
-        yield name, [[it.strip('"') for it in parts(row[1:-1] if row[0] == "(" else row)] or [""] for row in rows]
+    """The rows of each constant, each of one word or more: numbers, names, and forms as they are spelled."""
+    for name, body in re.findall(r"pub const (\w+): \[[^;]*; \d+\] =\s*(\[.*?\]);", code, re.S):
+        body = SPELLED.sub(lambda it: repr(re.sub(r"\s|,(?=\s*\))", "", it[0])), body)
+        yield name, [it if isinstance(it, tuple) else (it,) for it in ast.literal_eval(body)]
 
 
 def kernel_name(where):
@@ -59,8 +49,7 @@ def compare_places(kind, rows, ours, headers, report):
     for row in ours.places[kind]:
         by_number.setdefault(row.number, []).append(row)
     kept = headers.group(place.prefix, place.beside) if headers else {}
-    numbers = [int(row[0]) for row in rows] if len(rows[0]) == 3 else range(len(rows))
-    shown = {number: row[-2:] for number, row in zip(numbers, rows) if row[-2]}
+    shown = {row[0] if len(row) == 3 else at: row[-2:] for at, row in enumerate(rows) if row[-2]}
     for number, (name, form) in shown.items():
         found = by_number.get(number, [])
         there = [kernel_name(f"{kind}.{it.name}") for it in found[:1]] or [it for it, n in kept.items() if n == number]
@@ -75,7 +64,7 @@ def compare_parts(kind, rows, ours, report):
     fields = ours.records[kind][0]
     for (name, place, field), there in zip(rows, fields):
         report.compare("names shown", f"{kind}.{name}", ("name", name, kernel_name(f"{kind}.{there.name}")),
-                       ("place", int(place), there.offset), ("form", FIELDS[field], there.type))
+                       ("place", place, there.offset), ("form", FIELDS[field], there.type))
     report.compare("names shown", kind, ("fields", len(rows), len(fields)))
 
 
@@ -84,9 +73,9 @@ def compare_names(kind, rows, ours, report):
     named = enumerate(it.name for it in ours.records[kind][0]) if kind in ours.records else \
         ((n, it) for it, n in ours.values[kind].items())
     theirs = {n: kernel_name(f"{kind}.{it}") for n, it in named if f"{kind}.{it}" not in OWN_FIELDS}
-    here = {int(row[0], 0): row[1] for row in rows} if len(rows[0]) == 2 else \
-        {n: name for n, (name, *_) in enumerate(rows) if name}
-    for n in here.keys() | {n for n in theirs if len(rows[0]) == 2 or n < len(rows)}:
+    is_numbered = len(rows[0]) == 2
+    here = dict(rows) if is_numbered else {n: name for n, (name, *_) in enumerate(rows) if name}
+    for n in here.keys() | {n for n in theirs if is_numbered or n < len(rows)}:
         name = here.get(n, "none")
         report.compare("names shown", f"{kind}.{name}", ("name", name, theirs.get(n, "none")))
 

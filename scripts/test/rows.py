@@ -73,7 +73,7 @@ def numbers_beside():
 def listed(name):
     """The names of a table of tables.rt, in the order of their numbers or bits."""
     found = dict(tables(read(f"crates/{NAMES}")))[name]
-    assert all(len(row) == 1 or int(row[0], 0) == 1 << at for at, row in enumerate(found)), name
+    assert all(len(row) == 1 or row[0] == 1 << at for at, row in enumerate(found)), name
     return [row[-1] for row in found]
 
 
