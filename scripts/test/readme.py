@@ -27,12 +27,13 @@ import re
 import subprocess
 import sys
 import tempfile
+from collections import Counter
 from pathlib import Path
 
 from shared import TOP, read
 
 PAGES = "README.md", "docs/USING.md", "docs/C.md", "docs/PYTHON.md", "docs/FLEET.md", "docs/CONTRIBUTING.md"
-WARNINGS = "-std=c11 -Wall -Wextra -Wpedantic -Wconversion -Wshadow -Werror -fsyntax-only".split()
+COMPILES = "cc -std=c11 -Wall -Wextra -Wpedantic -Wconversion -Wshadow -Werror -fsyntax-only"
 # what a command in the text of a page begins with; one word alone is a name
 PROGRAM = re.compile(
     r"(?:apt-get|cargo|cut|link(?:diff|dump|show|state|watch|wire)|make|parallel|pip|python3|rt|scripts/\S+) ")
@@ -59,12 +60,11 @@ void part(const uint8_t *message, size_t len)
 
 
 class Page:
-    """What a page shows, the path of the programs, and how much of it was run."""
+    """What a page shows, and the path of the programs; `counts` says of all pages how much of it was run."""
+    counts = Counter()
 
     def __init__(self, name, library, path):
-        self.name, self.library, self.path = name, library, path
-        self.counts = dict.fromkeys(("run", "compiled", "only compiled", "parts", "not run"), 0)
-        self.commands = []
+        self.name, self.library, self.path, self.commands = name, library, path, []
         self.text, self.in_man = read(name), name.startswith("man/")
         self.listed = [" ".join(it.split()) for found in NAMED.findall(self.text) for it in found.split(";")]
 
@@ -78,67 +78,60 @@ class Page:
             self.fails(f"{command}\nends with status {done.returncode}: {done.stderr}")
         return done.stdout
 
-    def compares(self, command, found, wanted):
+    def prints(self, command, wanted, folder):
+        found = self.output(command, folder)
         if found != wanted:
             self.fails(f"{command}\nprints\n{found}and not\n{wanted}")
 
-    def shell(self, shown):
+    def shell(self, commands):
         """Commands in turn: in a folder of their own where one of them writes a file."""
-        commands = COMMAND.findall(shown)
         with tempfile.TemporaryDirectory() as folder:
             where = folder if any(WRITES.search(command) for command, _ in commands) else TOP
             for command, wanted in commands:
-                self.compares(command, self.output(command, where), wanted)
+                self.prints(command, wanted, where)
                 self.counts["run"] += 1
 
-    def namespace(self, shown):
+    def namespace(self, commands):
         unshare = namespace()
         if unshare is None:
             print(f"readme: {self.name}: skipped: no right to make a namespace with links, or no jq")
             return
-        for command, wanted in COMMAND.findall(shown):
+        for command, wanted in commands:
             found = self.output(f"{LINKS} && {command}", prefix=unshare).splitlines()
             for line in wanted.splitlines():
                 if line not in map(str.rstrip, found):
                     self.fails(f"{command}\ndoes not print\n{line}\nbut\n{found}")
             self.counts["run"] += 1
 
-    def compiled(self, source, shown):
-        """A program in C, by a pkg-config that names the library as it was built."""
-        (command, wanted), = COMMAND.findall(shown)
+    def compiles(self, source, command="", wanted=""):
+        """A program in C; where a command runs it, by a pkg-config that names the library as it was built."""
         with tempfile.TemporaryDirectory() as folder:
-            Path(folder, re.search(r"[a-z]+[.]c", command)[0]).write_text(source, "utf-8")
+            Path(folder, re.search(r"[a-z]+[.]c", command or "part.c")[0]).write_text(source, "utf-8")
             Path(folder, "pkg-config").write_text(f"#!/bin/sh\necho -I{TOP}/include {self.library}\n", "utf-8")
             Path(folder, "pkg-config").chmod(0o755)
-            self.output(f"cc {' '.join(WARNINGS)} -I{TOP}/include *.c", folder)
-            self.compares(command, self.output(f"PATH=.:$PATH; {command}", folder), wanted)
-        self.counts["compiled"] += 1
-
-    def compiles(self, part):
-        with tempfile.TemporaryDirectory() as folder:
-            Path(folder, "part.c").write_text(PART % part, "utf-8")
-            self.output(f"cc {' '.join(WARNINGS)} -I{TOP}/include part.c", folder)
-        self.counts["only compiled"] += 1
-
-    def stands(self, file, part):
-        if part not in read(file):
-            self.fails(f"{file} has not what stands here")
-        self.counts["parts"] += 1
+            self.output(f"{COMPILES} -I{TOP}/include *.c", folder)
+            if command:
+                self.prints(f"PATH=.:$PATH; {command}", wanted, folder)
+        self.counts["compiled" if command else "only compiled"] += 1
 
     def hold(self):
         """Does what the mark of each block says; behind a program stands what it prints."""
         blocks = iter([(mark, plain(shown)) for mark, shown in MAN_BLOCK.findall(self.text)] if self.in_man else
                       [(mark, shown) for mark, _, shown in BLOCK.findall(self.text)])
-        ways = {"runs: shell": self.shell, "runs: namespace": self.namespace, "compiles: c": self.compiles}
         for mark, shown in blocks:
             commands, (kind, _, rest) = COMMAND.findall(shown), mark.partition(": ")
             following = next(blocks, ("", ""))[1] if mark in ("runs: c", "runs: rust") else ""
             if mark == "runs: c":
-                self.compiled(shown, following)
-            elif mark in ways:
-                ways[mark](shown)
+                (command, wanted), = COMMAND.findall(following)
+                self.compiles(shown, command, wanted)
+            elif mark == "compiles: c":
+                self.compiles(PART % shown)
+            elif mark in ("runs: shell", "runs: namespace"):
+                (self.shell if rest == "shell" else self.namespace)(commands)
             elif kind == "stands in":
-                self.stands(rest, shown)
+                self.counts["parts"] += 1
+                if shown not in read(rest):
+                    self.fails(f"{rest} has not what stands here")
             elif kind == "not run":
                 self.counts["not run"] += len(commands)
             elif mark != "runs: rust" and not BY_PAGES.match(mark) and (mark or commands):
@@ -172,8 +165,8 @@ class Page:
 
 def plain(shown):
     """The text of a block of a manual page."""
-    return shown.replace("\\-", "-").replace("\\(dq", '"').replace("\\(aq", "'").replace("\\(->", "→") \
-        .replace("\\e", "\\")
+    letters = {"\\-": "-", "\\(dq": '"', "\\(aq": "'", "\\(->": "→", "\\e": "\\"}
+    return re.sub(r"\\(?:\(..|.)", lambda it: letters.get(it[0], it[0]), shown)
 
 
 def targets():
@@ -203,10 +196,9 @@ def main(library="out/liblinkwire.a", *programs):
         page.hold()
     for page in pages:
         page.named(pages if page.in_man else [page])
-    sums = {kind: sum(page.counts[kind] for page in pages) for kind in pages[0].counts}
-    print(f"readme: {len(pages)} pages: {sums['run']} commands are run, {sums['compiled']} programs in C compiled and"
-          f" run, {sums['only compiled']} only compiled, {sums['parts']} parts stand in their files;"
-          f" {sums['not run']} commands are marked as not run")
+    told = ("{run} commands are run, {compiled} programs in C compiled and run, {only compiled} only compiled, "
+            "{parts} parts stand in their files; {not run} commands are marked as not run")
+    print(f"readme: {len(pages)} pages:", told.format_map(Page.counts))
     print("readme: ok")
 
 
