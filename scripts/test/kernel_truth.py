@@ -134,15 +134,8 @@ def same(theirs, ours, *_):
     return (int(theirs, 0) if isinstance(ours, int) and isinstance(theirs, str) and theirs else theirs), ours
 
 
-def number_of(bit):
-    """The number of a program at a link, by the mode in which ip has it."""
-    def translate(theirs, ours, world, _):
-        item = world.path[-1 if bit == "mode" else -2]
-        name = {1: "drv-prog-id", 2: "skb-prog-id", 3: "hw-prog-id"}[item["mode"]]
-        return (name, name if name in ours else None) if bit == "mode" else (theirs, ours.get(name))
-    return translate
-
-
+# the numbers of programs at a link, by the modes that ip has
+PROGRAMS = {1: "drv-prog-id", 2: "skb-prog-id", 3: "hw-prog-id"}
 HOW = {
     "same": same, "words": words, "named": named, "address": address, "octets": octets, "bridge-id": bridge_id,
     "device": device, "flag-bits": flag_bits, "nanoseconds": nanoseconds,
@@ -170,7 +163,8 @@ HOW = {
     "zero": lambda theirs, ours, *_: (0, 0 if ours is MISSING else ours),
     "empty": lambda theirs, ours, *_: ([], [] if ours is MISSING else ours),
     "absent": lambda theirs, ours, *_: (MISSING, ours),
-    "program-mode": number_of("mode"), "program-id": number_of("id"),
+    "program-mode": lambda theirs, ours, *_: (True, PROGRAMS[theirs] in ours),
+    "program-id": lambda theirs, ours, world, _: (theirs, ours.get(PROGRAMS[world.path[-2]["mode"]])),
 }
 # those that can do without our member, and those that ip names only where they are set
 ABSENT = "yes there bit no-bit bit-number mask device count link zero empty absent octets flags".split()

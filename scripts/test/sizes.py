@@ -35,16 +35,12 @@ FLAGS = 0xC000
 LETTERS = 'a"\\/\n\x01\x1f\x7f\u00e9\U0001f517 '
 
 
-def fails(*words):
-    sys.exit("sizes: " + " ".join(str(it) if len(str(it)) < 300 else f"{str(it)[:300]} .." for it in words))
-
-
 def header(reserved, index=7):
     return struct.pack("<BBHiII", 0, reserved, 1, index, 0x43, 0x55)
 
 
 class Made:
-    """A message of about so many bytes, and the members that linkshow shows of it."""
+    """A message of about so many bytes, the same with a fault at its end, and the members that linkshow shows of it."""
 
     def __init__(self, size, mtu=1500, changes=5, last=b"last"):
         chance, others = random.Random(size), []
@@ -58,26 +54,19 @@ class Made:
         others = [(UNKNOWN + at % 1000, payload) for at, payload in enumerate([*others, last])]
         parts += [attribute(number, payload, b"\xaa") for number, payload in others]
         self.message = b"".join([*parts, attribute(CARRIER_CHANGES, struct.pack("<I", changes))])
+        self.faulty = self.message + b"\3\0\1\0"
         self.members = {"ifi-family": 0, "ifi-type": 1, "ifi-index": 7, "ifi-flags": ["up", "broadcast", "running"],
                         "ifi-change": 0x55, "ifname": "eth0", "mtu": mtu, "carrier-changes": changes, "ifalias": alias,
                         "other": [{"number": number, "flags": [], "payload": it.hex()} for number, it in others]}
-
-    def faulty(self):
-        """The bytes with a fault at their end."""
-        return self.message + b"\3\0\1\0"
 
 
 SHORT = header(0).hex().encode()
 
 
-def no_digits(size):
-    """Lines of so many bytes that are no bytes of a message."""
-    return [b"0" * (size | 1), b"0" * (2 * size - 1) + b"g", b"g" * size, b" " * size]
-
-
 def look_at_linkwire(programs, made, size):
-    lines = [made.message.hex().encode(), SHORT, made.message.hex().upper().encode(), made.faulty().hex().encode(),
-             SHORT, *no_digits(size), SHORT]
+    no_digits = [b"0" * (size | 1), b"0" * (2 * size - 1) + b"g", b"g" * size, b" " * size]
+    lines = [made.message.hex().encode(), SHORT, made.message.hex().upper().encode(), made.faulty.hex().encode(),
+             SHORT, *no_digits, SHORT]
     compare("sizes: linkwire", lines, answers(programs["linkwire"], lines), [Said(it).encoded.encode() for it in lines])
 
 
@@ -85,7 +74,7 @@ def look_at_linkstate(programs, made, size):
     words = b"host=" + b"h" * size + b" \t"
     many = b"a=b " * (size // 4)
     lines = [(b"", made.message.hex().encode()), (b"", SHORT), (words, made.message.hex().encode()), (many, SHORT),
-             (words, None), (b"", made.faulty().hex().encode()), (b"", SHORT)]
+             (words, None), (b"", made.faulty.hex().encode()), (b"", SHORT)]
     compare("sizes: linkstate", lines, answers(programs["linkstate"], [front + (it or b"") for front, it in lines]),
             [front + (Said(it).stated.encode() if it else b"") for front, it in lines])
 
@@ -101,16 +90,16 @@ def look_at_linkshow(programs, made, size):
     keys = [f"k{at}" for at in range(min(size, 1_200_000) // 16)]
     many = "".join(f"{key}=v " for key in keys).encode()
     short = {"ifi-family": 0, "ifi-type": 1, "ifi-index": 7, "ifi-flags": made.members["ifi-flags"], "ifi-change": 0x55}
-    lines = [made.message.hex().encode(), SHORT, words + SHORT, many + SHORT, made.faulty().hex().encode(), SHORT]
+    lines = [made.message.hex().encode(), SHORT, words + SHORT, many + SHORT, made.faulty.hex().encode(), SHORT]
     *found, faulty, last = [json.loads(it) for it in answers(program, lines)]
     others = {"words": [f"{key}=v" for key in keys[MEMBERS:]]} if keys[MEMBERS:] else {}
     worded = {**dict.fromkeys(keys[:MEMBERS], "v"), **others, **short}
     wanted = [made.members, short, {"host": host, **short}, worded, short]
     compare("sizes: linkshow", lines, [*found, last], wanted)
-    if faulty["fault"] != "frame-under" or faulty["offset"] != len(made.message):
-        fails("linkshow: of a fault:", {**faulty, "before": None})
     before = {name: value for name, value in made.members.items() if not name.startswith("ifi-")}
-    compare("sizes: linkshow: before a fault", lines, [faulty["before"]], [before])
+    told = ["fault", "offset", "before"]
+    compare("sizes: linkshow: of a fault", told, list(map(faulty.get, told)),
+            ["frame-under", len(made.message), before])
 
 
 def look_at_linkdiff(programs, made, size):
@@ -145,10 +134,10 @@ LOOKS = {"linkwire": look_at_linkwire, "linkstate": look_at_linkstate, "linkshow
 
 def main():
     path = os.pathsep.join(map(os.path.abspath, sys.argv[1:]))
-    programs = {it: shutil.which(it, path=path) or fails(f"no {it} in {path}") for it in [*LOOKS, "linkdump"]}
+    programs = {it: shutil.which(it, path=path) or sys.exit(f"sizes: no {it} in {path}") for it in [*LOOKS, "linkdump"]}
     if not all(look_at_linkdump(programs["linkdump"], size) for size in PACKETS):
         print("sizes: linkdump: skipped: it is built without libpcap")
-    seconds = dict.fromkeys(LOOKS, 0.0)
+    seconds = Counter()
     for size in SIZES.values():
         made = Made(size)
         for name, look in LOOKS.items():
