@@ -13,7 +13,6 @@ that is added stands at the end. The last line is 'kernel_messages: ok'.
 
 import os
 import sys
-from itertools import groupby
 from pathlib import Path
 
 from shared import TOP, answers, compare, joined, read
@@ -27,16 +26,6 @@ def messages():
     return [(head[2:].partition(":")[0], digits) for head, digits in zip(lines[::2], lines[1::2], strict=True)]
 
 
-def answered(name, path, listed):
-    """What a program answers; linkshow is told the kernel."""
-    found = []
-    for kernel, group in groupby(listed, key=lambda it: it[0]):
-        lines = [digits for _, digits in group]
-        shown = answers(path, lines, *["--kernel", kernel] * (name == "linkshow"))
-        found += [answer.decode().replace(line, "=") for line, answer in zip(lines, shown)]
-    return found
-
-
 def main():
     listed = messages()
     for name in ("linkwire", "linkstate", "linkshow"):
@@ -44,11 +33,12 @@ def main():
         if not os.access(path, os.X_OK):
             print(f"kernel_messages: skipped: {name} is not built")
             continue
-        found = answered(name, path, listed)
+        lines = [f"kernel={kernel} {digits}" if name == "linkshow" else digits for kernel, digits in listed]
+        found = [answer.decode().replace(f'"kernel":"{kernel}",', "", 1).replace(digits, "=")
+                 for answer, (kernel, digits) in zip(answers(path, lines), listed)]
         if "--write" in sys.argv:
             Path(TOP, STORED % name).write_bytes(joined(found))
-        compare(f"kernel_messages: {name}", [digits for _, digits in listed], found,
-                read(STORED % name).split("\n")[:-1])
+        compare(f"kernel_messages: {name}", lines, found, read(STORED % name).split("\n")[:-1])
         print(f"kernel_messages: {name}: {len(listed)} answers as stored")
     print("kernel_messages: ok")
 

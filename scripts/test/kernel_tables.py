@@ -83,16 +83,12 @@ def compare_numbers(category, kind, numbers, theirs, report, has_all=True):
         where = kind + "." + variant
         named = [m for name, m in theirs.items() if plain(name) == plain(variant)]
         names = [name for name, m in theirs.items() if m == n]
-        if n in named:
-            report.compare(category, where)
-        elif named:
-            report.compare(category, where, ("number", n, named[0]))
-        elif names:
+        if names and not named:
             report.compare(category, where, ("name", variant, names[0]))
-        elif has_all and n > max(theirs.values(), default=-1):
+        elif has_all and not named and n > max(theirs.values(), default=-1):
             report.is_newer(category, "%s = %d" % (where, n))
         else:
-            report.compare(category, where, ("number", n, "none"))
+            report.compare(category, where, ("number", n, n if n in named else next(iter(named), "none")))
     for name, n in theirs.items():
         if has_all and n not in numbers.values():
             report.compare(category, kind + "." + name, ("value", "none", n))
@@ -225,13 +221,17 @@ def compare_places(ours, kernel, report):
         group = kernel.headers.group(known.prefix, known.beside)
         listed, code = kernel.sets.get(known.set, {}), kernel.of_code(known.files)
         for row in rows:
+            where, attribute = "%s.%s" % (kind, row.name), listed.get(row.number, {})
             named = sorted((name for name, n in group.items() if n == row.number),
                            key=lambda name: plain(name) != plain(row.name))
-            compare_number("%s.%s" % (kind, row.name), row, named, group, report)
-            is_list = listed.get(row.number, {}).get("multi-attr", False)
-            report.compare("lists, yaml", "%s.%s" % (kind, row.name),
-                           ("list", yes_or_no(row.is_list), yes_or_no(is_list)))
-            compare_form("%s.%s" % (kind, row.name), row, named, (known, listed.get(row.number), code, ours), report)
+            if not named and row.number > max(group.values(), default=-1):
+                report.is_newer("rows, headers", "%s = %d" % (where, row.number))
+            else:
+                fact = ("name", row.name, named[0]) if named else ("number", row.number, "none")
+                report.compare("rows, headers", where, fact)
+            is_list = attribute.get("multi-attr", False)
+            report.compare("lists, yaml", where, ("list", yes_or_no(row.is_list), yes_or_no(is_list)))
+            compare_form(where, row, named, (known, attribute, code, ours), report)
         numbers = {row.number for row in rows}
         for name, n in group.items() if known.whole else ():
             if n not in numbers:
@@ -243,16 +243,6 @@ def compare_places(ours, kernel, report):
 
 def yes_or_no(it):
     return "yes" if it else "no"
-
-
-def compare_number(where, row, named, group, report):
-    """The number and the name beside the constants of the headers."""
-    if named:
-        report.compare("rows, headers", where, ("name", row.name, named[0]))
-    elif row.number > max(group.values(), default=-1):
-        report.is_newer("rows, headers", "%s = %d" % (where, row.number))
-    else:
-        report.compare("rows, headers", where, ("number", row.number, "none"))
 
 
 def compare_form(where, row, named, beside, report):

@@ -34,6 +34,8 @@ PARTS = {"data": ("linkinfo.info_data.", "info_kind", "linkinfo.data."),
          "xstats": ("linkinfo.info_xstats.", "info_kind", "linkinfo.xstats.")}
 MISSING = type("Missing", (), {"__repr__": lambda _: "none"})()
 Row = namedtuple("Row", "field ours how args")
+# our messages of two dumps by the numbers of their links, and the names of these
+Links = namedtuple("Links", "first last names")
 # what is around a value: our first message, the names of links by their numbers, and the objects in which ip has it
 World = namedtuple("World", "first names path", defaults=("",))
 
@@ -300,20 +302,6 @@ def agrees(row, theirs, ours, world):
         return False
 
 
-def whole(it):
-    """What is shown of a message; of one that is refused also what stands in front of the fault."""
-    return {**it.get("before", {}), **it}
-
-
-class Links:
-    """The links of two dumps, as the program shows them."""
-
-    def __init__(self, first, last):
-        self.first, self.last = ({it["ifi-index"]: whole(it) for it in dump if "ifi-index" in it}
-                                 for dump in (first, last))
-        self.names = {n: it.get("ifname") for n, it in self.first.items()}
-
-
 def parts_of(link):
     """The parts of the table that a link has: each with how its paths begin in ip's object, and in ours."""
     info = link.get("linkinfo", {})
@@ -439,8 +427,11 @@ def shown(program, lines, release):
 
 
 def compare(rows, dumps, said, files, who, report):
-    """One moment of one kernel: two dumps as they are shown, what ip said, and sysfs and /proc before and after."""
-    links = Links(*dumps)
+    """One moment of one kernel: two dumps as they are shown, what ip said, and sysfs and /proc before and after. Of a
+    message that is refused what stands in front of the fault counts too."""
+    first, last = ({it["ifi-index"]: {**it.get("before", {}), **it} for it in dump if "ifi-index" in it}
+                   for dump in dumps)
+    links = Links(first, last, {n: it.get("ifname") for n, it in first.items()})
     for link in said:
         compare_link(rows, link, links, "%s %s" % (who, link["ifname"]), report)
     for source, both in files.items():
