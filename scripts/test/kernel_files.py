@@ -117,6 +117,13 @@ def unpack(archive, folder):
                    stderr=subprocess.DEVNULL)
 
 
+def type_of(it):
+    """The type of a field or an attribute of rt_link.yaml, as 32 bytes, u16, or be16 where its order is said."""
+    if "len" in it:
+        return "%d bytes" % it["len"]
+    return it["type"].replace("u", "be") if it.get("byte-order") == "big-endian" else it["type"]
+
+
 class Kernel:
     """What the kernel's files say."""
 
@@ -163,7 +170,7 @@ class Kernel:
     def define(self, it):
         if it["type"] == "struct":
             fields = [field for field in it["members"] if field["type"] != "pad"]
-            self.structs[it["name"]] = [Field(field["name"], None, self.type_of(field)) for field in fields]
+            self.structs[it["name"]] = [Field(field["name"], None, type_of(field)) for field in fields]
         elif it["type"] in ("enum", "flags"):
             values, following = {}, it.get("value-start", 0)
             for entry in it["entries"]:
@@ -172,12 +179,6 @@ class Kernel:
                 values[str(name)] = 1 << following if it["type"] == "flags" else following
                 following += 1
             self.lists[it["name"]] = values
-
-    @staticmethod
-    def type_of(field):
-        if field["type"] == "binary":
-            return "%d bytes" % field["len"]
-        return field["type"].replace("u", "be") if field.get("byte-order") == "big-endian" else field["type"]
 
     def attributes(self, it):
         """A set as number: attribute; numbers count from 1, and a subset has those of its whole."""

@@ -20,7 +20,7 @@ import sys
 from collections import Counter, defaultdict
 
 import kernel_shown
-from kernel_files import Kernel, unpack
+from kernel_files import Kernel, type_of, unpack
 from kernel_names import ALONE, LEVELS, OWN_FIELDS, PLACES, REASONS, RECORDS, VALUES, VALUES_LEFT_OUT
 from kernel_ours import BYTES, Repository, Unread, width
 from shared import TOP
@@ -279,9 +279,7 @@ def described(attribute, has_hints):
         return hint
     if "struct" in attribute:
         return "struct " + attribute["struct"]
-    if kind == "nest":
-        return "nest " + attribute["nested-attributes"]
-    return kind.replace("u", "be") if attribute.get("byte-order") == "big-endian" else kind
+    return "nest " + attribute["nested-attributes"] if kind == "nest" else type_of(attribute)
 
 
 def put(form, ours):
