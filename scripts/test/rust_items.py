@@ -14,22 +14,21 @@ import sys
 import textwrap
 from pathlib import Path
 
-IDS = re.compile(r'id="((?:variant|structfield|method|tymethod|associatedconstant|associatedtype|impl)[.-][^"]+)"')
+OWN = re.compile(r'id="(?:variant|structfield|(?:ty)?method|associated(?:constant|type))\.((?:(?!\.field\.)[^"])+)"')
+FIELD = re.compile(r'id="variant\.(\w+)\.field\.(\w+)"')
+TRAIT = re.compile(r'id="impl-([^"]+)"')
 CALL = re.compile(r'<section id="(?:ty)?method\.(\w+)"(.*?)(?=<section |$)', re.S)
 OTHERS = re.compile(r'id="(?:trait-implementations|foreign-impls|implementors)"')
 EXAMPLE = re.compile(r"example-wrap|has an example|have examples")
-OWN = ("variant.", "structfield.", "method.", "tymethod.", "associatedconstant.", "associatedtype.")
 
 
 def parts(text):
     """The ids of an item's page: its own, and the traits that are implemented for it."""
     text = text.split('id="synthetic-implementations"')[0].split('id="implementors"')[0]
     own, _, traits = text.partition('id="trait-implementations"')
-    names = [one.split(".", 1)[1] for one in IDS.findall(own) if one.startswith(OWN) and ".field." not in one]
-    names += map(".".join, re.findall(r'id="variant\.(\w+)\.field\.(\w+)"', own))
-    found = [html.unescape(one)[5:] for one in IDS.findall(traits) if one.startswith("impl-")]
-    found = {re.sub(r"(-for-|%3C).*", "", one) for one in found} - {"StructuralPartialEq"}
-    return list(dict.fromkeys(names)), sorted(found)
+    names = [*OWN.findall(own), *map(".".join, FIELD.findall(own))]
+    found = {re.sub(r"(-for-|%3C).*", "", html.unescape(one)) for one in TRAIT.findall(traits)}
+    return list(dict.fromkeys(names)), sorted(found - {"StructuralPartialEq"})
 
 
 def pages(folder):
