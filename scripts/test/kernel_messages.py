@@ -12,6 +12,7 @@ that is added stands at the end. The last line is 'kernel_messages: ok'.
 """
 
 import os
+import re
 import sys
 from pathlib import Path
 
@@ -22,8 +23,7 @@ STORED = "tests/kernels/%s.txt"
 
 def messages():
     """The messages as the kernel's release and digits."""
-    lines = read(STORED % "messages").splitlines()
-    return [(head[2:].partition(":")[0], digits) for head, digits in zip(lines[::2], lines[1::2], strict=True)]
+    return re.findall(r"^# (.*?):.*\n([0-9a-f]+)$", read(STORED % "messages"), re.M)
 
 
 def main():

@@ -89,17 +89,12 @@ def attribute(kind, payload, padding=b"\0"):
 def pairs():
     """Returns (name, first, second) of each pair of tests/state/pairs.txt."""
     found = []
-    for line in read("tests/state/pairs.txt").splitlines():
-        word, _, rest = line.partition(" ")
-        if word == "pair":
-            found.append((rest, bytearray(), bytearray()))
-        elif word == "at":
-            at, changed = rest.split()
+    text = read("tests/state/pairs.txt")
+    for name, digits, changes in re.findall(r"^pair (.*)\n((?:[0-9a-f]+\n)+)((?:at .*\n)*)", text, re.M):
+        found.append((name, bytes.fromhex(digits), bytearray.fromhex(digits)))
+        for at, changed in re.findall(r"^at (\d+) (.*)$", changes, re.M):
             found[-1][2][int(at):int(at) + len(changed) // 2] = bytes.fromhex(changed)
-        elif word != "#":
-            for message in found[-1][1:]:
-                message.extend(bytes.fromhex(line))
-    return [(name, bytes(first), bytes(second)) for name, first, second in found]
+    return [(name, first, bytes(second)) for name, first, second in found]
 
 
 def kernels(folder):
