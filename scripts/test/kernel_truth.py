@@ -34,10 +34,10 @@ PARTS = {"data": ("linkinfo.info_data.", "info_kind", "linkinfo.data."),
          "xstats": ("linkinfo.info_xstats.", "info_kind", "linkinfo.xstats.")}
 MISSING = type("Missing", (), {"__repr__": lambda _: "none"})()
 Row = namedtuple("Row", "field ours how args")
-# our messages of two dumps by the numbers of their links, and the names of these
+# our messages of two dumps by the numbers of their links, each as its nodes, and the names of these
 Links = namedtuple("Links", "first last names")
-# what is around a value: our first message, the names of links by their numbers, and the objects in which ip has it
-World = namedtuple("World", "first names path", defaults=("",))
+# what is around a value: our first message, the names of links, the nodes of ip's object, and the value's path there
+World = namedtuple("World", "first names said path", defaults=({}, ""))
 
 # ** the table
 
@@ -166,7 +166,8 @@ HOW = {
     "empty": lambda theirs, ours, *_: ([], [] if ours is MISSING else ours),
     "absent": lambda theirs, ours, *_: (MISSING, ours),
     "program-mode": lambda theirs, ours, *_: (True, PROGRAMS[theirs] in ours),
-    "program-id": lambda theirs, ours, world, _: (theirs, ours.get(PROGRAMS[world.path[-2]["mode"]])),
+    "program-id": lambda theirs, ours, world, _: (
+        theirs, ours.get(PROGRAMS[world.said[world.path.removesuffix("prog.id") + "mode"]])),
 }
 # those that can do without our member, and those that ip names only where they are set
 ABSENT = "yes there bit no-bit bit-number mask device count link zero empty absent octets flags".split()
@@ -195,36 +196,24 @@ SETS = {
 }
 
 
-# ** our side
+# ** paths
 
 
-def find(it, path, at=()):
-    """Our member, where a name of a list takes the next of the places; or MISSING."""
-    at = list(at)
-    for name in filter(None, path.split(".")):
-        it = it.get(name.removesuffix("[]"), MISSING) if isinstance(it, dict) else MISSING
-        if name.endswith("[]"):
-            place = at.pop(0) if at else 0
-            it = it[place] if isinstance(it, list) and place < len(it) else MISSING
-    return it
-
-
-def count(it, path, at):
-    """How many members the last list of a path has."""
-    found = find(it, path.rpartition("[]")[0], at)
-    return len(found) if isinstance(found, list) else 0
-
-
-def leaves(it, path="", at=(), sizes=(), parents=()):
-    """Each value as path, places in the lists around it, the sizes of these, the value, and the objects around it."""
-    if isinstance(it, dict) and it:
+def nodes(it, path=""):
+    """Each object, list and value by its path, as a.b[0].c; that of all is empty."""
+    yield path, it
+    if isinstance(it, dict):
         for name, value in it.items():
-            yield from leaves(value, path + "." + name if path else name, at, sizes, parents + (it,))
-    elif isinstance(it, list) and it:
+            yield from nodes(value, f"{path}.{name}" if path else name)
+    elif isinstance(it, list):
         for n, value in enumerate(it):
-            yield from leaves(value, path + "[]", at + (n,), sizes + (len(it),), parents)
-    else:
-        yield path + ("{}" if it == {} else "[]" if it == [] else ""), at, sizes, it, parents
+            yield from nodes(value, f"{path}[{n}]")
+
+
+def numbered(path, places=()):
+    """The path of our member, where each list takes the next of the places."""
+    left = iter(places)
+    return re.sub(r"\[\]", lambda _: f"[{next(left, 0)}]", path)
 
 
 # ** comparison
@@ -318,36 +307,40 @@ def compare_link(rows, link, links, who, report):
     first, last = (it.get(link["ifindex"]) for it in (links.first, links.last))
     if first is None or last is None:
         return report.says(False, "ip", "ifindex", who, link["ifindex"], "not in both dumps")
-    seen, parts = set(), parts_of(link)
-    for path, at, sizes, theirs, parents in leaves(link):
+    seen, parts, said = set(), parts_of(link), dict(nodes(link))
+    for path, theirs in said.items():
+        if isinstance(theirs, (dict, list)) and theirs:
+            continue
         place, begin, prefix = next(it for it in parts if path.startswith(it[1]))
-        field = path[len(begin):]
+        field = re.sub(r"\[\d+\]", "[]", path[len(begin):]) + ("{}" if theirs == {} else "[]" if theirs == [] else "")
         seen.add((place, field))
         kind = label(place, field)
         row = report.row(rows, place, field, "ip", kind, who, theirs)
-        if row and "fault" in first and find(first, prefix + row.ours, at) is MISSING:
-            report.not_covered("ip", kind, "the message is refused: %s at %s" % (first["fault"], first.get("at")))
-        elif row:
-            compare_value(row._replace(ours=prefix + row.ours), kind, (at, sizes, theirs), (first, last),
-                          World(first, links.names, parents), who, report)
+        if row:
+            row = row._replace(ours=numbered(prefix + row.ours, re.findall(r"\[(\d+)\]", path)))
+            if "fault" in first and row.ours not in first:
+                report.not_covered("ip", kind, "the message is refused: %s at %s" % (first["fault"], first.get("at")))
+            else:
+                compare_value(row, kind, theirs, (first, last), World(first, links.names, said, path), who, report)
     for place, _, prefix in parts if "fault" not in first and report.strict else ():
-        if not prefix or isinstance(find(first, prefix), dict):
+        if not prefix or isinstance(first.get(prefix[:-1]), dict):
             unsaid(rows.get(place, {}), place, prefix, seen, first, who, report)
 
 
-def compare_value(row, kind, leaf, ours, world, who, report):
+def compare_value(row, kind, theirs, messages, world, who, report):
     """One value; where it is the first of a list, how long the list is too."""
-    at, sizes, theirs = leaf
-    found = [find(it, row.ours, at) for it in ours]
+    found = [it.get(row.ours, MISSING) for it in messages]
+    (list_there, _, place), (list_here, _, _) = world.path.rpartition("["), row.ours.rpartition("[")
+    sizes = [len(it) if isinstance(it, list) else 0 for it in (world.said.get(list_there), messages[0].get(list_here))]
     if row.how in SETS:
+        there = world.said[re.sub(r"\[\d+\]$", "", world.path)]
+        there = there if isinstance(there, list) else [there]
         sets = [SETS[row.how](it, row.args) for it in found if it is not MISSING]
-        name = row.field.removesuffix("[]").rpartition(".")[2]
-        there = [] if theirs == [] else world.path[-1][name] if sizes else [theirs]
         report.says(any(same_set(row.how, there, it) for it in sets), "ip", kind, who, there, *sets)
     elif found[0] is MISSING and row.how not in ABSENT:
         report.says(False, "ip", kind, who, theirs, MISSING)
-    elif at and at[-1] == 0 and "[]" in row.ours and count(ours[0], row.ours, at[:-1]) != sizes[-1]:
-        report.says(False, "ip", kind, who, "%d members" % sizes[-1], count(ours[0], row.ours, at[:-1]))
+    elif place.startswith("0]") and list_here and sizes[0] != sizes[1]:
+        report.says(False, "ip", kind, who, "%d members" % sizes[0], sizes[1])
     else:
         report.says(agrees(row, [theirs], found, world), "ip", kind, who, theirs, *found)
 
@@ -361,7 +354,7 @@ def unsaid(rows, place, prefix, seen, first, who, report):
     """What ip names only where it is set, and has not named, is not set."""
     for field, row in rows.items():
         if row.ours != "-" and row.how in NAMED_IF_SET and (place, field) not in seen:
-            ours = find(first, prefix + row.ours)
+            ours = first.get(numbered(prefix + row.ours), MISSING)
             if HOW[row.how](True, ours, None, row.args)[1]:
                 report.says(False, "ip", label(place, field), who, "not named", ours)
 
@@ -407,7 +400,7 @@ def compare_files(rows, source, files, links, who, report):
         if not row:
             continue
         first, last = (it.get(named[name], {}) for it in (links.first, links.last))
-        parent, ours = find(first, row.ours.rpartition(".")[0]), find(first, row.ours)
+        parent, ours = first.get(row.ours.rpartition(".")[0], MISSING), first.get(row.ours, MISSING)
         if parent is MISSING or ours is MISSING and row.how not in ABSENT:
             if parent is not MISSING and theirs not in ("0", ""):
                 report.not_covered(source, field, "the kernel leaves it out of the message")
@@ -415,7 +408,7 @@ def compare_files(rows, source, files, links, who, report):
             report.not_covered(source, field, "the names of these counters are not known of this kernel")
         else:
             both = theirs, after.get((name, field), theirs)
-            world, ours = World(first, links.names), (ours, find(last, row.ours))
+            world, ours = World(first, links.names), (ours, last.get(row.ours, MISSING))
             report.says(agrees(row, both, ours, world), source, field, whose, both, ours)
 
 
@@ -429,7 +422,7 @@ def shown(program, lines, release):
 def compare(rows, dumps, said, files, who, report):
     """One moment of one kernel: two dumps as they are shown, what ip said, and sysfs and /proc before and after. Of a
     message that is refused what stands in front of the fault counts too."""
-    first, last = ({it["ifi-index"]: {**it.get("before", {}), **it} for it in dump if "ifi-index" in it}
+    first, last = ({it["ifi-index"]: dict(nodes({**it.get("before", {}), **it})) for it in dump if "ifi-index" in it}
                    for dump in dumps)
     links = Links(first, last, {n: it.get("ifname") for n, it in first.items()})
     for link in said:
@@ -497,7 +490,7 @@ def live(program, linkdump, rows):
     links = compare(rows, dumps, said, {source: (it, after[source]) for source, it in before.items()}, "here", report)
     if not said or len(said) != len(links.first):
         report.says(False, "ip", "links", "a namespace", len(said), len(links.first))
-    found = sorted({it["linkinfo"]["kind"] for it in links.first.values() if "kind" in it.get("linkinfo", {})})
+    found = sorted({it["linkinfo.kind"] for it in links.first.values() if "linkinfo.kind" in it})
     print("kernel_truth: live: %d links, of the kinds: %s" % (len(said), " ".join(found)))
     report.show("live", ["live"])
     return report.finish()
