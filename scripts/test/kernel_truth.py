@@ -481,13 +481,13 @@ def live(program, linkdump, rows):
     refused = [it for it in commands if ran("ip", *shlex.split(it)).returncode]
     kinds = sorted({found.group(1) for it in refused for found in [re.search(r" (?:type|mode) (\w+)", it)] if found})
     print("kernel_truth: skipped: live: this kernel or its ip makes none of: %s" % (" ".join(kinds) or "none"))
-    before, report, dumps = of_machine(rows), Report(False), []
-    for _ in range(2):
-        lines = ran(linkdump, "--plain").stdout.decode().split()
-        dumps.append(shown(program, lines, os.uname().release))
-        said = ran("ip", "-s", "-s", "-j", "-d", "link", "show").stdout.decode() if len(dumps) == 1 else said
-    said, after = json.loads(said, strict=False), of_machine(rows)
-    links = compare(rows, dumps, said, {source: (it, after[source]) for source, it in before.items()}, "here", report)
+    before, report, release = of_machine(rows), Report(False), os.uname().release
+    first = shown(program, ran(linkdump, "--plain").stdout.decode().split(), release)
+    said = json.loads(ran("ip", "-s", "-s", "-j", "-d", "link", "show").stdout.decode(), strict=False)
+    last = shown(program, ran(linkdump, "--plain").stdout.decode().split(), release)
+    after = of_machine(rows)
+    files = {source: (it, after[source]) for source, it in before.items()}
+    links = compare(rows, (first, last), said, files, "here", report)
     if not said or len(said) != len(links.first):
         report.says(False, "ip", "links", "a namespace", len(said), len(links.first))
     found = sorted({it["linkinfo.kind"] for it in links.first.values() if "linkinfo.kind" in it})
