@@ -224,16 +224,16 @@ class Report:
     and what is wrong."""
 
     def __init__(self, strict):
-        self.strict, self.release, self.found = strict, "live", Counter()
+        self.strict, self.release, self.found = strict, "live", defaultdict(Counter)
         self.left, self.wrong = defaultdict(Counter), defaultdict(list)
 
     def says(self, is_right, source, kind, who, theirs, *ours):
-        self.found[self.release, source, "right" if is_right else "wrong", kind] += 1
+        self.found[self.release, source, "right" if is_right else "wrong"][kind] += 1
         if not is_right:
             self.wrong[f"{source} {kind}"].append((who, theirs) + ours)
 
     def not_covered(self, source, kind, why):
-        self.found[self.release, source, "left", kind] += 1
+        self.found[self.release, source, "left"][kind] += 1
         self.left[source, why][kind] += 1
 
     def row(self, rows, place, field, source, kind, who, theirs):
@@ -248,14 +248,13 @@ class Report:
     def show(self, name, releases):
         """Prints counts by source."""
         for source in ("ip", "sysfs", "proc"):
-            found = [(outcome, kind, n) for (release, where, outcome, kind), n in self.found.items()
-                     if where == source and release in releases]
-            right, wrong, left = (sum(n for it, _, n in found if it == outcome)
+            right, wrong, left = (sum((self.found[release, source, outcome] for release in releases), Counter())
                                   for outcome in ("right", "wrong", "left"))
-            if found:
+            count = (right + wrong + left).total()
+            if count:
                 print("%s: %s: %d values of %d right (%.2f %%), %d wrong; %d kinds of fields of %d"
-                      % (name, source, right, right + wrong + left, 100 * right / (right + wrong + left), wrong,
-                         len({kind for it, kind, _ in found if it == "right"}), len({kind for _, kind, _ in found})))
+                      % (name, source, right.total(), count, 100 * right.total() / count, wrong.total(), len(right),
+                         len(right + wrong + left)))
 
     def finish(self):
         """Prints what is not covered, by its reason, and what is wrong, of all."""
