@@ -361,15 +361,25 @@ def unsaid(rows, place, prefix, seen, first, who, report):
 # ** sysfs and /proc
 
 
+def text_of(path):
+    """What a file has; of a link the name of what it leads to, and None where it cannot be read."""
+    try:
+        if os.path.islink(path):
+            return os.path.basename(os.readlink(path))
+        with open(path, encoding="utf-8", errors="surrogateescape") as file:
+            return file.read()
+    except OSError:
+        return None
+
+
 def of_file(source, path):
     """What a file of FOLDER says, by link and field; names are bytes, and are kept where they are no UTF-8."""
     found = {}
-    with open(path, encoding="utf-8", errors="surrogateescape") as file:
-        for line in file:
-            kind, name, *rest = ["sysfs"] * (source == "sysfs") + line.rstrip("\n").split("\t")
-            rest = "\t".join(rest[1:]).split() if kind == "snmp6" else rest
-            if len(rest) == 2:
-                found[name, rest[0] if kind == "sysfs" else f"{kind} {rest[0]}"] = rest[1]
+    for line in filter(None, (text_of(path) or "").split("\n")):
+        kind, name, *rest = ["sysfs"] * (source == "sysfs") + line.split("\t")
+        rest = "\t".join(rest[1:]).split() if kind == "snmp6" else rest
+        if len(rest) == 2:
+            found[name, rest[0] if kind == "sysfs" else f"{kind} {rest[0]}"] = rest[1]
     return found
 
 
@@ -431,17 +441,6 @@ def compare(rows, dumps, said, files, who, report):
     return links
 
 
-def text_of(path):
-    """What a file has; of a link the name of what it leads to, and None where it cannot be read."""
-    try:
-        if os.path.islink(path):
-            return os.path.basename(os.readlink(path))
-        with open(path, encoding="utf-8", errors="surrogateescape") as file:
-            return file.read()
-    except OSError:
-        return None
-
-
 def of_folder(folder, program, rows):
     """Each moment of each kernel of a folder."""
     report, releases = Report(True), []
@@ -451,10 +450,8 @@ def of_folder(folder, program, rows):
             name = os.path.basename(path)[len("truth-"):-len(".json")]
             dumps = [shown(program, digits_of(text_of(f"{out}/truth-{name}{end}")), report.release)
                      for end in (".hex", ".hex2")]
-            files = {source: [f"{out}/{source}-{name}{end}" for end in ("-a.txt", "-b.txt")]
+            files = {source: [of_file(source, f"{out}/{source}-{name}{end}") for end in ("-a.txt", "-b.txt")]
                      for source in ("sysfs", "proc")}
-            files = {source: [of_file(source, it) for it in both] for source, both in files.items()
-                     if all(map(os.path.exists, both))}
             compare(rows, dumps, json.loads(text_of(path), strict=False), files, f"{report.release} {name}", report)
         report.show(report.release, releases[-1:])
     if len(releases) > 1:
