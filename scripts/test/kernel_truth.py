@@ -141,7 +141,6 @@ PROGRAMS = {1: "drv-prog-id", 2: "skb-prog-id", 3: "hw-prog-id"}
 HOW = {
     "same": same, "words": words, "named": named, "address": address, "octets": octets, "bridge-id": bridge_id,
     "device": device, "flag-bits": flag_bits, "nanoseconds": nanoseconds,
-    "lower": lambda theirs, ours, *_: (theirs.lower(), ours),
     "dashes": lambda theirs, ours, *_: (theirs.lower().replace(" ", "-").replace("_", "-"), ours),
     "yes": lambda theirs, ours, *_: (bool(theirs), ours is not MISSING and bool(ours)),
     "there": lambda theirs, ours, *_: (theirs in (True, None), ours is not MISSING),
@@ -188,11 +187,9 @@ def link_flags(ours, args):
     return flags(ours, args) - {"running"} | stopped
 
 
-PORT_STATE = "active short_timeout aggregating in_sync collecting distributing defaulted expired".split()
 SETS = {
     "link-flags": link_flags, "flags": flags,
-    "bit-numbers": lambda ours, _: {str(n) for n in range(32) if ours >> n & 1},
-    "port-state": lambda ours, _: {it for n, it in enumerate(PORT_STATE) if ours >> n & 1},
+    "bits": lambda ours, names: {it for n, it in enumerate(names or map(str, range(32))) if ours >> n & 1},
 }
 
 
