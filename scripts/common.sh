@@ -38,6 +38,12 @@ fails_with() {
         fails "${*:2}: status $status, and it does not say '$1'"
 }
 
+# script FILE LINE..: a script for sh of these lines, which can be run
+script() {
+    printf '%s\n' '#!/bin/sh' "${@:2}" >"$1"
+    chmod +x "$1"
+}
+
 # A script runs itself again as `SCRIPT --inside FOLDER WORD..`: `inside` is 1 there, and its words stay.
 inside=''
 if [ "${1:-}" = --inside ]; then

@@ -4,20 +4,20 @@
 # The texts in out/texts, of `dist.sh --compare`, are compared where there are any.
 # shellcheck disable=SC2016
 . "$(dirname "$0")/../common.sh"
-mkdir "$folder/bin" "$folder/rt"
+mkdir -p "$folder/bin" "$folder/rt" "$folder/c" "$folder/headers"
 copies_tree "$folder/tree"
 cd "$folder/tree"
 PATH=$folder/bin:$PATH
 arch=$(cc -dumpmachine | sed 's/-.*//')
 text=dist/$arch/linkwire.s
 
-# tells TEXT COMMAND..: it ends with status 2, or 1 of a script, and its one line has the text
+# tells TEXT COMMAND..: it ends with status 1, or 2 of make, and its one line has the text
 tells() {
+    local wanted=1
+    [ "$2" != make ] || wanted=2
     tries "${@:2}" </dev/null
-    if [ "$status" = 0 ] || ! grep -qF "$1" "$folder/err" || { [ "$2" = make ] && [ "$status" != 2 ]; } ||
-        [ "$(cat "$folder/out" "$folder/err" | grep -c .)" != 1 ]; then
+    [ "$status $(cat "$folder/out" "$folder/err" | grep -c .) $(grep -cF "$1" "$folder/err")" = "$wanted 1 1" ] ||
         fails "status $status of '${*:2}', which was to tell '$1'"
-    fi
     echo "test_dist: $1: ok"
 }
 
@@ -30,11 +30,13 @@ without() {
 
 # changes FILE WORD..: changes a file by sed, has the rest told, and puts it back
 changes() {
-    cp "$1" "$folder/was"
+    local was
+    was=$(mktemp -p "$folder")
+    cp "$1" "$was"
     sed -i "$2" "$1"
-    ! cmp -s "$1" "$folder/was" || fails "$1 has nothing that '$2' changes"
+    ! cmp -s "$1" "$was" || fails "$1 has nothing that '$2' changes"
     "${@:3}"
-    cp "$folder/was" "$1"
+    cp "$was" "$1"
 }
 
 # an instruction becomes another of the same size
@@ -47,7 +49,7 @@ told() {
     tells "$1" make -s "${2:-run}"
 }
 changes "$text" "$instruction" told "$text is not the text of dist/SUMS"
-changes dist/SUMS "s/^....\(.*  dist\/$arch\/linkwire\.s\)/0000\1/" told "$text is not the text of dist/SUMS"
+changes dist/SUMS "s|^....\(.*  $text\)|0000\1|" told "$text is not the text of dist/SUMS"
 changes crates/nla_wire/src/buffer.rt '$a// changed' told 'crates/nla_wire/src/buffer.rt changed since dist/ was made'
 changes crates.txt 's/^link_msg: /link_msg: memchr /' \
     told 'the line of link_msg in crates.txt changed since dist/ was made'
@@ -61,14 +63,13 @@ for it in dist/{heap.c,errno.c,liblinkwire.map,Makefile} Makefile include/linkwi
 done
 without dist/heap.c tells 'dist/heap.c is missing' scripts/make/sums.sh check
 # its sum is made anew, and no other
+cp dist/SUMS "$folder/sums"
 summed() {
-    cp dist/SUMS "$folder/sums"
     make -s sums
     [ "$(diff "$folder/sums" dist/SUMS | sed -n 's/^[<>] [0-9a-f]*//p' | xargs)" = 'dist/heap.c dist/heap.c' ] ||
         fails 'make sums: no sum, or other sums'
     scripts/make/sums.sh check >/dev/null
     [ "$(echo 0 | make -s run)" = nothex ]
-    cp "$folder/sums" dist/SUMS
 }
 changes dist/heap.c '$a/* changed */' summed
 make -s sums
@@ -87,37 +88,30 @@ changes "$text" "$instruction" named linkwire
 # where nobody can tell whether they fit, nothing is built: without a command, or without the script; its mode is no
 # matter
 read_rt=crates/nla_wire/src/nla_read.rt
-nobody_tells="scripts/make/sums.sh, which needs bash and sha256sum, does not say whether dist/ fits the crates: "
-untold() {
-    mkdir "$folder/few"
-    tr ':' '\n' <<<"$PATH" | while read -r it; do
-        find "$it/" -maxdepth 1 ! -type d ! -name "$1" -exec ln -sf -t "$folder/few" {} + 2>/dev/null || true
-    done
-    PATH=$folder/few tells "$nobody_tells" make -s run
-    rm -r "$folder/few"
-}
+nobody_tells=(tells 'scripts/make/sums.sh, which needs bash and sha256sum, does not say whether dist/ fits the crates: '
+    make -s run)
 for it in bash sha256sum; do
-    untold "$it"
-    changes "$read_rt" '$a// changed' untold "$it"
+    script "$folder/bin/$it" "echo '$it: not found' >&2" 'exit 127'
+    "${nobody_tells[@]}"
+    changes "$read_rt" '$a// changed' "${nobody_tells[@]}"
+    rm "$folder/bin/$it"
 done
-without scripts/make/sums.sh untold none
+without scripts/make/sums.sh "${nobody_tells[@]}"
 chmod -x scripts/make/sums.sh
 changes "$read_rt" '$a// changed' tells "$read_rt changed since dist/ was made" make -s run
 chmod +x scripts/make/sums.sh
 
 # with its sum too, it is not the text that was made of the crates
+forges() {
+    changes dist/SUMS "s|.*  $text\$|$(sha256sum "$text")|" forged
+}
 forged() {
-    local sum
-    sum=$(sha256sum "$text")
-    sed -i "s/.*  dist\/$arch\/linkwire\.s$/${sum%% *}  dist\/$arch\/linkwire.s/" dist/SUMS
     scripts/make/sums.sh check >/dev/null
     fails_with "$text is not what is made of the crates" scripts/make/dist.sh --against "$top/out/texts" linkwire
     echo 'test_dist: an instruction changed, and its sum: ok'
 }
 if [ -e "$top/out/texts/$arch/linkwire.s" ]; then
-    cp dist/SUMS "$folder/sums"
-    changes "$text" "$instruction" forged
-    cp "$folder/sums" dist/SUMS
+    changes "$text" "$instruction" forges
 else
     lacks 'an instruction changed, and its sum: no texts were made'
 fi
@@ -131,20 +125,10 @@ changes crates/nla_wire/specs/Frames.antt '$a-- changed' fits 'a specification'
 changes crates/linkshow/src/main.rt '$a// changed' fits 'a crate above'
 
 # with rt, what changed is proved where that is asked for, and nowhere else
-cat >"$folder/rt/rt" <<'END_OF_RT'
-#!/bin/sh
-mkdir -p out/rlib
-name=$(basename "$PWD")
-case $1 in
-lib)
-    touch out/rlib/stamp
-    echo 'int linkwire_proved(void) { return 1; }' | cc -c -x c -o out/proved.o - && ar rc "out/lib$name.a" out/proved.o
-    ;;
-run) printf '#!/bin/sh\necho proved\n' >"out/$name" && chmod +x "out/$name" ;;
-esac
-END_OF_RT
-chmod +x "$folder/rt/rt"
-mkdir "$folder/c"
+script "$folder/rt/rt" 'mkdir -p out/rlib' 'name=$(basename "$PWD")' 'case $1 in' \
+    'lib) touch out/rlib/stamp && echo "int linkwire_proved(void) { return 1; }" | cc -c -x c -o out/proved.o - &&' \
+    '    ar rc "out/lib$name.a" out/proved.o ;;' \
+    'run) printf "#!/bin/sh\necho proved\n" >"out/$name" && chmod +x "out/$name" ;;' 'esac'
 ar rc "$folder/c/liblibc_c.a"
 proves() {
     PATH=$folder/rt:$PATH
@@ -157,23 +141,20 @@ proves() {
 }
 (changes "$read_rt" '$a// changed' proves)
 [ "$(echo 0 | make -s run)" = nothex ]
-# has_proved COUNT: in how many of the libraries stands what the stand-in made
-has_proved() {
+# proved COUNT WORD..: in how many of the libraries, made with these words, stands what the stand-in made
+proved() {
     local count
+    runs make -s lib "${@:2}" </dev/null
     count=$({ nm out/liblinkwire.a; nm -D out/liblinkwire.so.0; } | grep -c ' T linkwire_proved$' || true)
     [ "$count" = "$1" ] || fails "$count libraries have what was proved, and not $1"
 }
-make -s lib >/dev/null
-has_proved 0
-PATH=$folder/rt:$PATH make -s lib PROVE=1 >"$folder/out" 2>"$folder/err" </dev/null
-has_proved 2
-make -s lib >/dev/null
-has_proved 0
+proved 0
+PATH=$folder/rt:$PATH proved 2 PROVE=1
+proved 0
 echo 'test_dist: what was proved gives way to what dist/ has: ok'
 
 # the caller's flags reach each call of the compiler, behind those that harden
-printf '#!/bin/sh\necho "$*" >>%s\nexec cc "$@"\n' "$folder/calls" >"$folder/bin/logs-cc"
-chmod +x "$folder/bin/logs-cc"
+script "$folder/bin/logs-cc" "echo \"\$*\" >>$folder/calls" 'exec cc "$@"'
 make -s all CC=logs-cc CPPFLAGS=-DPASSED CFLAGS='-O1 -g' LDFLAGS=-Wl,-O1 >/dev/null
 passes() {
     grep -E -- "$1" "$folder/calls" >"$folder/out"
@@ -188,12 +169,8 @@ echo "test_dist: the caller's flags are passed on: ok"
 
 # bad input, and nothing is installed
 installs=(make -s install "DESTDIR=$folder/stage")
-compiles_for() {
-    printf '#!/bin/sh\necho %s\n' "$2" >"$folder/bin/$1"
-    chmod +x "$folder/bin/$1"
-}
-compiles_for other-cc riscv64-linux-gnu
-compiles_for mac-cc arm64-apple-darwin23.1.0
+script "$folder/bin/other-cc" 'echo riscv64-linux-gnu'
+script "$folder/bin/mac-cc" 'echo arm64-apple-darwin23.1.0'
 for it in CC LD; do
     tells "there is no no$it: install a C compiler and binutils, or set $it" "${installs[@]}" "$it=no$it"
 done
@@ -201,7 +178,6 @@ tells 'dist/ has no text for riscv64, only for' "${installs[@]}" CC=other-cc
 tells 'the texts in dist/ are for Linux, and mac-cc compiles for arm64-apple-darwin23.1.0: set CC to a compiler' \
     "${installs[@]}" CC=mac-cc
 # the headers that a compiler finds: none, and those of the C library alone
-mkdir "$folder/headers"
 tells 'cc -nostdinc finds no errno.h: install the headers of the C library' "${installs[@]}" CC='cc -nostdinc'
 touch "$folder/headers/errno.h" "$folder/headers/stdio.h"
 tells 'finds no linux/rtnetlink.h: install the headers of the kernel, or name their folder in CPPFLAGS' \
