@@ -80,10 +80,11 @@ needs() {
     has 'all of it' "$@" || exit 0
 }
 
-# has_namespace WHAT: whether a network namespace may be made, and ip is there, else it says that WHAT is skipped
+# has_namespace WHAT [FLAGS]: whether `unshare FLAGS` makes a network namespace, and ip is there, else it says that WHAT
+# is skipped
 has_namespace() {
     has "$1" ip || return 1
-    unshare -rn true 2>/dev/null || { lacks "$1: no right to make a network namespace"; return 1; }
+    unshare "${2:--rn}" true 2>/dev/null || { lacks "$1: no right to make a network namespace"; return 1; }
 }
 
 # program NAME [FOLDER..]: where the program is, in these folders, else as the gate left it or in out/; nothing where it
@@ -97,14 +98,12 @@ program() {
 # each_python COMMAND..: at once, with version and path of each Python from 3.9 to 3.13 that runs, on the path or
 # of pyenv
 each_python() {
-    local version it found waits=()
+    local version found waits=()
     for version in 3.9 3.10 3.11 3.12 3.13; do
-        found=''
-        for it in "python$version" /usr/bin/"python$version" \
+        found=$(for it in "python$version" /usr/bin/"python$version" \
             "${PYENV_ROOT:-$HOME/.pyenv}"/versions/"$version".*/bin/"python$version"; do
-            [ -n "$found" ] || ! "$it" -c '' 2>/dev/null || found=$(command -v "$it")
-        done
-        [ -n "$found" ] || { lacks "Python $version: it is not here" && continue; }
+            "$it" -c 'import sys; print(sys.executable)' 2>/dev/null && break
+        done) || { lacks "Python $version: it is not here" && continue; }
         "$@" "$version" "$found" &
         waits+=("$!")
     done

@@ -22,9 +22,7 @@ for it in command terminal; do
     runs python3 "tests/linkwatch/test_$it.py"
     echo "linkwatch: $it: $(sed -n 's/^Ran \([0-9]* tests\).*/\1/p' "$log"): ok"
 done
-if ! unshare -n true 2>/dev/null; then
-    lacks 'the running kernel: no right to make a namespace'
-elif has 'the running kernel' ip; then
+if has_namespace 'the running kernel' -mn; then
     mkdir "$folder/completions"
     unshare -mn tests/linkwatch/completions.sh "$folder/completions" "$programs"
     unshare -n python3 tests/linkwatch/live.py "$programs/linkdump" "$programs/linkdiff"

@@ -1,10 +1,6 @@
 #!/usr/bin/env bash
-# Tests the package in python/: python_tests.sh [FOLDER], where the shared library and the programs are, else out/. It
-# runs mypy --strict; the wheel, the same bytes twice, also of the archive of sources, its tag by the compiler, and what
-# is said where one lacks or does not fit; pip install -e; for each Python from 3.9 to 3.13 that is here, a fresh
-# environment into which pip installs the package without a network, and the tests there; the running kernel, in a
-# network namespace; `Watch` beside linkdiff over 100,000 lines; the commands of docs/PYTHON.md and docs/FLEET.md; and
-# what needs Debian's pyroute2, PostgreSQL or distributed. What lacks is 'skipped'. The last line is 'python passed'.
+# Tests the package in python/: python_tests.sh [FOLDER], where the shared library and the programs are, else out/.
+# What lacks is 'skipped'. The last line is 'python passed'.
 self=python
 . "$(dirname "$0")/../common.sh"
 cd "$top"
@@ -15,18 +11,11 @@ export LINKDIFF=$programs/linkdiff
 
 # offline COMMAND..: where there is no network, if that is allowed
 offline() {
-    if unshare -rn true 2>/dev/null; then
-        set -- unshare -rn "$@"
-    fi
+    ! unshare -rn true 2>/dev/null || set -- unshare -rn "$@"
     "$@"
 }
 
-# refuses PATTERN COMMAND..: it fails, and its error says that
-refuses() {
-    tries "${@:2}"
-    { [ "$status" != 0 ] && grep -q "$1" "$folder/err"; } || fails "${*:2}: status $status, and it does not say '$1'"
-}
-
+# the bytes are the same twice, and what lacks is said
 wheels() {
     local it
     mkdir "$folder/one" "$folder/two" "$folder/none" "$folder/tools"
@@ -36,57 +25,48 @@ wheels() {
     done
     cmp "$folder"/one/*.whl "$folder"/two/*.whl
     ln -s "$(python3 -c 'import sys; print(sys.executable)')" "$folder/tools/python3"
-    refuses '^linkwire: there is no cc, and no installed liblinkwire.so.0: install' \
+    fails_with 'linkwire: there is no cc, and no installed liblinkwire.so.0: install' \
         env PATH="$folder/tools" LINKWIRE=/nothing python3 python/backend.py "$folder/none"
     PATH=$folder/tools LINKWIRE=$programs/liblinkwire.so.0 python3 python/backend.py "$folder/none" >"$folder/name"
     grep -q -- '-any.whl$' "$folder/name" || fails "without a compiler: $(cat "$folder/name")"
-    refuses '' env CC="$folder/tools/python3" python3 python/backend.py "$folder/none"
-    refuses 'ImportError: linkwire: LINKWIRE names a library that does not load: /nothing: cannot open' \
+    fails_with '' env CC="$folder/tools/python3" python3 python/backend.py "$folder/none"
+    fails_with 'ImportError: linkwire: LINKWIRE names a library that does not load: /nothing: cannot open' \
         env LINKWIRE=/nothing PYTHONPATH=python python3 -c 'import linkwire'
-    if PYTHONPATH=python python3 -c 'import linkwire' 2>"$folder/err"; then
+    if PYTHONPATH=python python3 -c 'import linkwire' 2>/dev/null; then
         lacks 'what is said without a library: one is installed'
     else
-        grep -q 'ImportError: linkwire: no shared library: install liblinkwire.so.0' "$folder/err" ||
-            fails 'it is not said that there is no library'
+        fails_with 'ImportError: linkwire: no shared library: install liblinkwire.so.0' \
+            env PYTHONPATH=python python3 -c 'import linkwire'
     fi
     echo 'python: the wheel: the same bytes twice; without a compiler or a library what lacks is said'
 }
 
 # builds CC TAG: a wheel by this compiler has this tag
 builds() {
-    mkdir "$folder/by"
-    CC=$1 python3 python/backend.py "$folder/by" >"$folder/name"
+    has "a wheel for $2" "$1" || return 0
+    mkdir "$folder/$2"
+    CC=$1 python3 python/backend.py "$folder/$2" >"$folder/name"
     grep -q -- "-py3-none-$2.whl\$" "$folder/name" || fails "by $1: $(cat "$folder/name")"
-    mv "$folder"/by/*.whl "$folder/$2.whl"
-    rmdir "$folder/by"
 }
 
 compilers() {
-    local it machine
+    local it
     builds cc "linux_$(uname -m)"
-    grep -q 'linkwire-.*/LICENSE' <(python3 -m zipfile -l "$folder/linux_$(uname -m).whl") || fails 'no LICENSE'
-    while read -r it machine; do
-        ! has "a wheel for $machine" "$it" || builds "$it" "$machine"
-    done <<END
-aarch64-linux-gnu-gcc linux_aarch64
-musl-gcc musllinux_1_1_$(uname -m)
-END
+    grep -q 'linkwire-.*/LICENSE' <(python3 -m zipfile -l "$folder/linux_$(uname -m)"/*.whl) || fails 'no LICENSE'
+    builds aarch64-linux-gnu-gcc linux_aarch64
+    builds musl-gcc "musllinux_1_1_$(uname -m)"
     for it in riscv64 arm s390x i686; do
-        printf '#!/bin/sh\necho %s-linux-gnu\n' "$it" >"$folder/tools/cc"
-        chmod +x "$folder/tools/cc"
-        refuses "^linkwire: processors of $it-linux-gnu are not supported, only aarch64 and x86_64. linkdump is C" \
-            env CC="$folder/tools/cc" python3 python/backend.py "$folder"
+        script "$folder/other-cc" "echo $it-linux-gnu"
+        fails_with "linkwire: processors of $it-linux-gnu are not supported, only aarch64 and x86_64. linkdump is C" \
+            env CC="$folder/other-cc" python3 python/backend.py "$folder"
     done
-    rm "$folder/tools/cc"
     mkdir "$folder/odd"
     cp -r python/linkwire "$folder/odd"
-    if [ -e "$folder/linux_aarch64.whl" ] && [ "$(uname -m)" != aarch64 ]; then
-        python3 -m zipfile -e "$folder/linux_aarch64.whl" "$folder/odd"
-    else
-        echo nothing >"$folder/odd/linkwire/liblinkwire.so.0"
-    fi
     it=$folder/odd/linkwire/liblinkwire.so.0
-    refuses "ImportError: linkwire: the shared library is there and does not load: $it" \
+    echo nothing >"$it"
+    [ ! -e "$folder/linux_aarch64" ] || python3 -m zipfile -e "$folder"/linux_aarch64/*.whl "$folder/odd"
+    [ "$(uname -m)" != aarch64 ] || echo nothing >"$it"
+    fails_with "ImportError: linkwire: the shared library is there and does not load: $it" \
         env PYTHONPATH="$folder/odd" python3 -c 'import linkwire'
     echo 'python: the tag of a wheel is of its compiler, and what does not fit is said'
 }
@@ -140,8 +120,7 @@ ours() {
 }
 
 live() {
-    has 'the running kernel' ip || return 0
-    unshare -n true 2>/dev/null || { lacks 'the running kernel: no right to make a namespace' && return; }
+    has_namespace 'the running kernel' -n || return 0
     ours unshare -n python3 tests/python/live.py
     ours unshare -n python3 tests/python/beside.py made
     ours python3 tests/python/pages.py README.md docs/PYTHON.md docs/FLEET.md

@@ -4,26 +4,33 @@
 # again are one more each; in the folder a refused message and a linkdump that fails are none.
 . "$(dirname "$0")/../common.sh"
 
-sqlite() {
-    LINKWIRE=$library PYTHONPATH=$top/python python3 -B "$top/examples/store.py" "$folder/links.db" "$@" \
-        >"$folder/out" 2>&1 || fails "store.py: $(cat "$folder/out")"
-}
-
-# in_sqlite QUERY
-in_sqlite() {
-    python3 -c 'import sqlite3, sys; print(*sqlite3.connect(sys.argv[1]).execute(sys.argv[2]).fetchone())' \
-        "$folder/links.db" "$1"
-}
-
-# of INDEX WHAT: of its rows, of AF_UNSPEC
-of() {
-    in_sqlite "SELECT $2 FROM stretch WHERE family = 0 AND ifindex = $1"
-}
-
 # wants WHAT FOUND WANTED
 wants() {
     [ "$2" = "$3" ] || fails "$1: $2 and not $3"
     echo "store: $1: $2"
+}
+
+# a link that is the same each time that it is made
+# shellcheck disable=SC2317 # the words of `after` call it
+makes_again() {
+    ip link add index 4242 name again0 address 02:00:00:00:00:07 type veth peer index 4243 name again1 \
+        address 02:00:00:00:00:08
+}
+
+sqlite() {
+    LINKWIRE=$library PYTHONPATH=$top/python runs python3 -B "$top/examples/store.py" "$folder/links.db" "$@"
+}
+
+# after COMMAND..: one poll
+after() {
+    "$@"
+    sqlite
+}
+
+# rows WHAT [INDEX]: of all, or of a link of AF_UNSPEC
+rows() {
+    python3 -c 'import sqlite3, sys; print(*sqlite3.connect(sys.argv[1]).execute(sys.argv[2]).fetchone())' \
+        "$folder/links.db" "SELECT $1 FROM stretch ${2:+WHERE family = 0 AND ifindex = $2}"
 }
 
 # stands: whether no state moves for five seconds
@@ -31,63 +38,40 @@ wants() {
 stands() {
     rm -f "$folder/links.db"
     sqlite 50 0.1
-    [ "$(in_sqlite 'SELECT count(*) - sum(is_open) FROM stretch')" = 0 ]
-}
-
-# a link that is the same each time that it is made
-makes_again() {
-    ip link add index 4242 name again0 address 02:00:00:00:00:07 type veth peer index 4243 name again1 \
-        address 02:00:00:00:00:08
+    [ "$(rows 'count(*) - sum(is_open)')" = 0 ]
 }
 
 polls_sqlite() {
-    local links index
+    local index
     waits 120 stands || fails 'the states of the links do not come to stand'
     rm -f "$folder/links.db"
     sqlite 100 0.05
-    links=$(in_sqlite 'SELECT sum(is_open) FROM stretch')
-    wants 'rows of a hundred idle polls, one a link' "$(in_sqlite 'SELECT count(*) FROM stretch')" "$links"
+    wants 'rows of a hundred idle polls, one a link' "$(rows 'count(*)')" "$(rows 'sum(is_open)')"
     index=$(cat /sys/class/net/veth0/ifindex)
-    ip link set veth0 mtu 1400
-    sqlite
-    wants 'rows of a link that was changed' "$(of "$index" 'count(*)')" 2
-    ip link set veth0 mtu 1500
-    sqlite
-    wants 'rows of a link that was changed back' "$(of "$index" 'count(*)')" 3
-    wants 'its encodings' "$(of "$index" 'count(DISTINCT key)')" 2
-    makes_again
-    sqlite
-    ip link del again0
-    sqlite
-    wants 'open rows of a link that was deleted' "$(of 4242 'sum(is_open)')" 0
-    makes_again
-    sqlite
-    wants 'rows of an index that is used again' "$(of 4242 'count(*)')" 2
-    wants 'open ones' "$(of 4242 'sum(is_open)')" 1
-    wants 'its encodings' "$(of 4242 'count(DISTINCT key)')" 1
+    after ip link set veth0 mtu 1400
+    wants 'rows of a link that was changed' "$(rows 'count(*)' "$index")" 2
+    after ip link set veth0 mtu 1500
+    wants 'rows of a link that was changed back' "$(rows 'count(*)' "$index")" 3
+    wants 'its encodings' "$(rows 'count(DISTINCT key)' "$index")" 2
+    after makes_again
+    after ip link del again0
+    wants 'open rows of a link that was deleted' "$(rows 'sum(is_open)' 4242)" 0
+    after makes_again
+    wants 'rows of an index that is used again' "$(rows 'count(*)' 4242)" 2
+    wants 'open ones' "$(rows 'sum(is_open)' 4242)" 1
+    wants 'its encodings' "$(rows 'count(DISTINCT key)' 4242)" 1
     ip link del again0
 }
 
-# in_folder [FOLDER]: one poll; a program in FOLDER stands for another of its name
-in_folder() {
-    PATH=${1:+$1:}$folder:$(dirname "$linkstate"):$PATH bash "$folder/store.sh" "$folder/store" 2>"$folder/err"
-}
-
-# polls [FOLDER]: the same, which does not fail
+# polls [FOLDER [STATUS]]: one poll; a program in FOLDER stands for another of its name
 polls() {
-    in_folder "$@" || fails "the store in a folder: $(cat "$folder/err")"
+    PATH=${1:+$1:}$PATH tries bash "$folder/store.sh" "$folder/store"
+    [ "$status" = "${2:-0}" ] || fails "the store in a folder: status $status: $(cat "$folder/err")"
 }
 
-# stub LINE..: a linkdump of these lines
-stub() {
-    mkdir -p "$folder/stub"
-    printf '%s\n' '#!/bin/sh' "$@" >"$folder/stub/linkdump"
-    chmod +x "$folder/stub/linkdump"
-}
-
-# folder_lines: how many the files of the interfaces have
-folder_lines() {
-    cat "$folder"/store/links/* | wc -l
+# kept WHAT WANTED: how many lines the files of the interfaces have
+kept() {
+    wants "$1" "$(cat "$folder"/store/links/* | wc -l)" "$2"
 }
 
 polls_folder() {
@@ -97,23 +81,24 @@ polls_folder() {
         polls
     done
     links=$(find "$folder/store/links" -type f | wc -l)
-    wants 'lines of a hundred idle polls in a folder, one a link' "$(folder_lines)" "$links"
+    kept 'lines of a hundred idle polls in a folder, one a link' "$links"
     # a message with a stray byte at its end
     index=$(printf %08x "$(cat /sys/class/net/veth0/ifindex)" | sed 's/\(..\)\(..\)\(..\)\(..\)/\4\3\2\1/')
-    stub "'$folder/linkdump' \"\$@\" | sed '/^00......$index/s/\$/00/'"
+    mkdir "$folder/stub"
+    script "$folder/stub/linkdump" "'$folder/linkdump' \"\$@\" | sed '/^00......$index/s/\$/00/'"
     for count in 1 2; do
         polls "$folder/stub"
         wants 'links that are refused and told' "$(grep -c "^refused 00......$index.*00\$" "$folder/err")" 1
         polls
     done
-    wants 'lines after a link was refused, and was not, twice' "$(folder_lines)" "$links"
-    stub "'$folder/linkdump' \"\$@\" | head -n 1" 'exit 1'
-    ! in_folder "$folder/stub" || fails 'the store in a folder does not tell that linkdump failed'
+    kept 'lines after a link was refused, and was not, twice' "$links"
+    script "$folder/stub/linkdump" "'$folder/linkdump' \"\$@\" | head -n 1" 'exit 1'
+    polls "$folder/stub" 1
     polls
-    wants 'lines after a linkdump that failed' "$(folder_lines)" "$links"
+    kept 'lines after a linkdump that failed' "$links"
     ip link set veth0 mtu 1400
     polls
-    wants 'lines after a change' "$(folder_lines)" $((links + 1))
+    kept 'lines after a change' $((links + 1))
     ip link del veth0
     polls
     polls
@@ -124,35 +109,30 @@ polls_folder() {
     done
 }
 
-# in_news PATTERN: until a line of the store of news of the index 4242 has it
-in_news() {
-    waits 10 last_has "$1" || fails "news: $1 is not the last: $(cut -c1-60 "$folder"/news/0092100000 2>&1)"
-}
-
+# last_has PATTERN: whether the last line of the store of news of the index 4242 has it
 # shellcheck disable=SC2317 # waits calls it
 last_has() {
     tail -n 1 "$folder/news/0092100000" 2>/dev/null | grep -q "$1"
 }
 
 keeps_news() {
-    local news
+    local command pattern
     block STORE.md sh >"$folder/news.sh"
-    PATH=$folder:$(dirname "$linkstate"):$PATH setsid bash -uo pipefail "$folder/news.sh" "$folder/news" &
-    news=$!
-    trap 'kill -- "-$news" 2>/dev/null || true' EXIT
+    setsid bash -uo pipefail "$folder/news.sh" "$folder/news" &
+    # shellcheck disable=SC2064 # as it is now
+    trap "kill -- -$! 2>/dev/null || true" EXIT
     waits 10 test -e "$folder/news/0001000000" || true
-    makes_again
-    in_news ' type=new '
-    ip link set again0 mtu 1400
-    in_news ' type=new .*0800040078050000'
-    ip link del again0
-    in_news ' type=del '
-    makes_again
-    in_news ' type=new '
-    ip link del again0
-    in_news ' type=del '
-    kill -- "-$news" 2>/dev/null
-    trap - EXIT
+    while IFS=, read -r command pattern; do
+        $command
+        waits 10 last_has "$pattern" ||
+            fails "news: $pattern is not the last: $(cut -c1-60 "$folder"/news/0092100000 2>&1)"
+    done <<'END'
+makes_again, type=new
+ip link set again0 mtu 1400, type=new .*0800040078050000
+ip link del again0, type=del
+makes_again, type=new
+ip link del again0, type=del
+END
     wants 'lines of an index that was used twice, that tell that it went' \
         "$(grep -c ' type=del ' "$folder/news/0092100000")" 2
 }
@@ -166,6 +146,7 @@ if [ -n "$inside" ]; then
     done
     polls_sqlite
     [ -x "$linkstate" ] || skips 'a store in a folder: linkstate is not built'
+    PATH=$folder:$(dirname "$linkstate"):$PATH
     polls_folder
     keeps_news
     exit 0
