@@ -22,13 +22,17 @@ names() {
     echo "test_costs: named: ${line#costs: }"
 }
 
-# slips NAME CALLED BODY: in the text of NAME all calls of CALLED go to a function with this body; without a size
-# callgrind would not know it
+# slips CALLED MORE: in the text of linkwire all calls of CALLED go to a function that calls it and then does more; what
+# it was given is in %rdi and %rsi, and what came in %rax. Without a size callgrind would not know it.
 slips() {
     cp dist/x86_64/*.s "$texts"
-    sed -i "s/\b$2@PLT/slipped/" "$texts/$1.s"
-    printf '\t.text\n\t.type\tslipped,@function\nslipped:\n%s\n\tretq\n' "$3" >>"$texts/$1.s"
-    printf '\t.size\tslipped, .-slipped\n' >>"$texts/$1.s"
+    sed -i "s/\b$1@PLT/slipped/" "$texts/linkwire.s"
+    {
+        printf '\t.text\n\t.type\tslipped,@function\nslipped:\n'
+        printf '\t%s\n' 'pushq %rdi' 'pushq %rsi' 'subq $8, %rsp' "callq $1@PLT" 'addq $8, %rsp' 'popq %rsi' \
+            'popq %rdi' "$2" retq
+        printf '\t.size\tslipped, .-slipped\n'
+    } >>"$texts/linkwire.s"
 }
 
 mkdir "$texts"
@@ -40,30 +44,20 @@ case $said in
 *) fails "$said" ;;
 esac
 
-slips linkwire read '
-    pushq %rbx
-    pushq %rsi
-    subq $8, %rsp
-    callq read@PLT
-    addq $8, %rsp
-    popq %rsi
-    movq %rax, %rbx
+slips read '
+    pushq %rax
     testq %rax, %rax
     jle .Lended
     movq %rax, %rdx
     leaq room(%rip), %rdi
     callq memcpy@PLT
 .Lended:
-    movq %rbx, %rax
-    popq %rbx
+    popq %rax
     .local room
     .comm room, 1048576'
 names ' steps of the C library a line, and at most ' linkwire/dumps
 
-slips linkwire read '
-    subq $8, %rsp
-    callq read@PLT
-    addq $8, %rsp
+slips read '
     movq %rax, %rcx
 .Lagain:
     nop
@@ -71,23 +65,14 @@ slips linkwire read '
     jg .Lagain'
 names ' instructions a line, and at most ' linkwire/dumps
 
-slips linkwire rattle_alloc '
-    pushq %rdi
-    pushq %rsi
-    subq $8, %rsp
-    callq rattle_alloc@PLT
-    addq $8, %rsp
-    popq %rsi
-    popq %rdi
-    callq rattle_alloc@PLT'
+slips rattle_alloc 'jmp rattle_alloc@PLT'
 names ' requests for memory a line, and at most ' linkwire/dumps
 
 cp dist/x86_64/*.s "$texts"
 sed -i 's/^linkwire_check:/&\n\tmovl $100, %eax\n.Lwaits:\n\tdecl %eax\n\tjnz .Lwaits/' "$texts/link_c.s"
 names 'linkwire_check/dumps: ' linkwire_check/dumps linkwire_next/dumps
 
-slips linkwire write '
-    jmp writev@PLT'
+slips write 'jmp writev@PLT'
 names 'linkwire.s calls what nothing counts: writev' linkwire/dumps
 
 cp dist/x86_64/*.s "$texts"
