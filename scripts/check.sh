@@ -28,7 +28,7 @@ libraries() {
     stage 'c_tests.sh, with state_live.sh' scripts/test/c_tests.sh out/liblinkwire.a crates/linkdiff/out out
     stage call_answers.py python3 scripts/test/call_answers.py out/liblinkwire.a "$linkshow" "$linkdiff"
     stage second.sh scripts/test/second.sh out out/liblinkwire.a
-    stage 'compilers.sh, of the library' scripts/test/compilers.sh --library out
+    stage 'compilers.sh, of the library' scripts/test/compilers.sh --library
     stage linkdump_tests.sh scripts/test/linkdump_tests.sh
     stage fuzz.sh scripts/test/fuzz.sh 30
     stage python_tests.sh scripts/test/python_tests.sh out
@@ -70,7 +70,7 @@ programs() {
     scripts/test/test_progress.sh
     scripts/test/refused_memory.sh
     scripts/test/refused_parse.sh
-    scripts/refused_info.sh
+    scripts/test/refused_info.sh
     scripts/test/tested_edits.sh
     python3 scripts/test/kernel_tables.py
     scripts/test/test_kernel_tables.sh

@@ -211,11 +211,13 @@ needs_netlink() {
     fi
 }
 
-# copies_tree FOLDER: makes a copy of the tree without what is built, and takes rt off the path
+# copies_tree FOLDER: goes to a copy of the tree without what is built, and takes rt off the path
 copies_tree() {
     mkdir -p "$1"
-    (cd "$top" && git ls-files -z --cached --others --exclude-standard | tar --null --ignore-failed-read -T - -c) \
-        2>/dev/null | tar -x -C "$1"
+    cd "$top"
+    git ls-files -z --cached --others --exclude-standard | tar --null --ignore-failed-read -T - -c 2>/dev/null |
+        tar -x -C "$1"
+    cd "$1"
     PATH=$(tr ':' '\n' <<<"$PATH" | while read -r it; do [ -e "$it/rt" ] || echo "$it"; done | paste -sd :)
     unset CC LD OBJCOPY AR CPPFLAGS CFLAGS LDFLAGS MAKEFLAGS MFLAGS MAKELEVEL PROVE
 }

@@ -14,11 +14,11 @@ names() {
 # a declaration may have several lines
 declared=$(sed -n -e ':a' -e '/^[a-z].*,$/{N;s/\n *//;ba' -e '}' \
     -e 's/^[a-z][a-z0-9_]* *.*[ *]\(linkwire_[a-z_]*\)(.*;$/\1/p' "$top/include/linkwire.h" | sort)
-for found in "$(names "$library")" "$(names -D "$shared")"; do
-    [ "$found" = "$declared" ] || fails "a library defines other names than the header declares: $found"
-done
 packed=$(sed -n 's/^ \(linkwire_.*\)@Base .*/\1/p' "$top/debian/liblinkwire0.symbols" | sort)
-[ "$packed" = "$declared" ] || fails 'debian/liblinkwire0.symbols has other names than the header declares'
+for found in "$(names "$library")" "$(names -D "$shared")" "$packed"; do
+    [ "$found" = "$declared" ] ||
+        fails "a library, or debian/liblinkwire0.symbols, has other names than the header declares: $found"
+done
 
 # header COMPILER:STANDARD FLAG..: compiles the header's own program, and runs it, where the compiler is there
 header() {
@@ -41,16 +41,12 @@ done
 
 flags=(-std=c11 -O1 -Wall -Wextra -Wpedantic -Wshadow -Werror -I"$top/include")
 for test in "$top"/tests/c/*.c; do
-    name=$(basename "$test" .c)
-    program=$folder/$name
-    [ "$name" != laws ] || continue
-    ${CC:-cc} "${flags[@]}" -o "$program" "$test" "$library"
-    "$program"
-    # memory.c has an allocator of its own
-    if [ "$name" != memory ] && ${CC:-cc} "${flags[@]}" "${sanitizers[@]}" -o "$program" "$test" "$library" 2>"$log"
-    then
-        "$program"
-    fi
+    [ "${test##*/}" != laws.c ] || continue
+    ${CC:-cc} "${flags[@]}" -o "$folder/plain" "$test" "$library"
+    "$folder/plain"
+    [ "${test##*/}" != memory.c ] || continue # it has an allocator of its own
+    ! ${CC:-cc} "${flags[@]}" "${sanitizers[@]}" -o "$folder/sanitized" "$test" "$library" 2>"$log" ||
+        "$folder/sanitized"
 done
 "$top/scripts/test/laws.sh" "$library"
 "$top/scripts/test/live_tests.sh" "$library"

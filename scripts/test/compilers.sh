@@ -1,8 +1,8 @@
 #!/usr/bin/env bash
 # Compares what other compilers make of the programs and of the library with what tests/second has stored, which is what
-# LLVM's answer: compilers.sh [--library] MADE [FOLDER]. MADE has the programs, or the library. FOLDER has
-# NAME.by-rattle of the toolchain's own compiler, else crates/NAME/out has, where the gate and `dist.sh --by-rattle`
-# left it. rustc makes the library that rust/capi has, and erased_tests.sh the programs.
+# LLVM's answer: compilers.sh --library, or compilers.sh MADE, where the programs are. crates/NAME/out has
+# NAME.by-rattle of the toolchain's own compiler, where the gate and `dist.sh --by-rattle` left it. rustc makes the
+# library that rust/capi has, and erased_tests.sh the programs.
 . "$(dirname "$0")/../common.sh"
 cd "$top"
 own="the toolchain's compiler"
@@ -19,7 +19,7 @@ of_programs() {
     local name other set it
     mkdir "$folder/by"
     for name in linkwire linkstate linkshow linkdiff; do
-        other=${2:-crates/$name/out}/$name.by-rattle
+        other=crates/$name/out/$name.by-rattle
         if [ ! -x "$other" ]; then
             lacks "$name: the gate has not built it a second time"
             other=$1/$name
@@ -50,20 +50,16 @@ calls() {
 }
 
 of_library() {
-    local library=${2:-crates/link_c/out}/liblink_c.by-rattle.a
+    local library=crates/link_c/out/liblink_c.by-rattle.a
     if [ -e "$library" ]; then
         calls "$own" "$library" dist/heap.c
     else
         lacks "the library by $own: it has not been built"
     fi
-    if [ -e rust/capi/Cargo.toml ] && has 'the library by rustc' cargo; then
+    if has 'the library by rustc' cargo; then
         CARGO_NET_OFFLINE=true runs cargo build --release --manifest-path rust/capi/Cargo.toml --target-dir out/capi
         calls rustc out/capi/release/liblinkwire.a -lgcc_s -lpthread -ldl -lm
     fi
 }
 
-if [ "$1" = --library ]; then
-    of_library "${@:2}"
-else
-    of_programs "$@"
-fi
+if [ "$1" = --library ]; then of_library; else of_programs "$1"; fi

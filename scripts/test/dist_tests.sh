@@ -5,7 +5,6 @@
 if [ -z "$inside" ]; then
     rt=$(command -v rt || true) hiding=()
     mkdir "$folder/empty"
-    copies_tree "$folder/tree"
     hidden="mount --bind '$folder/empty' '$(dirname "$(dirname "$(readlink -f "$rt")")")'"
     if [ -n "$rt" ] && unshare -rm sh -c "$hidden" 2>/dev/null; then
         hiding=(unshare -rm sh -c "$hidden && exec \"\$@\"" sh)
@@ -15,8 +14,8 @@ if [ -z "$inside" ]; then
     "${hiding[@]}" "$0" --inside "$folder"
     exit
 fi
+copies_tree "$folder/tree"
 ! command -v rt >/dev/null || fails 'rt is in reach'
-cd "$folder/tree"
 read -ra programs <<<"$(sed -n 's/^PROGRAMS = //p' dist/Makefile)"
 
 # tests WHAT: the tests of what was built, of which one line is left
@@ -34,13 +33,6 @@ dumps() {
     echo "dist: $1: linkdump: ok"
 }
 
-# another NAME: goes to a copy of the tree in which nothing is built
-another() {
-    mkdir "$folder/$1"
-    cp -r "$folder/tree/." "$folder/$1"
-    cd "$folder/$1"
-    rm -rf out
-}
 few='calls lists memory laws'
 
 answer=$(echo 00000000000000000000000000000000060003006c6f | make -s run)
@@ -61,7 +53,7 @@ elif has 'on an old processor' qemu-x86_64; then
     RUN='qemu-x86_64 -cpu Conroe' TESTS=$few tests 'on an old processor'
 fi
 if has 'with musl, statically' musl-gcc; then
-    another musl
+    copies_tree "$folder/musl"
     # the kernel's headers, after musl's own
     kernel="-O1 -idirafter /usr/include -idirafter /usr/include/$(cc -dumpmachine)"
     make -s CC=musl-gcc CFLAGS="$kernel" LDFLAGS=-static PCAP= all
@@ -70,14 +62,14 @@ if has 'with musl, statically' musl-gcc; then
 fi
 gnu=aarch64-linux-gnu
 if has aarch64 qemu-aarch64 $gnu-gcc $gnu-ld $gnu-objcopy $gnu-ar; then
-    another aarch64
+    copies_tree "$folder/aarch64"
     make -s CC=$gnu-gcc LD=$gnu-ld OBJCOPY=$gnu-objcopy AR=$gnu-ar PCAP= all
     CC=$gnu-gcc RUN="qemu-aarch64 -L /usr/$gnu" TESTS=$few tests aarch64
     scripts/test/hardened.sh out
     dumps aarch64 qemu-aarch64 -L /usr/$gnu out/linkdump
 fi
 
-another archive
+copies_tree "$folder/archive"
 file=$(scripts/release/archive.sh)
 cp "$file" "$folder/first"
 scripts/release/archive.sh >/dev/null
@@ -112,9 +104,7 @@ if has packages dpkg-buildpackage dh dh_python3 pkg-config; then
     read -ra flags <<<"$(pkg-config --cflags --libs linkwire)"
     cc -o "$folder/uses" tests/install.c "${flags[@]}"
     [ "$(LD_LIBRARY_PATH=$lib "$folder/uses")" = "lo 1500 $(pkg-config --modversion linkwire)" ]
-    for program in "${programs[@]}"; do
-        cp "$folder/root/usr/bin/$program" out/
-    done
+    cp "${programs[@]/#/$folder/root/usr/bin/}" out/
     TESTS=header tests 'the programs of the packages'
     scripts/test/hardened.sh "$folder/root/usr/bin" "$lib/liblinkwire.so.0"
     "$folder/root/usr/bin/linkdump" --version >/dev/null

@@ -39,6 +39,7 @@ else
 fi
 for program in "$folder/linkdump" ${sanitized:+"$sanitized"}; do
     "$top/tests/linkdump/live.sh" "$program"
+    [ "${#pcap[@]}" = 0 ] || python3 "$top/tests/linkdump/captures.py" "$program"
 done
 python3 "$top/tests/linkdump/hosts.py"
 linkdiff=$(program linkdiff)
@@ -48,10 +49,5 @@ if ! "$folder/linkdump" >/dev/null 2>&1; then
 elif has 'links that come and go' ip; then
     python3 "$top/tests/linkdump/churn.py" ${linkdiff:+--linkdiff "$linkdiff"} "$folder/linkdump" "${1:-15}"
 fi
-if [ "${#pcap[@]}" != 0 ]; then
-    for program in "$folder/linkdump" ${sanitized:+"$sanitized"}; do
-        python3 "$top/tests/linkdump/captures.py" "$program"
-    done
-    [ -z "$sanitized" ] || python3 "$top/tests/linkdump/damaged.py" "$sanitized"
-fi
+[ "${#pcap[@]}" = 0 ] || [ -z "$sanitized" ] || python3 "$top/tests/linkdump/damaged.py" "$sanitized"
 echo 'linkdump passed'

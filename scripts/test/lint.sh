@@ -32,19 +32,15 @@ looks mandoc 'command -v mandoc' mandoc -T lint man/*
 # the crate in rust/, where any warning is an error and no registry is needed
 self='lint: rust'
 export CARGO_TARGET_DIR=$folder/target CARGO_NET_OFFLINE=true RUSTFLAGS='-D warnings' RUSTDOCFLAGS='-D warnings'
-# the rustc that RUSTC_OLDEST names, or that of the distribution, where it is the one that the crate is said to need
+# the rustc of the distribution, where it is the one that the crate is said to need
 oldest=$(sed -n 's/^rust-version = "\(.*\)"/\1/p' rust/Cargo.toml)
-rustc=${RUSTC_OLDEST:-/usr/bin/rustc}
-# shellcheck disable=SC2317
-is_oldest() {
-    [[ $("$rustc" --version) = "rustc $oldest."* ]]
-}
+/usr/bin/rustc --version >"$folder/rustc" 2>&1 || true
 looks 'scripts/erase' true python3 scripts/erase/test_erase.py
 looks 'as it is made' 'rustfmt --version' python3 scripts/erase/erase.py check rust
 cd rust
 looks 'no feature' 'cargo --version' cargo check --no-default-features
-looks "rustc $oldest" is_oldest "$rustc" --edition 2021 --crate-type lib --cfg 'feature="std"' --emit metadata \
-    --out-dir "$folder" -D warnings src/lib.rs
+looks "rustc $oldest" "grep ^rustc.${oldest}[.] $folder/rustc" /usr/bin/rustc --edition 2021 --crate-type lib \
+    --cfg 'feature="std"' --emit metadata --out-dir "$folder" -D warnings src/lib.rs
 looks rustfmt 'cargo fmt --version' cargo fmt --check
 looks clippy 'cargo clippy --version' cargo clippy --all-targets -- -D clippy::incompatible_msrv \
     -D clippy::must_use_candidate -D clippy::return_self_not_must_use -D clippy::double_must_use

@@ -1,45 +1,27 @@
 #!/usr/bin/env bash
 # Tests the crate in rust/, and the library for C of rust/capi, on processors that the proofs are not of, by qemu-user:
-# the tests of the crate by cargo; so many lines, which the example 'lines' has to answer as the proved programs do; and
+# the tests of the crate by cargo; 20,000 lines, which the example 'lines' has to answer as the proved programs do; and
 # the tests of tests/c. On a machine of the other byte order the numbers of the lines and answers are turned, and
-# tests/c, whose bytes are lowest first, is left out: processors.sh [LINES [PROCESSOR..]].
+# tests/c, whose bytes are lowest first, is left out.
 #
 # It takes Debian's packages qemu-user-static, gcc-TRIPLET and libstd-rust-dev of the processor, or a rustc whose target
 # is there. A processor that lacks one is skipped, and a line names the packages. What this machine runs itself, as i386
-# on x86-64, is run without qemu. SYSROOTS is the folder that has the folders of the triplets, by default /usr. The last
-# line says how many processors were tested. LINES is 20000 by default.
+# on x86-64, is run without qemu. The last line says how many processors were tested.
 . "$(dirname "$0")/../common.sh"
-count=${1:-20000}
-wanted=("${@:2}")
-sysroots=${SYSROOTS:-/usr}
 export CARGO_NET_OFFLINE=true CARGO_TARGET_DIR=${CARGO_TARGET_DIR:-$folder/target}
 export RUST_BACKTRACE=0 CARGO_INCREMENTAL=0 CARGO_PROFILE_DEV_DEBUG=0 CARGO_PROFILE_TEST_DEBUG=0
 # 'cargo test' compiles the crate too by the profile 'test'. At 1 it takes some minutes more, and qemu takes seconds for
 # tests that take it minutes at 0; overflow is checked all the same.
 export CARGO_PROFILE_DEV_OPT_LEVEL=1 CARGO_PROFILE_TEST_OPT_LEVEL=1
 needs cargo rustc python3
-
-# the processor as Debian names it, rustc's target, the triplet of its C, and qemu's name
-rows='armhf armv7-unknown-linux-gnueabihf arm-linux-gnueabihf arm
-i386 i686-unknown-linux-gnu i686-linux-gnu i386
-ppc64el powerpc64le-unknown-linux-gnu powerpc64le-linux-gnu ppc64le
-s390x s390x-unknown-linux-gnu s390x-linux-gnu s390x
-mips64el mips64el-unknown-linux-gnuabi64 mips64el-linux-gnuabi64 mips64el
-riscv64 riscv64gc-unknown-linux-gnu riscv64-linux-gnu riscv64'
-known=$(cut -d ' ' -f 1 <<<"$rows" | paste -sd ' ')
-for it in "${wanted[@]}"; do
-    [[ " $known " = *" $it "* ]] || fails "no processor '$it'; there are: $known"
-done
+count=20000 tested=0
 
 # rust_of TARGET: a rustc that has the library of this target
 rust_of() {
-    local it libraries
+    local it
     for it in "$(command -v rustc)" /usr/bin/rustc; do
-        libraries=$("$it" --print target-libdir --target "$1" 2>/dev/null) || continue
-        if compgen -G "$libraries/libstd-*.rlib" >/dev/null; then
-            echo "$it"
-            return
-        fi
+        ! compgen -G "$("$it" --print target-libdir --target "$1" 2>/dev/null)/libstd-*.rlib" >/dev/null ||
+            { echo "$it" && return; }
     done
 }
 
@@ -77,26 +59,24 @@ answers() {
     echo "$self: $name: $(wc -l <"$folder/${order}canonical.asked") lines: the same answers"
 }
 
-# tests NAME TARGET TRIPLET QEMU: one processor
-tests() {
-    local name=$1 target=$2 triplet=$3 qemu rustc variable loader runner is_turned='' missing=''
-    qemu=$(command -v "qemu-$4" || command -v "qemu-$4-static" || true)
+# the processor as Debian names it, rustc's target, the triplet of its C, and qemu's name
+while read -r name target triplet qemu; do
+    emulator=$(command -v "qemu-$qemu" || command -v "qemu-$qemu-static" || true)
     rustc=$(rust_of "$target")
-    runner=("$qemu" -L "$sysroots/$triplet")
-    loader=$sysroots/$triplet/lib/ld-linux.so.2
+    runner=("$emulator" -L "/usr/$triplet") loader=/usr/$triplet/lib/ld-linux.so.2 is_turned='' missing=''
     if "$loader" --version >/dev/null 2>&1; then
-        runner=("$loader" --library-path "$sysroots/$triplet/lib")
-    elif [ -z "$qemu" ]; then
-        missing+=", no qemu-$4 (qemu-user-static)"
+        runner=("$loader" --library-path "/usr/$triplet/lib")
+    elif [ -z "$emulator" ]; then
+        missing+=", no qemu-$qemu (qemu-user-static)"
     fi
     command -v "$triplet-gcc" >/dev/null || missing+=", no $triplet-gcc (gcc-$triplet)"
     [ -n "$rustc" ] || missing+=", no std of $target (libstd-rust-dev:$name, or rustup target add $target)"
-    [ -z "$missing" ] || { lacks "$name:${missing#,}" && return; }
+    [ -z "$missing" ] || { lacks "$name:${missing#,}" && continue; }
     variable=CARGO_TARGET_$(tr a-z- A-Z_ <<<"$target")
     export "${variable}_LINKER=$triplet-gcc" "${variable}_RUNNER=${runner[*]}"
     PATH=$(dirname "$rustc"):$PATH
     export PATH RUSTC=$rustc
-    "$rustc" --print cfg --target "$target" | grep -q '^target_endian="big"$' && is_turned=1
+    ! "$rustc" --print cfg --target "$target" | grep -q '^target_endian="big"$' || is_turned=1
     cd "$top/rust"
     runs cargo test --locked --target "$target" </dev/null
     echo "$self: $name: $(passed)"
@@ -107,11 +87,12 @@ tests() {
         echo "$self: $name: tests/c on the library of rust/capi, its laws on $((count / 10)) messages: ok"
     fi
     tested=$((tested + 1))
-}
-
-tested=0
-while read -r name target triplet qemu; do
-    [ "${#wanted[@]}" = 0 ] || [[ " ${wanted[*]} " = *" $name "* ]] || continue
-    tests "$name" "$target" "$triplet" "$qemu"
-done <<<"$rows"
+done <<'END'
+armhf armv7-unknown-linux-gnueabihf arm-linux-gnueabihf arm
+i386 i686-unknown-linux-gnu i686-linux-gnu i386
+ppc64el powerpc64le-unknown-linux-gnu powerpc64le-linux-gnu ppc64le
+s390x s390x-unknown-linux-gnu s390x-linux-gnu s390x
+mips64el mips64el-unknown-linux-gnuabi64 mips64el-linux-gnuabi64 mips64el
+riscv64 riscv64gc-unknown-linux-gnu riscv64-linux-gnu riscv64
+END
 echo "$self: $tested processors tested"

@@ -1,12 +1,10 @@
 #!/usr/bin/env bash
 # Tests the crate in rust/: its tests and those in its docs, with overflow checks, and the program in docs/USING.md,
-# whose output is compared. The example 'lines' has to answer the stored input of the program linkwire as that does,
-# and, where that is built, so many lines that are made and damaged, and these as linkstate does by the state encoding;
-# what the crate's calls say of each of these lines has to agree. The library of rust/capi has to have the names of the
-# library for C, and to pass tests/c: rust_tests.sh [LINES]. It needs no registry.
+# whose output is compared. The example 'lines' has to answer as the second reader of tests/second does, and 100,000
+# lines that are made and damaged as linkwire and linkstate do, where these are built; what the crate's calls say of
+# each of these lines has to agree. The library of rust/capi has to have the names of the library for C, and to pass
+# tests/c. It needs no registry.
 . "$(dirname "$0")/../common.sh"
-count=${1:-100000}
-linkwire=$top/crates/linkwire
 needs cargo
 export CARGO_TARGET_DIR=$folder/target CARGO_NET_OFFLINE=true
 
@@ -38,19 +36,16 @@ capi=$CARGO_TARGET_DIR/debug/liblinkwire
 tests_c "$capi.a" 2000 "${CC:-cc}"
 echo 'rust: tests/c on the library of rust/capi, and 2000 messages of its laws: ok'
 
-mkdir -p "$folder/sample/src"
+# package NAME KIND: a new one there, which depends on the crate
+package() {
+    runs cargo new --vcs none --edition 2021 "$2" "$folder/$1"
+    (cd "$folder/$1" && runs cargo add --path "$top/rust")
+}
+
+package sample --bin
 block USING.md rust '<!-- runs: rust -->' >"$folder/sample/src/main.rs"
 block USING.md console '<!-- runs: rust -->' | sed 1d >"$folder/wanted"
 [ -s "$folder/sample/src/main.rs" ] && [ -s "$folder/wanted" ]
-cat >"$folder/sample/Cargo.toml" <<END
-[package]
-name = "sample"
-version = "0.0.0"
-edition = "2021"
-
-[dependencies]
-linkwire = { path = "$top/rust" }
-END
 (cd "$folder/sample" && runs cargo build)
 "$CARGO_TARGET_DIR/debug/sample" >"$folder/found"
 diff "$folder/wanted" "$folder/found"
@@ -70,8 +65,7 @@ if has_namespace 'list, watch and change'; then
 fi
 
 # a call of a trait that is not named: rustc names the trait, and says of none that it is private
-mkdir -p "$folder/untold/src"
-sed 's/sample/untold/' "$folder/sample/Cargo.toml" >"$folder/untold/Cargo.toml"
+package untold --lib
 {
     awk '/^(enum|struct) [A-Za-z0-9]+$/ { name = $2 } /^  has .*Emitable/ { print name }' items.txt
     printf '%s\n' DefaultNla LinkAttribute Prop VfInfo
@@ -92,10 +86,8 @@ echo "rust: $calls calls of traits that are not named: rustc names the trait"
 
 runs cargo build --locked --release --example lines
 example=$CARGO_TARGET_DIR/release/examples/lines
-"$example" <"$linkwire/stdin" | cmp - "$linkwire/stdout"
+"$example" <"$top/crates/linkwire/stdin" | cmp - "$top/crates/linkwire/stdout"
 echo "rust: the program's stored input: the same bytes"
-program=$(program linkwire)
-[ -n "$program" ] || skips 'lines: the program linkwire is not built'
 makes_lines -DLINES_ALONE
 export PLACES=$top/tests/second/places.txt
 for set in all digits; do
@@ -107,18 +99,15 @@ for set in all digits; do
         echo "rust: $(cat "$log")"
     done
 done
-python3 "$top/scripts/test/damaged.py" --write "$folder/set" "$count"
-"$program" <"$folder/set" >"$folder/wanted"
-"$example" <"$folder/set" | cmp - "$folder/wanted"
-answers=$(cut -c 1-7 "$folder/wanted" | cut -d ' ' -f 1 | sort | uniq -c | awk '{ printf ", %s %s", $1, $2 }')
-echo "rust: $(wc -l <"$folder/set") lines: the same bytes$answers"
-linkstate=$(program linkstate)
-if [ -n "$linkstate" ]; then
-    "$linkstate" <"$folder/set" >"$folder/wanted"
-    "$example" state <"$folder/set" | cmp - "$folder/wanted"
-    echo "rust: by the state encoding: the same bytes, $(grep -c '^ok ' "$folder/wanted") states"
-else
-    lacks 'by the state encoding: the program linkstate is not built'
-fi
+python3 "$top/scripts/test/damaged.py" --write "$folder/set" 100000
+for it in linkwire: linkstate:state; do
+    program=$(program "${it%:*}")
+    [ -n "$program" ] || { lacks "lines as ${it%:*} answers them: it is not built" && continue; }
+    "$program" <"$folder/set" >"$folder/wanted"
+    # shellcheck disable=SC2086
+    "$example" ${it#*:} <"$folder/set" | cmp - "$folder/wanted"
+    answers=$(cut -c 1-7 "$folder/wanted" | cut -d ' ' -f 1 | sort | uniq -c | awk '{ printf ", %s %s", $1, $2 }')
+    echo "rust: $(wc -l <"$folder/set") lines, as ${it%:*} answers them: the same bytes$answers"
+done
 LINKWIRE_LINES=$folder/set runs cargo test --locked --release --test stored lines -- --nocapture
 echo "rust: the calls agree on $(sed -nE 's/^(test .* [.]{3} )?([0-9]+ messages).*/\2/p' "$folder/log")"

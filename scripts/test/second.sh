@@ -28,8 +28,6 @@ if [ "$set" = all ]; then
         checks "$it" "${words[@]}" >"$folder/told" || { cat "$folder/told"; exit 1; }
         head -n 1 "$folder/told"
     done
-fi
-if [ "$set" = all ]; then
     "${CC:-cc}" -std=gnu11 -O2 -Wall -Wextra -Werror -o "$folder/lists" tests/second/lists.c
     "$folder/lists" made 20000 >"$folder/made"
     "$folder/lines" mixed >"$folder/mixed"

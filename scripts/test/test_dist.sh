@@ -6,7 +6,6 @@
 . "$(dirname "$0")/../common.sh"
 mkdir -p "$folder/bin" "$folder/rt" "$folder/c" "$folder/headers"
 copies_tree "$folder/tree"
-cd "$folder/tree"
 PATH=$folder/bin:$PATH
 arch=$(cc -dumpmachine | sed 's/-.*//')
 text=dist/$arch/linkwire.s

@@ -5,16 +5,10 @@ self=progress
 mkdir -p "$folder/bin" "$folder/crates/"{low,mid,top}
 cp -r "$top/scripts" "$folder"
 printf 'low: std\nmid: low\nmid_not: low\ntop staticlib: mid low\n' >"$folder/crates.txt"
-cat >"$folder/bin/rt" <<'END'
-#!/bin/sh
-echo "said by $PWD $*"
-case $PWD/$STAND_IN in
-*/mid/waits) echo "$$" >pid && exec sleep 60 ;;
-*/top/fails) exit 1 ;;
-esac
-[ "$1" != lib ] || { mkdir -p out/rlib && touch out/rlib/stamp; }
-END
-chmod +x "$folder/bin/rt"
+# shellcheck disable=SC2016
+script "$folder/bin/rt" 'echo "said by $PWD $*"' 'case $PWD/$STAND_IN in' \
+    '*/mid/waits) echo "$$" >pid && exec sleep 60 ;;' '*/top/fails) exit 1 ;;' 'esac' \
+    '[ "$1" != lib ] || { mkdir -p out/rlib && touch out/rlib/stamp; }'
 
 # proves NAME STATUS TEXT STAND_IN: what a run has to print, without seconds and what is in its log
 proves() {
