@@ -31,6 +31,13 @@ tries() {
     "$@" >"$folder/out" 2>"$folder/err" || status=$?
 }
 
+# leaves STATUS OUTPUT ERRORS COMMAND..: it ends so, and that is all that it says
+leaves() {
+    tries "${@:4}"
+    { [ "$status" = "$1" ] && [ "$(cat "$folder/out")" = "$2" ] && [ "$(cat "$folder/err")" = "$3" ]; } ||
+        fails "${*:4}: status $status, and not: $1, '${2:0:300}', '${3:0:300}'"
+}
+
 # fails_with TEXT COMMAND..: it fails, and says that
 fails_with() {
     tries "${@:2}"
@@ -194,6 +201,11 @@ tests_c() {
             runs "${@:4}" "$folder/c" </dev/null
         fi
     done
+}
+
+# reads_no_captures COMMAND..: a linkdump that is built without libpcap says so
+reads_no_captures() {
+    leaves 1 '' 'linkdump: x: this linkdump is built without libpcap, and reads no captures' "$@" --read x
 }
 
 # makes_linkdump: compiles $folder/linkdump, without captures

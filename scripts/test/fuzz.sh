@@ -17,9 +17,8 @@ fuzzes() {
     local name=$1 found runs edges
     rm -rf "out/fuzz/$name"
     mkdir -p "out/fuzz/$name"
-    timeout -s INT "$((seconds + 120))" afl-fuzz -V "$seconds" -m none -t 2000+ -i "$folder/$name" \
-        -o "out/fuzz/$name" -- "${@:2}" >"$folder/log" 2>&1 ||
-        { tail -n 20 "$folder/log" >&2; fails "$name: afl-fuzz fails"; }
+    runs timeout -s INT "$((seconds + 120))" afl-fuzz -V "$seconds" -m none -t 2000+ -i "$folder/$name" \
+        -o "out/fuzz/$name" -- "${@:2}"
     local stats=out/fuzz/$name/default/fuzzer_stats
     runs=$(sed -n 's/^execs_done *: //p' "$stats")
     edges=$(sed -n 's/^edges_found *: //p' "$stats")

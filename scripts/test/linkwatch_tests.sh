@@ -1,9 +1,6 @@
 #!/usr/bin/env bash
-# Tests the command linkwatch: linkwatch_tests.sh [FOLDER], where the shared library and the programs are, else out/. It
-# runs mypy --strict, the tables of tests/linkwatch for each Python from 3.9 to 3.13 that is here, the command in pipes
-# and at a pseudo terminal, and, in a network namespace, what is shown live. What lacks is 'skipped'. The last line is
-# 'linkwatch passed'.
-self=linkwatch
+# Tests the command linkwatch: linkwatch_tests.sh [FOLDER], where the shared library and the programs are, else out/.
+# What lacks is 'skipped'. The last line is 'linkwatch passed'.
 . "$(dirname "$0")/../common.sh"
 cd "$top"
 programs=$(realpath "${1:-out}")

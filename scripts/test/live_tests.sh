@@ -5,7 +5,7 @@
 
 # tells FAULT MESSAGE: the example prints nothing else, and fails
 tells() {
-    { ! with "$1" "$folder/manager" >"$folder/out" && [ ! -s "$folder/out" ] &&
+    { ! with "$1" "$manager" >"$folder/out" && [ ! -s "$folder/out" ] &&
         grep -qx "manager: $2" "$folder/err"; } || fails "manager does not tell: $1"
 }
 
@@ -13,14 +13,14 @@ tells() {
 meets_faults() {
     preloads live/kernel_faults -Wpedantic
     local fault
-    "$folder/manager" >"$folder/links"
+    "$manager" >"$folder/links"
     for fault in 'ran over' interrupted; do
-        { with "$fault" "$folder/manager" >"$folder/out" && cmp -s "$folder/out" "$folder/links" && asked 2; } ||
+        { with "$fault" "$manager" >"$folder/out" && cmp -s "$folder/out" "$folder/links" && asked 2; } ||
             fails "manager does not ask again: $fault"
     done
     tells error 'Operation not permitted'
     tells 'short error' 'Bad message'
-    { with refused "$folder/manager" >"$folder/out" &&
+    { with refused "$manager" >"$folder/out" &&
         [ "$(wc -l <"$folder/out")" = $(($(wc -l <"$folder/links") - 1)) ] &&
         grep -qx 'manager: a message is refused: an attribute shorter than its header' "$folder/err"; } ||
         fails 'manager does not tell that a message is refused'
@@ -82,8 +82,10 @@ manages() {
     echo "live: manager: makes$made, sets, and tells what the kernel says"
 }
 
+manager=$folder/manager
+# a program with a sanitizer does not look whether that was loaded first: what is preloaded is
+export ASAN_OPTIONS=verify_asan_link_order=0
 if [ -n "$inside" ]; then
-    manager=$1
     ip link add veth0 type veth peer name port0 2>/dev/null || lacks 'the kernel knows no veth'
     ip link add bridge0 type bridge 2>/dev/null || lacks 'the kernel knows no bridge'
     meets_faults
@@ -91,17 +93,13 @@ if [ -n "$inside" ]; then
     manages
     exit 0
 fi
-library=$1
-manager=$folder/manager
 echo '#include <libmnl/libmnl.h>' | ${CC:-cc} -E - >/dev/null 2>&1 || skips 'manager: no libmnl'
-flags=(-std=c11 -D_GNU_SOURCE -O1 -Wall -Wextra -Wpedantic -Wconversion -Wshadow -Werror -I"$top/include")
-${CC:-cc} "${flags[@]}" -o "$folder/manager" "$top/examples/c/manager.c" "$library" -lmnl
-if ${CC:-cc} "${flags[@]}" "${sanitizers[@]}" -o "$folder/sanitized" "$top/examples/c/manager.c" "$library" -lmnl \
-    2>"$folder/err"; then
-    manager=$folder/sanitized
-else
-    lacks 'manager with sanitizers'
-fi
+# compiles LIBRARY FLAG..
+compiles() {
+    ${CC:-cc} -std=c11 -D_GNU_SOURCE -O1 -Wall -Wextra -Wpedantic -Wconversion -Wshadow -Werror -I"$top/include" \
+        "${@:2}" -o "$manager" "$top/examples/c/manager.c" "$1" -lmnl
+}
+compiles "$1" "${sanitizers[@]}" 2>/dev/null || { lacks 'manager with sanitizers' && compiles "$1"; }
 makes_linkdump
 needs_netlink "$folder/linkdump"
-goes_inside "$manager"
+goes_inside "$@"

@@ -1,7 +1,6 @@
 #!/usr/bin/env bash
 # Tests the package in python/: python_tests.sh [FOLDER], where the shared library and the programs are, else out/.
 # What lacks is 'skipped'. The last line is 'python passed'.
-self=python
 . "$(dirname "$0")/../common.sh"
 cd "$top"
 programs=$(realpath "${1:-out}")

@@ -16,8 +16,8 @@ packed() {
 }
 
 needs cargo
+cp -r "$top/rust" "$top/bench" "$folder"
 if packed netlink-packet-core netlink-proto netlink-sys tokio tokio-macros futures libc; then
-    cp -r "$top/rust" "$folder/rust"
     cd "$folder/rust/netlink"
     runs "${debian[@]}" build --examples
     runs "${debian[@]}" test --doc
@@ -37,8 +37,6 @@ if packed netlink-packet-core netlink-proto netlink-sys tokio tokio-macros futur
     fi
 fi
 if packed serde serde_derive serde_json; then
-    [ -d "$folder/rust" ] || cp -r "$top/rust" "$folder/rust"
-    cp -r "$top/bench" "$folder/bench"
     cd "$folder/rust/serde"
     runs "${debian[@]}" build # by itself: for the tests another crate asks serde for its std
     runs "${debian[@]}" test --tests

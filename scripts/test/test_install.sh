@@ -10,22 +10,19 @@ cd "$folder"
 cp "$top/tests/install.c" .
 read -ra flags <<< "$(pkg-config --cflags --libs linkwire)"
 version=$(pkg-config --modversion linkwire)
-# expect WANTED COMMAND..: runs a program, and compares what it prints
-expect() {
-    "${@:2}" | diff - <(echo "$1") >&2 || fails "${*:2} prints something else"
-}
 ${CC:-cc} -o shared install.c "${flags[@]}"
 readelf -d shared | grep -q 'NEEDED.*\[liblinkwire\.so\.0\]'
-LD_LIBRARY_PATH=$prefix/lib expect "lo 1500 $version" ./shared
+LD_LIBRARY_PATH=$prefix/lib leaves 0 "lo 1500 $version" '' ./shared
 ${CC:-cc} -static -o static install.c "${flags[@]}"
-expect "lo 1500 $version" ./static
-expect 'ok 00000000000000000000000000000000070003006c6f0000' \
+leaves 0 "lo 1500 $version" '' ./static
+leaves 0 'ok 00000000000000000000000000000000070003006c6f0000' '' \
     "$prefix/bin/linkwire" <<< 00000000000000000000000000000000060003006c6f
-expect nothex "$prefix/bin/linkstate" <<< 0
-expect '{"fault":"not-hex"}' "$prefix/bin/linkshow" <<< 0
-expect '{"fault":"not-hex"}' "$prefix/bin/linkdiff" <<< 0
+leaves 0 nothex '' "$prefix/bin/linkstate" <<< 0
+for name in linkshow linkdiff; do
+    leaves 0 '{"fault":"not-hex"}' '' "$prefix/bin/$name" <<< 0
+done
 for name in linkdump linkstate linkshow linkdiff; do
-    expect "$name $version" "$prefix/bin/$name" --version
+    leaves 0 "$name $version" '' "$prefix/bin/$name" --version
 done
 
 for page in "$prefix"/share/man/man[13]/link*.[13]; do

@@ -2,6 +2,7 @@
 # Looks that what holds the programs without `rt` tells of slips: of a row that is changed in the second reader's
 # tables, of answers and stored sums that are changed, and of wrong programs: test_second.sh FOLDER, where the programs
 # are.
+# shellcheck disable=SC2016
 . "$(dirname "$0")/../common.sh"
 cd "$top"
 programs=$(realpath "$1")
@@ -26,23 +27,21 @@ slip link_headline/specs/StateRows.antt '(35, Clear)' '(36, Clear)'
 slip link_headline/specs/StateRows.antt 'ClearPart 4 12' 'ClearPart 4 8'
 slip link_vals/specs/LinkLayerTypeTable.antt 'layer_type_number Can = 280' 'layer_type_number Can = 279'
 
-# differs TEXT: the answers in $folder/answers are told to be others than the stored ones, in a line with that
+# differs TEXT COMMAND..: answers that the command changes are told to be others than stored, in a line with that
 differs() {
+    "${@:2}" <"$folder/right" >"$folder/answers"
     fails_with "$1" "$folder/lines" all compare linkwire "$folder/stored" <"$folder/answers"
 }
 cp tests/second/stored.txt "$folder/stored"
 "$programs/linkwire" <"$folder/all" >"$folder/right"
-awk 'NR < 5000 || is_done { print; next }
+# an answer in the place of another
+differs 'linkwire: place 0 ' awk 'NR < 5000 || is_done { print; next }
     held ~ /^ok/ && /^ok/ && $0 != held { print; print held; is_done = 1; next }
-    { if (held != "") print held; held = $0 }' "$folder/right" >"$folder/answers"
-differs 'linkwire: place 0 ' # an answer in the place of another
-awk 'NR >= 200000 && /^ok/ && !count++ { print "refused"; next } { print }' "$folder/right" >"$folder/answers"
-differs "'refused': stored are"
-sed '$d' "$folder/right" >"$folder/answers"
-differs 'fewer answers than lines'
-cp "$folder/right" "$folder/answers"
+    { if (held != "") print held; held = $0 }'
+differs "'refused': stored are" awk 'NR >= 200000 && /^ok/ && !count++ { print "refused"; next } { print }'
+differs 'fewer answers than lines' sed '$d'
 sed -i 's/^linkwire 40 ok .*$/linkwire 40 ok 1 00000000/' "$folder/stored"
-differs 'linkwire: place 40 '
+differs 'linkwire: place 40 ' cat
 echo 'second: answers that are changed: each is told'
 
 python3 tests/second/laws.py --slips "$programs"

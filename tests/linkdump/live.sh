@@ -9,10 +9,7 @@ export ASAN_OPTIONS=${ASAN_OPTIONS:-verify_asan_link_order=0}
 
 # wants STATUS OUTPUT ERRORS WORD..: what linkdump with these words has to leave
 wants() {
-    tries timeout 20 "$linkdump" "${@:4}"
-    if [ "$status" != "$1" ] || [ "$(cat "$folder/out")" != "$2" ] || [ "$(cat "$folder/err")" != "$3" ]; then
-        fails "${*:4}: status $status, and not: $1, '$2', '$3'"
-    fi
+    leaves "${@:1:3}" timeout 20 "$linkdump" "${@:4}"
 }
 
 # tells FAULT MESSAGE: it writes nothing else, and fails
