@@ -35,7 +35,7 @@ tries() {
 leaves() {
     tries "${@:4}"
     { [ "$status" = "$1" ] && [ "$(cat "$folder/out")" = "$2" ] && [ "$(cat "$folder/err")" = "$3" ]; } ||
-        fails "${*:4}: status $status, and not: $1, '${2:0:300}', '${3:0:300}'"
+        fails "${*:4}: status $status, and not: $1, '${2:0:100}', '${3:0:100}'"
 }
 
 # fails_with TEXT COMMAND..: it fails, and says that

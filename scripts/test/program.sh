@@ -10,7 +10,7 @@ program=$(program "$name")
 
 # gives NAME STATUS OUTPUT ERRORS COMMAND..: what a command has to leave
 gives() {
-    leaves "${@:2}"
+    self="$name: $1" leaves "${@:2}"
     echo "$name: $1: ok"
 }
 
