@@ -38,6 +38,12 @@ leaves() {
         fails "${*:4}: status $status, and not: $1, '${2:0:100}', '${3:0:100}'"
 }
 
+# stored FILE STEP PLACE COMMAND..: it answers to the first of each STEP lines of a file of tests/ with the one at PLACE
+stored() {
+    grep -v '^#' "$top/tests/$1" >"$folder/stored"
+    leaves 0 "$(sed -n "$3~$2p" "$folder/stored")" '' "${@:4}" < <(sed -n "1~$2p" "$folder/stored")
+}
+
 # fails_with TEXT COMMAND..: it fails, and says that
 fails_with() {
     tries "${@:2}"

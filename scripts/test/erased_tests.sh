@@ -21,10 +21,5 @@ for run in linkshow-whole:all linkshow-whole:more linkshow-whole:mixed linkshow-
     "$folder/lines" "$set" | "$programs/${what%%-*}" |
         "$folder/lines" "$set" compare "$what" tests/second/held.txt || fails "$what: rustc makes another one of it"
 done
-rows=()
-reads rows program/lenient.txt
-for run in linkshow:2 linkstate:3; do
-    printf '%s\n' "${rows[@]}" | sed -n '1~3p' | "$programs/${run%:*}" --lenient |
-        cmp -s - <(printf '%s\n' "${rows[@]}" | sed -n "${run#*:}~3p") ||
-        fails "${run%:*} --lenient: other answers than in tests/program/lenient.txt"
-done
+stored program/lenient.txt 3 2 "$programs/linkshow" --lenient
+stored program/lenient.txt 3 3 "$programs/linkstate" --lenient

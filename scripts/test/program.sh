@@ -8,22 +8,21 @@ name=$self
 program=$(program "$name")
 [ -n "$program" ] || fails 'it is not built'
 
-# gives NAME STATUS OUTPUT ERRORS COMMAND..: what a command has to leave
-gives() {
-    self="$name: $1" leaves "${@:2}"
+# looks NAME COMMAND..
+looks() {
+    self="$name: $1" "${@:2}"
     echo "$name: $1: ok"
 }
 
-# refuses NAME WORD..: a run with these words ends with status 2, no output and one line
+# refuses WORD..: a run with these words ends with status 2, no output and one line
 refuses() {
-    tries "$program" "${@:2}" </dev/null
-    [ "$status $(wc -l <"$folder/err") $(cat "$folder/out")" = '2 1 ' ] || fails "$1: status $status"
-    echo "$name: $1: ok"
+    tries "$program" "$@" </dev/null
+    [ "$status $(wc -l <"$folder/err") $(cat "$folder/out")" = '2 1 ' ] || fails "status $status"
 }
 
 # shellcheck disable=SC2016
-gives 'a closed output' 1 '' "$name: write failed" sh -c 'echo 0 | "$0" >&-' "$program"
-gives -h 0 "$("$program" --help)" '' "$program" -h </dev/null
+looks 'a closed output' leaves 1 '' "$name: write failed" sh -c 'echo 0 | "$0" >&-' "$program"
+looks -h leaves 0 "$("$program" --help)" '' "$program" -h </dev/null
 
 # link FAMILY INDEX ATTRIBUTES: a message of e0, the first two a byte in hexadecimal each
 link() {
@@ -32,7 +31,8 @@ link() {
 
 # holds WHAT ANSWERS: the lines of $folder/lines have so many answers, and want no more memory than a few of them
 holds() {
-    status=0; (ulimit -v 16000; exec "$program" <"$folder/lines" >"$folder/out" 2>"$folder/err") || status=$?
+    # shellcheck disable=SC2016
+    tries bash -c 'ulimit -v 16000; exec "$0"' "$program" <"$folder/lines"
     [ "$status $(wc -l <"$folder/out") $(cat "$folder/err")" = "0 $2 " ] ||
         fails "$1: status $status, $(wc -l <"$folder/out") answers"
     echo "$name: $1, in 16 MB: ok"
@@ -44,18 +44,13 @@ done >"$folder/few"
 yes "$(cat "$folder/few")" | head -n 100000 >"$folder/lines" || true # yes ends by SIGPIPE
 holds '100,000 lines of three interfaces' 100000
 
-# stored WHAT FILE STEP PLACE WORD..: the first of each STEP lines of a file of tests/ is answered by the one at PLACE
-stored() {
-    grep -v '^#' "$top/tests/$2" >"$folder/lines"
-    gives "$1" 0 "$(sed -n "$4~$3p" "$folder/lines")" '' "$program" "${@:5}" < <(sed -n "1~$3p" "$folder/lines")
-}
 case $name in
-linkwire) stored 'captures of kernels' captures.txt 2 2 ;;
-linkstate) stored --lenient program/lenient.txt 3 3 --lenient ;;
+linkwire) looks 'captures of kernels' stored captures.txt 2 2 "$program" ;;
+linkstate) looks --lenient stored program/lenient.txt 3 3 "$program" --lenient ;;
 linkshow)
-    stored --lenient program/lenient.txt 3 2 --lenient
+    looks --lenient stored program/lenient.txt 3 2 "$program" --lenient
     for release in '' $'6\n' $'\xff'; do
-        refuses "the release ${release@Q}" --kernel "$release"
+        looks "the release ${release@Q}" refuses --kernel "$release"
     done
     ;;
 linkdiff) # streams.sh and laws.py of tests/second, and tests/linkdiff/cases.py have the rest
@@ -72,11 +67,11 @@ linkdiff) # streams.sh and laws.py of tests/second, and tests/linkdiff/cases.py 
     link 00 03 >"$folder/new"
     told='{"change":"new","ifi-family":0,"ifi-index":3,"ifname":"e0"}
 {"change":"gone","ifi-family":0,"ifi-index":2,"ifname":"e0"}'
-    gives 'the first of two files is standard input' 0 "$told" '' "$program" - "$folder/new" <"$folder/old"
-    gives 'the second of two files is standard input' 0 "$told" '' "$program" "$folder/old" - <"$folder/new"
+    looks 'the first of two files is standard input' leaves 0 "$told" '' "$program" - "$folder/new" <"$folder/old"
+    looks 'the second of two files is standard input' leaves 0 "$told" '' "$program" "$folder/old" - <"$folder/new"
     ;;
 esac
-[ "$name" = linkwire ] || refuses 'an argument of no letters' ''
+[ "$name" = linkwire ] || looks 'an argument of no letters' refuses ''
 
 # each line is answered before the next is given
 coproc RUN { "$program"; }

@@ -6,7 +6,8 @@
 # compares linkwire, linkstate and linkshow alone. JOBS is how many processes it takes.
 . "$(dirname "$0")/../common.sh"
 cd "$top"
-programs=$1 library=${2:-} set=${3:-all} words=()
+programs=$1 library=${2:-} set=${3:-all} words=() streams=4000 pairs=20000
+[ "$set" = all ] || streams=100000 pairs=200000
 python3 tests/second/check.py --places | cmp - tests/second/places.txt ||
     fails "the tables changed: make tests/second/places.txt and stored.txt anew, as tests/second/README.md says"
 makes_lines "${library:--DLINES_ALONE}"
@@ -40,6 +41,6 @@ if [ "$set" = all ]; then
     done
 fi
 if [ -n "$library" ]; then
-    python3 tests/second/laws.py --streams "$([ "$set" = all ] && echo 4000 || echo 100000)" "$programs"
-    python3 tests/second/keyed.py --pairs "$([ "$set" = all ] && echo 20000 || echo 200000)" "$programs"
+    python3 tests/second/laws.py --streams "$streams" "$programs"
+    python3 tests/second/keyed.py --pairs "$pairs" "$programs"
 fi
