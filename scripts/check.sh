@@ -65,7 +65,7 @@ programs() {
     python3 scripts/test/kernel_truth.py --live "$linkshow" out/linkdump
     scripts/test/rust_tests.sh
     stage processors.sh scripts/test/processors.sh
-    stage compilers.sh scripts/test/compilers.sh out
+    stage compilers.sh scripts/test/compilers.sh
     scripts/test/parallel_hosts.sh
     scripts/test/test_progress.sh
     scripts/test/refused_memory.sh
