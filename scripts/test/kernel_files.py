@@ -1,6 +1,7 @@
 """What the kernel's files say, for kernel_tables.py: its headers, rt_link.yaml, and code that writes and reads rows."""
 
 import functools
+import glob
 import os
 import re
 import subprocess
@@ -16,6 +17,7 @@ except ImportError:
 from kernel_names import LEFT_OUT, PLACES, VALUES, VALUES_LEFT_OUT
 from kernel_ours import Field, width
 
+INCLUDE = "/usr/include"
 YAML_FILES = ["Documentation/netlink/specs/rt_link.yaml", "Documentation/netlink/specs/rt-link.yaml"]
 # the last five are not installed with the others
 HEADERS = ["include/uapi/linux/%s.h" % name for name in
@@ -127,18 +129,17 @@ class Kernel:
 
     def __init__(self, path):
         with tempfile.TemporaryDirectory() as folder:
-            if os.path.isfile(path):
+            if os.path.isfile(path) and not path.endswith(".yaml"):
                 unpack(path, folder)
                 path = folder
-            texts = {name: Path(path, name).read_text("utf-8") for name in [*YAML_FILES, *HEADERS, *sorted(CODE)]
-                     if Path(path, name).is_file()}
-        self.yaml = next((texts[name] for name in YAML_FILES if name in texts), None)
-        if self.yaml and not yaml:
-            sys.exit("kernel_tables: the kernel's files are there, and no python3-yaml to read rt_link.yaml")
-        spec = yaml.safe_load(self.yaml) if self.yaml else {}
-        self.headers = Headers({re.sub(r".*/(linux|net)/", "", name): text for name, text in texts.items()
-                                if name in HEADERS})
-        self.code = {name: text for name, text in texts.items() if name in CODE}
+            files = [os.path.join(path, name) for name in YAML_FILES] if os.path.isdir(path) else [path]
+            self.yaml = next(filter(os.path.isfile, files), None)
+            if self.yaml and not yaml:
+                sys.exit("kernel_tables: the kernel's files are there, and no python3-yaml to read rt_link.yaml")
+            spec = yaml.safe_load(Path(self.yaml).read_text("utf-8")) if self.yaml else {}
+            self.headers = Headers(self.header_texts(path))
+            self.code = {name: Path(path, name).read_text("utf-8") for name in sorted(CODE)
+                         if Path(path, name).is_file()}
         self.lists, self.structs, self.sets = {}, {}, {}
         for it in spec.get("definitions", []):
             self.define(it)
@@ -151,6 +152,15 @@ class Kernel:
                 attribute = {"name": word, "type": kind, "nested-attributes": " ".join(nested), "left out": True}
                 self.sets.setdefault(name, {}).setdefault(n, attribute)
         self.lists.update(VALUES_LEFT_OUT)
+
+    @staticmethod
+    def header_texts(root):
+        files = [os.path.join(root, name) for name in HEADERS]
+        if not any(map(os.path.isfile, files)):
+            files = [name.replace("include/uapi", INCLUDE) for name in HEADERS]
+            files += glob.glob(INCLUDE + "/bits/socket.h") + glob.glob(INCLUDE + "/*/bits/socket.h")
+        return {re.sub(r".*/(linux|net|bits)/", "", name): Path(name).read_text("utf-8")
+                for name in files if os.path.isfile(name)}
 
     @functools.cache
     def of_code(self, names):
