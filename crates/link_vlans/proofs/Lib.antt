@@ -1,0 +1,4 @@
+pub mod Say
+pub mod Cuts
+pub mod Rest
+pub mod Silent
