@@ -40,13 +40,19 @@ use Rattle.frame_diff.specs.Members.{fields, fields_kept, form_inside, frame_mem
 use Rattle.frame_diff.specs.Members.{are_plain, ipv6_inside, values_inside}
 use Rattle.frame_diff.specs.Members.{is_some}
 use Rattle.frame_diff.specs.Members.{kept_by, kept_in, list_at, list_members, meaning_inside, members_in}
-use Rattle.frame_diff.specs.Members.{message_forest, message_members, named, named_by, named_in, placed, placed_one}
+use Rattle.frame_diff.specs.Members.{message_members, named, named_by, named_in, placed, placed_one}
 use Rattle.frame_diff.specs.Members.{Parts, places, reading, refused_in, refused_step, unless_none, way_inside}
 use Rattle.frame_diff.specs.Members.{kept_inside, kept_with, others_at, list_by}
 use Rattle.frame_diff.specs.declared.keys.Key.{Key}
 use Rattle.frame_diff.specs.declared.labels.Label.{Label}
 use Rattle.frame_diff.specs.declared.keys.Key.TheVariants as Keys
 use Rattle.frame_shown.specs.Items.{Lists}
+use Rattle.link_info.specs.declared.place.Place.TheVariants as Places
+use Rattle.link_vlans.specs.Runs.{are_apart, runs_in}
+use Rattle.link_vlans.specs.declared.run.Run.{Run}
+use Rattle.link_vlans.proofs.Say.{runs_apart as runs_are_apart}
+use Rattle.frame_diff.specs.Forests.{runs_inside}
+use Rattle.frame_diff.specs.Members.{message_made, runs_by, runs_or, unless_empty}
 
 -- ** those of a list of members
 
@@ -65,6 +71,15 @@ find_none s (m ∷ ms) none = by (is_step m.0 s) refl none (comes m.0 ms) (find_
     by false is h true later = later h
     by false is h false later = ap (λ b. cond b (Some (m.1.0, m.1.1)) (find s (forest ms))) is ∙ later h
 
+pub no_runs : (ms : List Member) → runs_inside (forest ms) ≡ []
+no_runs [] = refl
+no_runs (m ∷ ms) = by (comes m.0 ms) (no_runs ms)
+  where
+    by : (c : Bool) → runs_inside (forest ms) ≡ []
+        → runs_inside (cond c (forest ms) (Forest.tree m.0 m.1.0 m.1.1 (forest ms))) ≡ []
+    by true later = later
+    by false later = refl
+
 pub forest_apart : (ms : List Member) → AllApart ms → AreApart (forest ms)
 forest_apart [] h = tt
 forest_apart (m ∷ ms) h = by (comes m.0 ms) refl (forest_apart ms h.1)
@@ -72,7 +87,7 @@ forest_apart (m ∷ ms) h = by (comes m.0 ms) refl (forest_apart ms h.1)
     by : (c : Bool) → comes m.0 ms ≡ c → AreApart (forest ms)
         → AreApart (cond c (forest ms) (Forest.tree m.0 m.1.0 m.1.1 (forest ms)))
     by true is later = later
-    by false is later = (find_none m.0 ms is, h.0, later)
+    by false is later = (find_none m.0 ms is, h.0, later, no_runs ms)
 
 append_apart : (xs ys : List Member) → AllApart xs → AllApart ys → AllApart (xs ++ ys)
 append_apart [] ys h k = k
@@ -130,6 +145,7 @@ places_apart hs h = forest_apart (placed 0 hs) (placed_apart 0 hs h)
 unless_apart : (s : Step) (value : List Token) (f : Forest) → AreApart f → AllApart (unless_none s value f)
 unless_apart s value Forest.none h = tt
 unless_apart s value Forest.passed h = tt
+unless_apart s value (Forest.vlans runs) h = tt
 unless_apart s value (Forest.tree a b c d) h = (h, tt)
 
 labelled_apart : (key : Key) (ls : List Label) (hs : List (Option Held)) → HeldApart hs
@@ -235,7 +251,7 @@ named_in_apart r list fs h = each_apart (frame_member r list) fs
     (λ f. named_by_apart r (action_in r.is_state list (number f)) (row_in r.around list (number f)) f h)
 
 alone_apart : (s : Step) (held : Held) → AreApart held.1 → HeldApart (alone (s, held) ∷ [])
-alone_apart (Step.name name) held h = ((refl, h, tt), tt)
+alone_apart (Step.name name) held h = ((refl, h, tt, refl), tt)
 alone_apart (Step.array name) held h = tt
 alone_apart (Step.part sort text) held h = tt
 alone_apart (Step.place n) held h = tt
@@ -293,12 +309,32 @@ array_apart : (name : List ℕ) (hs : List (Option Held)) (inside : Forest) → 
 array_apart name [] inside h = tt
 array_apart name (x ∷ hs) inside h = (inside_apart (x ∷ hs) inside h, tt)
 
+some_are : (runs : Option (List Run)) (rs : List Run) → unless_empty runs ≡ Some rs → runs ≡ Some rs
+some_are None rs is = absurd cc
+some_are (Some []) rs is = absurd cc
+some_are (Some (r ∷ rs)) ss is = is
+
+pub runs_apart : (picks : Option ℕ) (list : Shape) (fs : List Frame) (rs : List Run)
+    → runs_by picks list fs ≡ Some rs → are_apart None rs ≡ true
+runs_apart (Some n) (Shapes.Of Places.BridgeSpec) fs rs is =
+    runs_are_apart n fs rs (some_are (runs_in n fs) rs is)
+runs_apart _ _ fs rs is = absurd cc
+
+runs_or_apart : (runs : Option (List Run)) (inside : Forest)
+    → ((rs : List Run) → runs ≡ Some rs → are_apart None rs ≡ true) → AreApart inside
+    → AreApart (runs_or runs inside)
+runs_or_apart None inside apart h = h
+runs_or_apart (Some rs) inside apart h = apart rs refl
+
 inside_with_apart : (r : Reading) (list : Shape) (n : ℕ) (fs : List Frame) → InnerApart r.inner
     → AreApart (inside_with r list n fs)
 inside_with_apart r list n fs h =
     let key = key_at (Some n) list in
-    each_apart_inside key (numbers_by (number_in r.around key list) (value_with r list n) fs) (values_with r list n fs)
-    (each_held (value_with r list n) fs (value_with_apart r list n h))
+    runs_or_apart (runs_by (Some n) list fs)
+    (inside_of key (numbers_by (number_in r.around key list) (value_with r list n) fs) (values_with r list n fs))
+    (runs_apart (Some n) list fs)
+    (each_apart_inside key (numbers_by (number_in r.around key list) (value_with r list n) fs) (values_with r list n fs)
+    (each_held (value_with r list n) fs (value_with_apart r list n h)))
 
 arrays_apart : (r : Reading) (list : Shape) (lists : Lists) (fs : List Frame) → InnerApart r.inner
     → AllApart (arrays_of r list lists fs)
@@ -374,9 +410,9 @@ refused_apart is_state cx bytes =
     unless_apart refused_step (levels 1 cx Shapes.Refused bytes) ((reading 1 is_state cx).inner Shapes.Refused bytes)
     (reading_apart 1 is_state cx Shapes.Refused bytes)
 
-pub message_apart : (is_state : Bool) (cx : Around) (m : Parts) → AreApart (message_forest is_state cx m)
+pub made_apart : (is_state : Bool) (cx : Around) (m : Parts) → AreApart (message_made is_state cx m)
 unfolding message_members
-message_apart is_state cx m =
+made_apart is_state cx m =
     let family = slice_index m.header 0 in
     let fs = frames_in (items m.attributes) in
     let around = with_address_len cx (address_len fs) in

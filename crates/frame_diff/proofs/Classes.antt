@@ -12,7 +12,7 @@ use Rattle.frame_shown.specs.declared.form.List.TheVariants as Shapes
 use Rattle.frame_diff.specs.Forests.{Forest, Held, Member, Step, comes, field_step, find}
 use Rattle.frame_diff.specs.Forests.{forest, is_step, left_of, rest_step, values_step}
 use Rattle.frame_diff.specs.Groups.{is_group}
-use Rattle.frame_diff.specs.Inside.{HoldsNoField, above, has_none, inside_list, is_of_object}
+use Rattle.frame_diff.specs.Inside.{HoldsNoField, HoldsNoRuns, above, has_none, inside_list, is_of_object}
 use Rattle.frame_diff.specs.Items.{items_told}
 use Rattle.frame_diff.specs.Members.{Reading, earlier, group_of, is_some, kept_in, list_at, list_members, arrays_in}
 use Rattle.frame_diff.specs.Members.{arrays_of, members_in, named_in, places, kept_inside, others_at, list_by}
@@ -25,6 +25,8 @@ use Rattle.frame_diff.proofs.Inside.{AreAt, append_at, at_weaker, find_left, for
 use Rattle.frame_diff.proofs.Inside.{left_some}
 use Rattle.frame_diff.proofs.Inside.{left_told, none_at, same_told}
 use Rattle.frame_diff.proofs.Parts.{AreArrays, AreNames, arrays_arrays, named_names}
+use Rattle.frame_diff.specs.Forests.{runs_inside}
+use Rattle.frame_diff.proofs.Apart.{no_runs}
 
 -- ** steps
 
@@ -58,6 +60,7 @@ pub list_steps : (P : Step → Type 0) (s : Step) (hs : List (Option Held)) (ins
     → AreAt P (list_by s hs inside)
 list_steps P s hs Forest.none is = tt
 list_steps P s hs Forest.passed is = tt
+list_steps P s hs (Forest.vlans runs) is = tt
 list_steps P s hs (Forest.tree a b c d) is = (is, tt)
 
 names_of_object : (ms : List Member) → AreNames ms → AreAt IsOfObject ms
@@ -140,6 +143,16 @@ no_field_in r (Shapes.Info link port) fs name =
 pub above_fieldless : (nest : Showing) (inner : Holding) → HoldsNoField (above nest inner)
 above_fieldless nest inner is_state cx list p name =
     no_field_in (reading_at nest inner is_state cx) list (frames_in (items p)) name
+
+pub above_runs : (is_any : Bool) (ms : List Member) → runs_inside (left_of is_any ms) ≡ []
+above_runs true [] = refl
+above_runs false [] = refl
+above_runs is_any (m ∷ ms) = no_runs (m ∷ ms)
+
+pub above_runless : (nest : Showing) (inner : Holding) → HoldsNoRuns (above nest inner)
+above_runless nest inner is_state cx list p =
+    above_runs (is_some (frames_in (items p)))
+    (list_members (reading_at nest inner is_state cx) list (frames_in (items p)))
 
 pub above_apart : (nest : Showing) (inner : Holding) → HoldsApart inner → HoldsApart (above nest inner)
 above_apart nest inner apart is_state cx list p =

@@ -40,7 +40,7 @@ use Rattle.frame_diff.specs.Members.{Reading, entries_in, entry_of, frame_member
 use Rattle.frame_diff.specs.Members.{inside_of, numbers_by, values_with}
 use Rattle.frame_diff.specs.Members.{kept_in, list_members, named_by, named_in, placed, placed_one, places}
 use Rattle.frame_diff.specs.Members.{are_plain, is_nested, value_in, values_inside, kept_inside, others_at, list_by}
-use Rattle.frame_diff.specs.Values.{kept_among, listed_shown, numbers_among}
+use Rattle.frame_diff.specs.Values.{kept_among, kept_at, kept_inside_at, kept_numbers, listed_shown, numbers_among}
 use Rattle.frame_diff.specs.Walked.{Holding, Showing, held_items, reading_at, step_items}
 use Rattle.frame_diff.specs.declared.keys.Key.{Key}
 use Rattle.frame_diff.specs.declared.labels.Label.{Label}
@@ -48,7 +48,7 @@ use Rattle.frame_diff.specs.declared.side.Side.{Side}
 use Rattle.frame_diff.specs.declared.walk.Attribute.{Attribute}
 use Rattle.frame_diff.specs.declared.walk.Attributes.{Attributes}
 use Rattle.frame_diff.specs.declared.keys.Key.TheVariants as Keys
-use Rattle.frame_diff.proofs.Apart.{find_none}
+use Rattle.frame_diff.proofs.Apart.{find_none, no_runs}
 use Rattle.frame_diff.proofs.Classes.{list_steps, none_in_object}
 use Rattle.frame_diff.proofs.Entries.{below, later}
 use Rattle.frame_diff.proofs.Inside.{AreAt, forest_all, forest_some, same_told, same_written}
@@ -57,6 +57,10 @@ use Rattle.frame_diff.proofs.Numbered.{labels_long, numbers_long}
 use Rattle.frame_diff.proofs.Parts.{find_back, list_lacks, list_told}
 use Rattle.frame_diff.proofs.Walked.{last_further}
 use Rattle.frame_diff.proofs.Values.{texts_are, values_agree}
+use Rattle.frame_diff.specs.Forests.{runs_inside}
+use Rattle.link_vlans.specs.declared.run.Run.{Run}
+use Rattle.frame_diff.specs.Groups.{labelled_inside}
+use Rattle.frame_diff.specs.Members.{runs_by, runs_or}
 
 -- ** the values of a list, one attribute further
 
@@ -253,6 +257,11 @@ pub inside_none : (hs : List (Option Held)) (inside : Forest) → are_plain hs �
     → values_inside hs inside ≡ Forest.none
 inside_none hs inside plain = ap (λ b. cond b Forest.none inside) plain
 
+runs_some : (runs : Option (List Run)) (inside : Forest) → has_none inside ≡ false
+    → has_none (runs_or runs inside) ≡ false
+runs_some None inside some = some
+runs_some (Some rs) inside some = refl
+
 -- each value has a number
 pub picked_none : (r : Reading) (picks : Option ℕ) (list : Shape) → picked_values r picks list [] ≡ []
 picked_none r (Some n) list = refl
@@ -277,11 +286,12 @@ module _ (nest : Showing) (inner : Holding) (is_state : Bool) where
       → has_none (group_held nest inner is_state a).1 ≡ are_plain (group_at nest inner is_state a)
   group_plain a =
       inside_plain (group_at nest inner is_state a) (group_inside nest inner is_state a)
+      (λ some. runs_some (runs_by a.number a.list (frames_in (items a.bytes.now))) (labelled_inside nest inner is_state a)
       (inside_some (key_at a.number a.list) (numbers_at nest inner is_state a) (group_at nest inner is_state a)
       (numbers_long (number_in a.around.now (key_at a.number a.list) a.list)
       (picked_by (reading_at nest inner is_state a.around.now) a.number a.list) (frames_in (items a.bytes.now))
       ∙ ap length (picked_flat (reading_at nest inner is_state a.around.now) a.number a.list
-      (frames_in (items a.bytes.now)))))
+      (frames_in (items a.bytes.now)))) some))
 
 -- as one value they are what is shown
 
@@ -515,14 +525,18 @@ module _ (r : Reading) where
 
 -- ** those that are kept beside them
 
+pub kept_runless : (is_state : Bool) (a : Attributes) → runs_inside (kept_inside_at is_state a) ≡ []
+kept_runless is_state a = no_runs (labelled Keys.Number (labels_of (kept_numbers is_state a)) (kept_at is_state a))
+
 pub kept_told : (side : Side) (text : List ℕ) (hs gs : List (Option Held)) (inside other g : Forest)
+    → runs_inside inside ≡ [] → runs_inside other ≡ []
     → find rest_step_now (forest (list_by rest_step_now gs other)) ≡ find rest_step_now g
     → items_told side (joined text (codes "other")) inside other
     ≡ items_told side text (forest (list_by rest_step_now hs inside)) g
-kept_told side text hs gs inside other g same =
+kept_told side text hs gs inside other g none none_too same =
     let all = list_by rest_step_now hs inside in
     let those = list_by rest_step_now gs other in
-    sym (list_told side text rest_step_now hs gs inside other refl)
+    sym (list_told side text rest_step_now hs gs inside other refl none none_too)
     ∙ same_told (λ s. s ≡ rest_step_now) side text (forest all) (forest those) g
     (forest_all (λ s. s ≡ rest_step_now) all (list_steps (λ s. s ≡ rest_step_now) rest_step_now hs inside refl))
     (λ s is. ap (λ t. find t (forest those)) is ∙ same ∙ ap (λ t. find t g) (sym is))

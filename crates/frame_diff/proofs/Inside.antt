@@ -19,12 +19,14 @@ use Rattle.frame_diff.specs.declared.side.Side.{Side}
 use Rattle.frame_diff.proofs.Apart.{find_none}
 use Rattle.frame_diff.proofs.Entries.{below}
 use Rattle.frame_diff.proofs.Steps.{step_is}
+use Rattle.frame_diff.specs.Forests.{AreApart, runs_inside}
 
 -- ** members beside others of which alone their own steps count
 
 abbrev pub AreAll : (Step → Type 0) → Forest → Type 0
 AreAll P Forest.none = Unit {0}
 AreAll P Forest.passed = Unit {0}
+AreAll P (Forest.vlans runs) = runs ≡ []
 AreAll P (Forest.tree s v i rest) = P s × AreAll P rest
 
 abbrev pub AreAt : (Step → Type 0) → List Member → Type 0
@@ -35,6 +37,9 @@ pub same_told : (P : Step → Type 0) (side : Side) (text : List ℕ) (f g h : F
     → ((s : Step) → P s → find s g ≡ find s h) → items_told side text f g ≡ items_told side text f h
 same_told P side text Forest.none g h all same = refl
 same_told P side text Forest.passed g h all same = refl
+same_told P side text (Forest.vlans runs) g h all same =
+    ap (λ rs. items_told side text (Forest.vlans rs) g) all
+    ∙ sym (ap (λ rs. items_told side text (Forest.vlans rs) h) all)
 same_told P side text (Forest.tree s v i rest) g h all same =
     (λ k. step_items side text s (v, i) (same s all.0 k) ++ same_told P side text rest g h all.1 same k)
 
@@ -97,22 +102,26 @@ pub held_leaf : (side : Side) (text : List ℕ) (held : Held) (beside : Option H
     → held_items side text held beside ≡ leaf_items side text held.0 (leaf_in beside)
 held_leaf side text (v, Forest.none) beside none = refl
 held_leaf side text (v, Forest.passed) beside none = absurd cc
+held_leaf side text (v, Forest.vlans runs) beside none = absurd cc
 held_leaf side text (v, Forest.tree a b c d) beside none = absurd cc
 
 pub held_rest : (side : Side) (text : List ℕ) (held : Held) (beside : Option Held) → has_none held.1 ≡ false
     → held_items side text held beside ≡ items_told side text held.1 (inside_in beside)
 held_rest side text (v, Forest.none) beside some = absurd cc
 held_rest side text (v, Forest.passed) beside some = refl
+held_rest side text (v, Forest.vlans runs) beside some = refl
 held_rest side text (v, Forest.tree a b c d) beside some = refl
 
 pub leaf_here : (held : Held) → has_none held.1 ≡ true → Some held.0 ≡ leaf_in (Some held)
 leaf_here (v, Forest.none) none = refl
 leaf_here (v, Forest.passed) none = absurd cc
+leaf_here (v, Forest.vlans runs) none = absurd cc
 leaf_here (v, Forest.tree a b c d) none = absurd cc
 
 pub leaf_not : (held : Held) → has_none held.1 ≡ false → None ≡ leaf_in (Some held)
 leaf_not (v, Forest.none) some = absurd cc
 leaf_not (v, Forest.passed) some = refl
+leaf_not (v, Forest.vlans runs) some = refl
 leaf_not (v, Forest.tree a b c d) some = refl
 
 -- ** fields
@@ -166,13 +175,14 @@ rest_other s t v i rest = by (is_step s t)
     by true h = absurd cc
     by false h = h
 
-pub fieldless_all : (f : Forest) → ((name : List ℕ) → find (field_step name) f ≡ None)
-    → AreAll (λ s. is_field s ≡ false) f
-fieldless_all Forest.none h = tt
-fieldless_all Forest.passed h = tt
-fieldless_all (Forest.tree s v i rest) h = (
+pub fieldless_all : (f : Forest) → AreApart f → runs_inside f ≡ []
+    → ((name : List ℕ) → find (field_step name) f ≡ None) → AreAll (λ s. is_field s ≡ false) f
+fieldless_all Forest.none apart none h = tt
+fieldless_all Forest.passed apart none h = tt
+fieldless_all (Forest.vlans runs) apart none h = none
+fieldless_all (Forest.tree s v i rest) apart none h = (
   first_other s v i rest h,
-  fieldless_all rest (λ name. rest_other s (field_step name) v i rest (h name)),
+  fieldless_all rest apart.2 apart.3 (λ name. rest_other s (field_step name) v i rest (h name)),
 )
 
 field_found : (g h : Forest) → ((name : List ℕ) → find (field_step name) g ≡ find (field_step name) h) → (s : Step)
@@ -192,12 +202,12 @@ pub fields_beside : (side : Side) (text : List ℕ) (ms : Members) (g h : Forest
 fields_beside side text ms g h same =
     same_told (λ s. is_field s ≡ true) side text (fields ms) g h (fields_all ms) (field_found g h same)
 
-pub list_beside : (side : Side) (text : List ℕ) (f g h : Forest)
+pub list_beside : (side : Side) (text : List ℕ) (f g h : Forest) → AreApart f → runs_inside f ≡ []
     → ((name : List ℕ) → find (field_step name) f ≡ None)
     → ((s : Step) → is_field s ≡ false → find s g ≡ find s h)
     → items_told side text f g ≡ items_told side text f h
-list_beside side text f g h none same =
-    same_told (λ s. is_field s ≡ false) side text f g h (fieldless_all f none) same
+list_beside side text f g h apart runs none same =
+    same_told (λ s. is_field s ≡ false) side text f g h (fieldless_all f apart runs none) same
 
 -- ** what is written
 

@@ -2,15 +2,21 @@
 use Rattle.std.proofs.Common.{◌≡◌, ℕ, Bool, true, false, List, [], ◌∷◌, ◌++◌, map, refl, sym, ap, ◌∙◌}
 use Rattle.std.specs.Prelude.{Option, Some, None, cond, ◌&&◌}
 use Rattle.json.specs.Token.{Token}
-use Rattle.frame_diff.specs.Differences.{Change, inside_in, is_shown_same, leaf_change, leaf_in, member_told, told}
-use Rattle.frame_diff.specs.Forests.{AreApart, Forest, Held, Path, Step, find, is_label}
+use Rattle.frame_diff.specs.Differences.{Change, inside_in, is_shown_same, leaf_change, leaf_in}
+use Rattle.frame_diff.specs.Forests.{Forest, Held, Path, Step, find, is_label}
 use Rattle.frame_diff.specs.Items.{change_item, further, is_leaf_untold, items_told, leaf_item, leaf_items}
 use Rattle.frame_diff.specs.Items.{member_items, path_text, text_behind, turned_item}
 use Rattle.frame_diff.specs.Laws.{ItemsAreChanges}
-use Rattle.frame_diff.specs.Wholes.{between, cut, is_alone, wholes}
+use Rattle.frame_diff.specs.Wholes.{cut, is_alone}
 use Rattle.frame_diff.specs.declared.side.Side.{Side}
 use Rattle.frame_diff.specs.declared.side.Side.TheVariants.{Old, New}
-use Rattle.frame_diff.proofs.WholesTold.{told_same}
+use Rattle.std.proofs.Common.{append_assoc}
+use Rattle.std.specs.List.{flat_map}
+use Rattle.link_vlans.specs.Pieces.{pieces_of}
+use Rattle.link_vlans.specs.declared.pieces.Piece.{Piece}
+use Rattle.frame_diff.specs.Forests.{runs_inside}
+use Rattle.frame_diff.specs.Items.{piece_items}
+use Rattle.frame_diff.specs.Ranges.{Told, both_by, member_by, told_by, told_items}
 
 map_joined : {A B : Type 0} (f : A → B) (xs ys : List A) → map f (xs ++ ys) ≡ map f xs ++ map f ys
 map_joined f [] ys = refl
@@ -47,36 +53,52 @@ leaf_told side text v None h = refl
 leaf_told Old text v (Some w) h = ap (λ b. cond b [] (turned_item text v w ∷ [])) h
 leaf_told New text v (Some w) h = absurd cc
 
+ones_are : (cs : List Change) → flat_map told_items (map Told.one cs) ≡ map change_item cs
+ones_are [] = refl
+ones_are (c ∷ cs) = ap (λ os. change_item c ∷ os) (ones_are cs)
+
+pieces_are : (side : Side) (path : Path) (ps : List Piece)
+    → flat_map (piece_items side (path_text path)) ps ≡ flat_map told_items (map (Told.vlans side path) ps)
+pieces_are side path [] = refl
+pieces_are side path (p ∷ ps) = ap (λ os. piece_items side (path_text path) p ++ os) (pieces_are side path ps)
+
+items_joined : (xs ys : List Told) → flat_map told_items (xs ++ ys) ≡ flat_map told_items xs ++ flat_map told_items ys
+items_joined [] ys = refl
+items_joined (x ∷ xs) ys =
+    ap (λ os. told_items x ++ os) (items_joined xs ys)
+    ∙ sym (append_assoc (told_items x) (flat_map told_items xs) (flat_map told_items ys))
+
 -- of a member, if it is told as a whole or not
 member_is : (side : Side) (path : Path) (v : List Token) (i : Forest) (beside : Option Held)
     → items_told side (path_text path) i (inside_in beside)
-    ≡ map change_item (told side path (wholes i (inside_in beside)) (inside_in beside)) → (b : Bool)
+    ≡ flat_map told_items (told_by side path i (inside_in beside)) → (b : Bool)
     → member_items side (path_text path) v (cond b Forest.none i) (items_told side (path_text path) i) beside
-    ≡ map change_item (member_told side path v (cond b Forest.none (wholes i (inside_in beside)))
-    (told side path (cond b Forest.none (wholes i (inside_in beside)))) beside)
-member_is side path v i beside inner true = leaf_is side path v (leaf_in beside)
-member_is side path v Forest.none beside inner false = leaf_is side path v (leaf_in beside)
+    ≡ flat_map told_items (member_by side path v (cond b Forest.none i) (told_by side path i) beside)
+member_is side path v i beside inner true =
+    leaf_is side path v (leaf_in beside) ∙ sym (ones_are (leaf_change side path v (leaf_in beside)))
+member_is side path v Forest.none beside inner false =
+    leaf_is side path v (leaf_in beside) ∙ sym (ones_are (leaf_change side path v (leaf_in beside)))
 member_is side path v Forest.passed beside inner false = refl
+member_is side path v (Forest.vlans runs) beside inner false = inner
 member_is side path v (Forest.tree a b c d) beside inner false = inner
 
 pub items_are : ItemsAreChanges
 items_are side path Forest.none g = refl
 items_are side path Forest.passed g = refl
+items_are side path (Forest.vlans runs) g = pieces_are side path (pieces_of runs (runs_inside g))
 items_are side path (Forest.tree s v i rest) g =
     let beside = find s g in
-    let inside = cut s beside (wholes i (inside_in beside)) in
     ap (λ text. member_items side text v (cut s beside i) (items_told side text i) beside
     ++ items_told side (path_text path) rest g) (sym (text_further [] path s))
     ∙ (λ k. member_is side (path ++ s ∷ []) v i beside
     (items_are side (path ++ s ∷ []) i (inside_in beside)) (is_label s && is_alone beside) k
     ++ items_are side path rest g k)
-    ∙ sym (map_joined change_item (member_told side (path ++ s ∷ []) v inside (told side (path ++ s ∷ []) inside)
-    beside) (told side path (wholes rest g) g))
+    ∙ sym (items_joined (member_by side (path ++ s ∷ []) v (cut s beside i) (told_by side (path ++ s ∷ []) i) beside)
+    (told_by side path rest g))
 
--- of an old object and a new one, where each side is told beside the other one as it is
-pub both_are : (f g : Forest) → AreApart f → AreApart g
-    → items_told Old [] f g ++ items_told New [] g f ≡ map change_item (between f g)
-both_are f g apart apart_too =
-    (λ k. (items_are Old [] f g ∙ ap (map change_item) (sym (told_same Old [] f g f apart (λ t held h. h)))) k
-    ++ (items_are New [] g f ∙ ap (map change_item) (sym (told_same New [] g f g apart_too (λ t held h. h)))) k)
-    ∙ sym (map_joined change_item (told Old [] (wholes f g) (wholes g f)) (told New [] (wholes g f) (wholes f g)))
+-- of an old object and a new one
+pub both_are : (f g : Forest)
+    → items_told Old [] f g ++ items_told New [] g f ≡ flat_map told_items (both_by f g)
+both_are f g =
+    (λ k. items_are Old [] f g k ++ items_are New [] g f k)
+    ∙ sym (items_joined (told_by Old [] f g) (told_by New [] g f))

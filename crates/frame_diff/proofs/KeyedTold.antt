@@ -12,8 +12,8 @@ use Rattle.frame_shown.specs.Items.{objects}
 use Rattle.frame_shown.proofs.Items.{on_next}
 use Rattle.frame_diff.specs.Differences.{inside_in}
 use Rattle.frame_diff.specs.Forests.{Forest, Held, Member, Step, comes, find, forest, is_number, is_same_label}
-use Rattle.frame_diff.specs.Forests.{is_step, is_text}
-use Rattle.frame_diff.specs.Groups.{group_at, group_held, group_inside, is_entries, numbers_at, picked_by}
+use Rattle.frame_diff.specs.Forests.{is_step, is_text, runs_inside}
+use Rattle.frame_diff.specs.Groups.{group_at, group_held, labelled_inside, is_entries, numbers_at, picked_by}
 use Rattle.frame_diff.specs.Groups.{picked_values, value_at}
 use Rattle.frame_diff.specs.Items.{items_told}
 use Rattle.frame_diff.specs.Keyed.{AreIn, AreKept, AreLabelled, FindsAt, IsIn, StandsFor, label_items, labels_now}
@@ -32,11 +32,17 @@ use Rattle.frame_diff.specs.declared.labels.Label.{Label}
 use Rattle.frame_diff.specs.declared.side.Side.{Side}
 use Rattle.frame_diff.specs.declared.walk.Attribute.{Attribute}
 use Rattle.frame_diff.specs.declared.walk.Attributes.{Attributes}
-use Rattle.frame_diff.proofs.Apart.{find_none}
+use Rattle.frame_diff.proofs.Apart.{find_none, no_runs}
 use Rattle.frame_diff.proofs.Grouped.{group_plain, inside_here, inside_none, picked_none}
 use Rattle.frame_diff.proofs.Inside.{AreAll, AreAt, at_weaker, forest_all, held_rest, none_at, same_told}
 use Rattle.frame_diff.proofs.Steps.{label_is, label_same, number_is, number_same, text_is}
 use Rattle.frame_diff.proofs.Walked.{last_further}
+use Rattle.link_info.specs.declared.place.Place.TheVariants as Places
+use Rattle.link_vlans.specs.declared.run.Run.{Run}
+use Rattle.frame_shown.specs.declared.form.List.{List as Shape}
+use Rattle.frame_shown.specs.declared.form.List.TheVariants as Shapes
+use Rattle.frame_diff.specs.Groups.{group_inside, runs_at}
+use Rattle.frame_diff.specs.Members.{runs_by, runs_or}
 
 -- ** steps
 
@@ -69,27 +75,18 @@ labels_lack key s ms none all = none_at s ms
 
 -- the numbers of two keys have two names
 names_apart : (key other : Key) → is_key key (Some other) ≡ false → is_text (key_name other) (key_name key) ≡ false
-names_apart Keys.Vid Keys.Vid is = absurd cc
-names_apart Keys.Vid Keys.Msti is = refl
-names_apart Keys.Vid Keys.From is = refl
-names_apart Keys.Vid Keys.Vf is = refl
-names_apart Keys.Vid Keys.Number is = refl
-names_apart Keys.Msti Keys.Vid is = refl
 names_apart Keys.Msti Keys.Msti is = absurd cc
 names_apart Keys.Msti Keys.From is = refl
 names_apart Keys.Msti Keys.Vf is = refl
 names_apart Keys.Msti Keys.Number is = refl
-names_apart Keys.From Keys.Vid is = refl
 names_apart Keys.From Keys.Msti is = refl
 names_apart Keys.From Keys.From is = absurd cc
 names_apart Keys.From Keys.Vf is = refl
 names_apart Keys.From Keys.Number is = refl
-names_apart Keys.Vf Keys.Vid is = refl
 names_apart Keys.Vf Keys.Msti is = refl
 names_apart Keys.Vf Keys.From is = refl
 names_apart Keys.Vf Keys.Vf is = absurd cc
 names_apart Keys.Vf Keys.Number is = refl
-names_apart Keys.Number Keys.Vid is = refl
 names_apart Keys.Number Keys.Msti is = refl
 names_apart Keys.Number Keys.From is = refl
 names_apart Keys.Number Keys.Vf is = refl
@@ -111,6 +108,18 @@ no_label key (Some other) ns hs l is =
     (labels_lack other (label_step key l) (labelled other (labels_of ns) hs)
     (λ m. ap (λ b. b && is_same_label m l) (names_apart key other is)) (labelled_at other (labels_of ns) hs))
 
+-- whatever steps they are at
+
+any_at : (ms : List Member) → AreAt (λ s. Unit {0}) ms
+any_at [] = tt
+any_at (m ∷ ms) = (tt, any_at ms)
+
+any_inside : (key : Option Key) (ns : List (Option ℕ)) (hs : List (Option Held))
+    → AreAll (λ s. Unit {0}) (inside_of key ns hs)
+any_inside None ns hs = forest_all (λ s. Unit {0}) (placed 0 hs) (any_at (placed 0 hs))
+any_inside (Some key) ns hs =
+    let ms = labelled key (labels_of ns) hs in forest_all (λ s. Unit {0}) ms (any_at ms)
+
 -- ** another list
 
 empty_inside : (key : Option Key) → inside_of key [] [] ≡ Forest.none
@@ -130,7 +139,7 @@ module _ (nest : Showing) (inner : Holding) (is_state : Bool) where
   values a = group_at nest inner is_state a
 
   abbrev inside : Attributes → Forest
-  inside a = group_inside nest inner is_state a
+  inside a = labelled_inside nest inner is_state a
 
   abbrev numbers : Attributes → List (Option ℕ)
   numbers a = numbers_at nest inner is_state a
@@ -163,12 +172,48 @@ module _ (nest : Showing) (inner : Holding) (is_state : Bool) where
   abbrev held : Attributes → Held
   held a = group_held nest inner is_state a
 
+  abbrev whole : Attributes → Forest
+  whole a = group_inside nest inner is_state a
+
+  no_runs_of : (picks : Option ℕ) (list : Shape) → runs_by picks list [] ≡ None
+  no_runs_of (Some n) (Shapes.Of Places.BridgeSpec) = refl
+  no_runs_of _ _ = refl
+
+  pub nothing_whole : (a : Attributes) → items a.bytes.now ≡ [] → whole a ≡ Forest.none
+  nothing_whole a none =
+      ap (λ xs. runs_or (runs_by a.number a.list (frames_in xs)) (inside a)) none
+      ∙ ap (λ o. runs_or o (inside a)) (no_runs_of a.number a.list)
+      ∙ nothing_inside a none
+
   pub plain_beside : (other a : Attributes) (beside : Option Attributes) → beside ≡ Some other
       → are_plain (values other) ≡ true → items a.bytes.now ≡ []
-      → inside a ≡ inside_in (option_map held beside)
+      → whole a ≡ inside_in (option_map held beside)
   plain_beside other a beside is plain none =
-      nothing_inside a none
-      ∙ sym (ap (λ b. inside_in (option_map held b)) is ∙ inside_none (values other) (inside other) plain)
+      nothing_whole a none
+      ∙ sym (ap (λ b. inside_in (option_map held b)) is ∙ inside_none (values other) (whole other) plain)
+
+  -- ** beside a list of VLANs
+
+  -- one that is none of these is as it was
+  pub labelled_whole : (a : Attributes) → runs_at a ≡ None → whole a ≡ inside a
+  labelled_whole a none = ap (λ o. runs_or o (inside a)) none
+
+  inside_runless : (key : Option Key) (ns : List (Option ℕ)) (hs : List (Option Held))
+      → runs_inside (inside_of key ns hs) ≡ []
+  inside_runless None ns hs = no_runs (placed 0 hs)
+  inside_runless (Some key) ns hs = no_runs (labelled key (labels_of ns) hs)
+
+  -- and holds none
+  pub no_runs_beside : (a : Attributes) → runs_at a ≡ None → runs_inside (whole a) ≡ []
+  no_runs_beside a none =
+      ap runs_inside (labelled_whole a none)
+      ∙ inside_runless (key_at a.number a.list) (numbers a) (values a)
+
+  -- and one without values stands for one of VLANs
+  pub runs_stand : (a others : Attributes) (rs : List Run) → runs_at others ≡ Some rs → items a.bytes.now ≡ []
+      → (s : Step) → find s (inside a) ≡ find s (whole others)
+  runs_stand a others rs is none s =
+      ap (find s) (nothing_inside a none) ∙ sym (ap (λ o. find s (runs_or o (inside others))) is)
 
   module _ (side : Side) (text : List ℕ) where
     places_are : (a : Attributes) → key_at a.number a.list ≡ None → inside a ≡ places (values a)
@@ -197,15 +242,24 @@ module _ (nest : Showing) (inner : Holding) (is_state : Bool) where
         (λ s of. ap (λ t. find t (inside a)) of.1 ∙ found nest inner is_state of.0
         ∙ ap (λ t. find t (inside others)) (sym of.1))
 
+    -- a list that is none of VLANs
+    pub labels_told : (own others a : Attributes) → runs_at own ≡ None
+        → ((s : Step) → find s (inside a) ≡ find s (whole others))
+        → items_told side text (inside own) (inside a) ≡ items_told side text (whole own) (whole others)
+    labels_told own others a none found =
+        same_told (λ s. Unit {0}) side text (inside own) (inside a) (whole others)
+        (any_inside (key_at own.number own.list) (numbers own) (values own)) (λ s any. found s)
+        ∙ ap (λ f. items_told side text f (whole others)) (sym (labelled_whole own none))
+
     -- of which some are objects or lists
     pub values_told : (own others : Attributes) (beside : Option Attributes) → are_plain (values own) ≡ false
-        → inside others ≡ inside_in (option_map held beside)
-        → items_told side text (inside own) (inside others)
+        → whole others ≡ inside_in (option_map held beside)
+        → items_told side text (whole own) (whole others)
         ≡ held_items side text (held own) (option_map held beside)
     values_told own others beside some is =
-        ap (items_told side text (inside own)) is
+        ap (items_told side text (whole own)) is
         ∙ ap (λ f. items_told side text f (inside_in (option_map held beside)))
-        (sym (inside_here (values own) (inside own) some))
+        (sym (inside_here (values own) (whole own) some))
         ∙ sym (held_rest side text (held own) (option_map held beside) (group_plain nest inner is_state own ∙ some))
 
 -- ** no two values have one label

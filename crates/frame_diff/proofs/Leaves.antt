@@ -53,6 +53,7 @@ abbrev pub within : List Token → Forest → Path → Option (List Token)
 within v Forest.none [] = Some v
 within v Forest.none (s ∷ path) = None
 within v Forest.passed path = None
+within v (Forest.vlans runs) path = None
 within v (Forest.tree a b c d) path = value_at (leaves (Forest.tree a b c d)) path
 
 abbrev pub beneath : Option Held → Path → Option (List Token)
@@ -65,12 +66,14 @@ member_value : (s t : Step) (v : List Token) (i : Forest) (path : Path) → is_s
 member_value s t v Forest.none [] same = ap (λ b. cond (b && true) (Some v) None) same
 member_value s t v Forest.none (x ∷ path) same = ap (λ b. cond (b && false) (Some v) None) same
 member_value s t v Forest.passed path same = refl
+member_value s t v (Forest.vlans runs) path same = refl
 member_value s t v (Forest.tree a b c d) path same = value_under s t (leaves (Forest.tree a b c d)) path same
 
 member_lacks : (s t : Step) (v : List Token) (i : Forest) (path : Path) → is_step s t ≡ false
     → value_at (leaves_at s v i (leaves i)) (t ∷ path) ≡ None
 member_lacks s t v Forest.none path other = ap (λ b. cond (b && is_path [] path) (Some v) None) other
 member_lacks s t v Forest.passed path other = refl
+member_lacks s t v (Forest.vlans runs) path other = refl
 member_lacks s t v (Forest.tree a b c d) path other =
     value_not_under s t (leaves (Forest.tree a b c d)) path other
 
@@ -79,6 +82,7 @@ pub value_of : (g : Forest) (t : Step) (path : Path) → AreApart g
     → value_at (leaves g) (t ∷ path) ≡ beneath (find t g) path
 value_of Forest.none t path apart = refl
 value_of Forest.passed t path apart = refl
+value_of (Forest.vlans runs) t path apart = refl
 value_of (Forest.tree s v i rest) t path apart =
     value_append (leaves_at s v i (leaves i)) (leaves rest) (t ∷ path)
     ∙ by (is_step s t) refl (value_of rest t path apart.2)
@@ -112,12 +116,14 @@ append_steps ((s ∷ path, v) ∷ xs) ys h k = append_steps xs ys h k
 pub have_steps : (f : Forest) → HaveSteps (leaves f)
 have_steps Forest.none = tt
 have_steps Forest.passed = tt
+have_steps (Forest.vlans runs) = tt
 have_steps (Forest.tree s v i rest) =
     append_steps (leaves_at s v i (leaves i)) (leaves rest) (at i (leaves i)) (have_steps rest)
   where
     at : (j : Forest) (ls : List Leaf) → HaveSteps (leaves_at s v j ls)
     at Forest.none ls = tt
     at Forest.passed ls = tt
+    at (Forest.vlans runs) ls = tt
     at (Forest.tree a b c d) ls = under_steps s ls
 
 -- ** members beside others
@@ -129,6 +135,7 @@ says side path others l = leaf_change side (path ++ l.0) l.1 (value_at others l.
 pub inside_apart : (t : Step) (g : Forest) → AreApart g → AreApart (inside_in (find t g))
 inside_apart t Forest.none apart = tt
 inside_apart t Forest.passed apart = tt
+inside_apart t (Forest.vlans runs) apart = tt
 inside_apart t (Forest.tree s v i rest) apart = by (is_step s t) (inside_apart t rest apart.2)
   where
     by : (b : Bool) → AreApart (inside_in (find t rest))
@@ -140,6 +147,7 @@ leaf_beneath : (beside : Option Held) → beneath beside [] ≡ leaf_in beside
 leaf_beneath None = refl
 leaf_beneath (Some (v, Forest.none)) = refl
 leaf_beneath (Some (v, Forest.passed)) = refl
+leaf_beneath (Some (v, Forest.vlans runs)) = refl
 leaf_beneath (Some (v, Forest.tree a b c d)) = lacks (leaves (Forest.tree a b c d)) (have_steps (Forest.tree a b c d))
   where
     lacks : (ls : List Leaf) → HaveSteps ls → value_at ls [] ≡ None
@@ -152,6 +160,7 @@ inner_beneath : (beside : Option Held) (s : Step) (path : Path)
 inner_beneath None s path = refl
 inner_beneath (Some (v, Forest.none)) s path = refl
 inner_beneath (Some (v, Forest.passed)) s path = refl
+inner_beneath (Some (v, Forest.vlans runs)) s path = refl
 inner_beneath (Some (v, Forest.tree a b c d)) s path = refl
 
 -- leaves inside a member, by those of what is inside the one beside it
@@ -175,6 +184,7 @@ member_is side path s v Forest.none g apart inner =
     ap (leaf_change side (path ++ s ∷ []) v) (sym (value_of g s [] apart ∙ leaf_beneath (find s g)))
     ∙ sym (append-nil (leaf_change side (path ++ s ∷ []) v (value_at (leaves g) (s ∷ []))))
 member_is side path s v Forest.passed g apart inner = refl
+member_is side path s v (Forest.vlans runs) g apart inner = refl
 member_is side path s v (Forest.tree a b c d) g apart inner =
     inner ∙ under_says side path s g (leaves (Forest.tree a b c d)) apart (have_steps (Forest.tree a b c d))
 
@@ -182,6 +192,7 @@ pub told_is : (side : Side) (path : Path) (f g : Forest) → AreApart g
     → told side path f g ≡ side_changes side path (leaves f) (leaves g)
 told_is side path Forest.none g apart = refl
 told_is side path Forest.passed g apart = refl
+told_is side path (Forest.vlans runs) g apart = refl
 told_is side path (Forest.tree s v i rest) g apart =
     (λ k. member_is side path s v i g apart
     (told_is side (path ++ s ∷ []) i (inside_in (find s g)) (inside_apart s g apart)) k

@@ -8,6 +8,8 @@ pub mod Once
 pub mod Silent
 pub mod WholesTold
 pub mod Apart
+pub mod Flat
+pub mod RangesTold
 pub mod Messages
 pub mod Items
 pub mod Beside

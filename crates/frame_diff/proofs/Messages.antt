@@ -11,7 +11,7 @@ use Rattle.frame_diff.specs.Laws.{CountersArePassed, MessagesAreTold}
 use Rattle.frame_diff.specs.Members.{Reading, frame_member, message_forest, value_with, way_inside, is_unnamed}
 use Rattle.frame_diff.specs.Wholes.{wholes}
 use Rattle.frame_diff.specs.declared.side.Side.TheVariants.{Old, New}
-use Rattle.frame_diff.proofs.Apart.{message_apart}
+use Rattle.frame_diff.proofs.Flat.{message_apart}
 use Rattle.frame_diff.proofs.Leaves.{all_told}
 use Rattle.frame_diff.proofs.Once.{each_once}
 use Rattle.frame_diff.proofs.Silent.{same_silent}

@@ -43,6 +43,7 @@ under_lack s (l ∷ ls) rest apart none =
 pub leaves_once : (f : Forest) → AreApart f → StandOnce (leaves f)
 leaves_once Forest.none apart = tt
 leaves_once Forest.passed apart = tt
+leaves_once (Forest.vlans runs) apart = tt
 leaves_once (Forest.tree s v i rest) apart =
     append_once (leaves_at s v i (leaves i)) (leaves rest) (once i (leaves_once i apart.1))
     (leaves_once rest apart.2) (lack i)
@@ -50,11 +51,13 @@ leaves_once (Forest.tree s v i rest) apart =
     once : (j : Forest) → StandOnce (leaves i) → StandOnce (leaves_at s v j (leaves i))
     once Forest.none h = (refl, tt)
     once Forest.passed h = tt
+    once (Forest.vlans runs) h = tt
     once (Forest.tree a b c d) h = under_once s (leaves i) h
 
     lack : (j : Forest) → Lack (leaves_at s v j (leaves i)) (leaves rest)
     lack Forest.none = (value_of rest s [] apart.2 ∙ ap (λ o. beneath o []) apart.0, tt)
     lack Forest.passed = tt
+    lack (Forest.vlans runs) = tt
     lack (Forest.tree a b c d) = under_lack s (leaves i) rest apart.2 apart.0
 
 -- ** what they say

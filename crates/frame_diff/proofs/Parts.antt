@@ -22,6 +22,11 @@ use Rattle.frame_diff.proofs.Steps.{step_is}
 use Rattle.frame_diff.proofs.Walked.{last_further, plain_items}
 use Rattle.frame_shown.specs.Items.{Lists}
 use Rattle.std.specs.List.{AllByRecursion}
+use Rattle.frame_diff.specs.Forests.{runs_inside}
+use Rattle.frame_diff.specs.Labels.{labelled, labels_of}
+use Rattle.frame_diff.specs.Members.{kept_with, numbers_by, placed}
+use Rattle.frame_diff.specs.declared.keys.Key.TheVariants as Keys
+use Rattle.frame_diff.proofs.Apart.{no_runs}
 
 -- ** what stands at a step
 
@@ -152,6 +157,7 @@ pub list_lacks : (t s : Step) (hs : List (Option Held)) (inside : Forest) → is
     → comes t (list_by s hs inside) ≡ false
 list_lacks t s hs Forest.none other = refl
 list_lacks t s hs Forest.passed other = refl
+list_lacks t s hs (Forest.vlans runs) other = refl
 list_lacks t s hs (Forest.tree a b c d) other = ap (λ x. cond x true false) other
 
 pub names_lack : (ms : List Member) (s : Step) (hs : List (Option Held)) (inside : Forest) → AreNames ms → IsNoName s
@@ -173,12 +179,14 @@ pub list_lacks_names : (s : Step) (hs : List (Option Held)) (inside : Forest) (m
     → IsNoName s → NoneComes (list_by s hs inside) ms
 list_lacks_names s hs Forest.none ms names none = tt
 list_lacks_names s hs Forest.passed ms names none = tt
+list_lacks_names s hs (Forest.vlans runs) ms names none = tt
 list_lacks_names s hs (Forest.tree a b c d) ms names none = (no_names s ms names none, tt)
 
 pub lists_lack : (s t : Step) (hs gs : List (Option Held)) (inside other : Forest) → is_step t s ≡ false
     → NoneComes (list_by s hs inside) (list_by t gs other)
 lists_lack s t hs gs Forest.none other apart = tt
 lists_lack s t hs gs Forest.passed other apart = tt
+lists_lack s t hs gs (Forest.vlans runs) other apart = tt
 lists_lack s t hs gs (Forest.tree a b c d) other apart = (list_lacks s t gs other apart, tt)
 
 -- no name is a list of values
@@ -215,6 +223,7 @@ pub list_lacks_arrays : (s : Step) (hs : List (Option Held)) (inside : Forest) (
     → IsNoArray s → NoneComes (list_by s hs inside) ms
 list_lacks_arrays s hs Forest.none ms arrays none = tt
 list_lacks_arrays s hs Forest.passed ms arrays none = tt
+list_lacks_arrays s hs (Forest.vlans runs) ms arrays none = tt
 list_lacks_arrays s hs (Forest.tree a b c d) ms arrays none = (no_arrays s ms arrays none, tt)
 
 -- no list of a name is among those of other names
@@ -245,23 +254,41 @@ pub lacking : (side : Side) (text : List ℕ) (f : Forest)
     → items_told side text f Forest.none ≡ items_told side text f Forest.passed
 lacking side text Forest.none = refl
 lacking side text Forest.passed = refl
+lacking side text (Forest.vlans runs) = refl
 lacking side text (Forest.tree s v i rest) =
     ap (λ l. step_items side text s (v, i) None ++ l) (lacking side text rest)
 
+-- and beside a list without VLANs
+lacking_vlans : (side : Side) (text : List ℕ) (f : Forest)
+    → items_told side text f Forest.none ≡ items_told side text f (Forest.vlans [])
+lacking_vlans side text Forest.none = refl
+lacking_vlans side text Forest.passed = refl
+lacking_vlans side text (Forest.vlans runs) = refl
+lacking_vlans side text (Forest.tree s v i rest) =
+    ap (λ l. step_items side text s (v, i) None ++ l) (lacking_vlans side text rest)
+
 -- a member at one step tells what those inside it tell, unless it is told as a whole
 pub unless_told : (side : Side) (text : List ℕ) (s : Step) (v w : List Token) (f g : Forest) → is_label s ≡ false
+    → runs_inside f ≡ [] → runs_inside g ≡ []
     → items_told side text (forest (unless_none s v f)) (forest (unless_none s w g))
     ≡ items_told side (further text s) f g
-unless_told side text s v w Forest.none g plain = refl
-unless_told side text s v w Forest.passed g plain = refl
-unless_told side text s v w (Forest.tree a b c d) Forest.none plain =
+unless_told side text s v w Forest.none g plain none none_too = refl
+unless_told side text s v w Forest.passed g plain none none_too = refl
+unless_told side text s v w (Forest.vlans runs) g plain none none_too =
+    sym (ap (λ rs. items_told side (further text s) (Forest.vlans rs) g) none)
+unless_told side text s v w (Forest.tree a b c d) (Forest.vlans runs) plain none none_too =
     let held : Held = (v, Forest.tree a b c d) in
     append-nil (step_items side text s held None) ∙ plain_items side text s held None plain
-unless_told side text s v w (Forest.tree a b c d) Forest.passed plain =
+    ∙ lacking_vlans side (further text s) (Forest.tree a b c d)
+    ∙ sym (ap (λ rs. items_told side (further text s) (Forest.tree a b c d) (Forest.vlans rs)) none_too)
+unless_told side text s v w (Forest.tree a b c d) Forest.none plain none none_too =
+    let held : Held = (v, Forest.tree a b c d) in
+    append-nil (step_items side text s held None) ∙ plain_items side text s held None plain
+unless_told side text s v w (Forest.tree a b c d) Forest.passed plain none none_too =
     let held : Held = (v, Forest.tree a b c d) in
     append-nil (step_items side text s held None) ∙ plain_items side text s held None plain
     ∙ lacking side (further text s) (Forest.tree a b c d)
-unless_told side text s v w (Forest.tree a b c d) (Forest.tree p q x y) plain =
+unless_told side text s v w (Forest.tree a b c d) (Forest.tree p q x y) plain none none_too =
     let held : Held = (v, Forest.tree a b c d) in
     let beside = cond (is_step s s) (Some (w, Forest.tree p q x y)) None in
     append-nil (step_items side text s held beside) ∙ plain_items side text s held beside plain
@@ -269,10 +296,11 @@ unless_told side text s v w (Forest.tree a b c d) (Forest.tree p q x y) plain =
 
 -- a list of values tells what those in it tell
 pub list_told : (side : Side) (text : List ℕ) (s : Step) (hs gs : List (Option Held)) (inside other : Forest)
-    → is_label s ≡ false
+    → is_label s ≡ false → runs_inside inside ≡ [] → runs_inside other ≡ []
     → items_told side text (forest (list_by s hs inside)) (forest (list_by s gs other))
     ≡ items_told side (further text s) inside other
-list_told side text s hs gs inside other plain = unless_told side text s _ _ inside other plain
+list_told side text s hs gs inside other plain none none_too =
+    unless_told side text s _ _ inside other plain none none_too
 
 -- ** the members of a list of attributes
 
@@ -295,6 +323,10 @@ no_array_again name = (refl, refl)
 
 no_array_other : IsNoArray Step.other
 no_array_other name = (refl, refl)
+
+kept_runless : (r : Reading) (list : Shape) (fs : List Frame) → runs_inside (kept_inside r list fs) ≡ []
+kept_runless r list fs = no_runs (labelled Keys.Number
+    (labels_of (numbers_by (λ f. Some (number f)) (kept_with r list) fs)) (kept_in r list fs))
 
 pub members_told : (r s : Reading) (list shape : Shape) (fs gs : List Frame) (side : Side) (text : List ℕ)
     → items_told side text (forest (members_in r list fs)) (forest (members_in s shape gs))
@@ -352,5 +384,7 @@ members_told r s list shape fs gs side text =
     ∙ append_assoc (told ++ told_lists) told_again told_kept
     ∙ append_assoc told told_lists (told_again ++ told_kept)
     ∙ (λ k. told ++ (told_lists
-    ++ (list_told side text Step.repeated (earlier ms) (earlier ns) (places (earlier ms)) (places (earlier ns)) refl k
-    ++ list_told side text Step.other hs hs_too inside inside_too refl k)))
+    ++ (list_told side text Step.repeated (earlier ms) (earlier ns) (places (earlier ms)) (places (earlier ns)) refl
+    (no_runs (placed 0 (earlier ms))) (no_runs (placed 0 (earlier ns))) k
+    ++ list_told side text Step.other hs hs_too inside inside_too refl (kept_runless r list fs)
+    (kept_runless s shape gs) k)))

@@ -2,7 +2,7 @@
 -- no mark: a point stands between steps, and the other marks in labels.
 use Rattle.std.proofs.Common.{◌≡◌, ℕ, zero, suc, ◌+◌, ◌%◌, ◌<◌, ◌^◌, Bool, true, false, List, [], ◌∷◌, ◌++◌, refl, sym}
 use Rattle.std.proofs.Common.{◌∙◌, ◌⊎◌, ap, append_assoc, append-nil, arith, decimal, eq-eqb, inl, inr, ne_eqb}
-use Rattle.std.proofs.Common.{subst}
+use Rattle.std.proofs.Common.{eqb-true, subst, take}
 use Rattle.std.proofs.lemmas.Bool.{and_from, and_parts, or_parts, not-true}
 use Rattle.std.proofs.lemmas.Fmt.{decimal_by_steps, decimal_injective}
 use Rattle.std.specs.Prelude.{◌==◌, ◌&&◌, ◌||◌, Option, None, Some, codes, cond, not}
@@ -23,8 +23,8 @@ pub data Whose : Type 0 where
   addresses : Whose
   other : Whose
 
--- none; fields of a record, which hold no others, so that their names may be any; values of a list; a list of entries;
--- a list of those that have a name; attributes
+-- none; fields of a record, which hold no others, so that their names may be any; values of a list, or VLANs; a list of
+-- entries; a list of those that have a name; attributes
 pub data Sort : Type 0 where
   nothing : Sort
   fields : Sort
@@ -123,11 +123,15 @@ sort_among (row ∷ rows) text = cond (is_text row.0 text) row.1 (sort_among row
 abbrev pub whose_entry : List ℕ → Whose
 whose_entry text = cond (is_text (codes "info") text) Whose.function Whose.other
 
+-- the text of the label of a VLAN, inside which fields stand
+abbrev is_vlan : List ℕ → Bool
+is_vlan text = is_text (take 5 text) (codes "[vid=")
+
 -- the sort of the members inside the one of this text
 abbrev pub within : Sort → List ℕ → Sort
 within Sort.nothing text = Sort.nothing
 within Sort.fields text = Sort.nothing
-within (Sort.values sort) text = sort
+within (Sort.values sort) text = cond (is_vlan text) Sort.fields sort
 within Sort.entries text = Sort.values (Sort.attributes (whose_entry text))
 within Sort.listed text = Sort.values Sort.fields
 within (Sort.attributes whose) text =
@@ -301,6 +305,18 @@ first_begins s path h = ap (λ front. text_behind front path) (first_is s) ∙ b
 
 no_mark : (x : ℕ) (text : List ℕ) → is_mark x ≡ true → lacks_marks (x ∷ text) ≡ true → ⊥
 no_mark x text is h = let clash : false ≡ true = sym (ap (λ b. not b && lacks_marks text) is) ∙ h in absurd cc
+
+-- digits are no label of a VLAN
+no_vlan : (text : List ℕ) → lacks_marks text ≡ true → is_vlan text ≡ false
+no_vlan [] h = refl
+no_vlan (x ∷ text) h = by (x == 91) refl
+  where
+    by : (b : Bool) → (x == 91) ≡ b → (b && is_text (take 4 text) (codes "vid=")) ≡ false
+    by true is = absurd (no_mark x text (ap is_mark (eqb-true x 91 is)) h)
+    by false is = refl
+
+pub place_within : (sort : Sort) (n : ℕ) → n < 2 ^ 64 → within (Sort.values sort) (decimal n) ≡ sort
+place_within sort n few = ap (λ b. cond b Sort.fields sort) (no_vlan (decimal n) (decimal_lacks n few))
 
 other_first : (x y : ℕ) (a b : List ℕ) → (x == y) ≡ false → x ∷ a ≡ y ∷ b → ⊥
 other_first x y a b unlike same =

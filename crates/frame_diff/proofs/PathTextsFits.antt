@@ -3,7 +3,7 @@ use Rattle.std.proofs.Common.{◌≡◌, ℕ, ◌+◌, ◌<◌, ◌≤◌, ◌^�
 use Rattle.std.proofs.Common.{inl, inr, length-append, ltb-true, refl, sym, subst}
 use Rattle.std.proofs.lemmas.Bool.{and_parts}
 use Rattle.std.proofs.lemmas.List.{length-map}
-use Rattle.std.specs.Prelude.{Option, Some, None, Result, Ok, Err, cond, nat_lt, ◌==◌}
+use Rattle.std.specs.Prelude.{Option, Some, None, Result, Ok, Err, codes, cond, nat_lt, ◌==◌}
 use Rattle.std.specs.List.{AllByRecursion, flat_map}
 use Rattle.json.specs.Token.{Token}
 use Rattle.nla_wire.specs.Frames.{Frame, number}
@@ -35,27 +35,35 @@ use Rattle.frame_shown.specs.declared.form.Order.{Order}
 use Rattle.frame_shown.specs.declared.form.Order.TheVariants as Orders
 use Rattle.frame_shown.specs.declared.form.Way.{Way}
 use Rattle.frame_shown.specs.declared.form.Way.TheVariants as Ways
+use Rattle.link_vlans.proofs.Say.{small}
+use Rattle.link_vlans.specs.Pieces.{vlans_of}
+use Rattle.link_vlans.specs.Runs.{are_apart}
+use Rattle.link_vlans.specs.declared.run.Run.{Run}
+use Rattle.link_vlans.specs.declared.run.Said.{Said}
 use Rattle.frame_diff.specs.Counters.{fields_left, is_clear}
 use Rattle.frame_diff.specs.Forests.{Forest, Held, Member, Step, comes, forest, is_number, left_of}
 use Rattle.frame_diff.specs.Items.{step_text}
 use Rattle.frame_diff.specs.Keys.{bounded, key_name, number_in, number_said}
-use Rattle.frame_diff.specs.Labels.{count, keyed, labelled, labels_behind, labels_of}
+use Rattle.frame_diff.specs.Labels.{count, keyed, label_step, labelled, labels_behind, labels_of}
 use Rattle.frame_diff.specs.Members.{Inner, fields, fields_kept, form_inside, held_inside, inside_of, ipv6_inside}
 use Rattle.frame_diff.specs.Members.{is_some, meaning_inside, named, numbers_by, placed, placed_one, places}
 use Rattle.frame_diff.specs.Members.{unless_none}
-use Rattle.frame_diff.specs.Members.{are_plain, values_inside, way_inside}
+use Rattle.frame_diff.specs.Members.{are_plain, runs_or, values_inside, way_inside}
+use Rattle.frame_diff.specs.Vlans.{flat, runs_flat, vlan_fields, vlan_label, vlan_trees}
 use Rattle.frame_diff.specs.declared.keys.Key.{Key}
 use Rattle.frame_diff.specs.declared.keys.Key.TheVariants as Keys
 use Rattle.frame_diff.specs.declared.labels.Label.{Label}
-use Rattle.frame_diff.proofs.PathTexts.{IsBounded, IsWritten, Sort, Stands, Whose, lacks_marks, within}
-use Rattle.frame_diff.proofs.PathTextsNames.{form_fits, info_known, is_known, is_same, same_sort, sort_of, style_fits}
-use Rattle.frame_diff.proofs.PathTextsNames.{way_fits, whose_place}
+use Rattle.frame_diff.proofs.PathTexts.{IsBounded, IsWritten, Sort, Stands, Whose, lacks_marks, place_within, within}
+use Rattle.frame_diff.proofs.PathTextsNames.{form_fits, info_known, is_known, is_same, is_values, same_sort, sort_of}
+use Rattle.frame_diff.proofs.PathTextsNames.{style_fits, way_fits, whose_place}
 
 -- ** members of a sort
 
+-- VLANs are values
 abbrev pub Fits : Sort → Forest → Type 0
 Fits sort Forest.none = Unit {0}
 Fits sort Forest.passed = Unit {0}
+Fits sort (Forest.vlans runs) = (are_apart None runs ≡ true) × (is_values sort ≡ true)
 Fits sort (Forest.tree s v i rest) = Stands sort s × Fits (within sort (step_text s)) i × Fits sort rest
 
 abbrev pub AllFit : Sort → List Member → Type 0
@@ -111,8 +119,12 @@ placed_fit : (sort : Sort) (n : ℕ) (hs : List (Option Held)) → n + length hs
 placed_fit sort n [] few h = tt
 placed_fit sort n (None ∷ hs) few h = placed_fit sort (n + 1) hs (omega (arith, few)) h
 placed_fit sort n (Some held ∷ hs) few h =
-    append_fits (Sort.values sort) (placed_one n (Some held)) (placed (n + 1) hs)
-    (inl (n, omega (arith, few), refl), h.0, tt) (placed_fit sort (n + 1) hs (omega (arith, few)) h.1)
+    append_fits (Sort.values sort) (placed_one n (Some held)) (placed (n + 1) hs) (
+      inl (n, omega (arith, few), refl),
+      subst (λ s. Fits s held.1) (sym (place_within sort n (omega (arith, few)))) h.0,
+      tt,
+    )
+    (placed_fit sort (n + 1) hs (omega (arith, few)) h.1)
 
 pub places_fit : (sort : Sort) (hs : List (Option Held)) → length hs < 2 ^ 64 → HeldFit sort hs
     → Fits (Sort.values sort) (places hs)
@@ -131,6 +143,7 @@ pub unless_fits : (sort : Sort) (s : Step) (v : List Token) (f : Forest) → Sta
     → Fits (within sort (step_text s)) f → AllFit sort (unless_none s v f)
 unless_fits sort s v Forest.none is h = tt
 unless_fits sort s v Forest.passed is h = tt
+unless_fits sort s v (Forest.vlans runs) is h = tt
 unless_fits sort s v (Forest.tree a b c d) is h = (is, h, tt)
 
 -- at most one value of each
@@ -163,19 +176,28 @@ labels_written before (n ∷ ns) few h =
     ((h.0, omega (arith, few, count_few n before)), labels_written (n ∷ before) ns (omega (arith, few)) h.1)
 
 key_lacks : (key : Key) → lacks_marks (key_name key) ≡ true
-key_lacks Keys.Vid = refl
 key_lacks Keys.Msti = refl
 key_lacks Keys.From = refl
 key_lacks Keys.Vf = refl
 key_lacks Keys.Number = refl
+
+-- a label by a key is none of a VLAN
+key_within : (sort : Sort) (key : Key) (l : Label) → within (Sort.values sort) (step_text (label_step key l)) ≡ sort
+key_within sort Keys.Msti l = refl
+key_within sort Keys.From l = refl
+key_within sort Keys.Vf l = refl
+key_within sort Keys.Number l = refl
 
 labelled_fit : (sort : Sort) (key : Key) (ls : List Label) (hs : List (Option Held)) → AreWritten ls → HeldFit sort hs
     → AllFit (Sort.values sort) (labelled key ls hs)
 labelled_fit sort key [] hs all h = tt
 labelled_fit sort key (l ∷ ls) [] all h = tt
 labelled_fit sort key (l ∷ ls) (None ∷ hs) all h = labelled_fit sort key ls hs all.1 h
-labelled_fit sort key (l ∷ ls) (Some held ∷ hs) all h =
-    (inr (key_name key, l, key_lacks key, all.0, refl), h.0, labelled_fit sort key ls hs all.1 h.1)
+labelled_fit sort key (l ∷ ls) (Some held ∷ hs) all h = (
+  inr (key_name key, l, key_lacks key, all.0, refl),
+  subst (λ s. Fits s held.1) (sym (key_within sort key l)) h.0,
+  labelled_fit sort key ls hs all.1 h.1,
+)
 
 bounded_is : (n : Option ℕ) → IsBounded (bounded n)
 bounded_is None = tt
@@ -236,6 +258,37 @@ pub each_held : {X : Type 0} (sort : Sort) (F : X → List (Option Held)) (xs : 
     → ((x : X) → HeldFit sort (F x)) → HeldFit sort (flat_map F xs)
 each_held sort F [] h = tt
 each_held sort F (x ∷ xs) h = held_append sort (F x) (flat_map F xs) (h x) (each_held sort F xs h)
+
+-- ** VLANs
+
+pub runs_fit : (sort : Sort) (runs : Option (List Run)) (inside : Forest)
+    → ((rs : List Run) → runs ≡ Some rs → are_apart None rs ≡ true) → Fits (Sort.values sort) inside
+    → Fits (Sort.values sort) (runs_or runs inside)
+runs_fit sort None inside apart h = h
+runs_fit sort (Some rs) inside apart h = (apart rs refl, refl)
+
+vlans_fit : (sort : Sort) (vs : List (ℕ × Said)) → AllByRecursion (λ (v : ℕ × Said). v.0 < 65536) vs
+    → Fits (Sort.values sort) (vlan_trees vs)
+vlans_fit sort [] all = tt
+vlans_fit sort (v ∷ vs) all = (
+  inr (codes "vid", vlan_label v.0, refl, (omega (arith, all.0), omega arith), refl),
+  fields_fit (vlan_fields v.0 v.1),
+  vlans_fit sort vs all.1,
+)
+
+runs_flat_fit : (sort : Sort) (runs : List Run) → are_apart None runs ≡ true → is_values sort ≡ true
+    → Fits sort (runs_flat runs)
+runs_flat_fit sort [] apart is = tt
+runs_flat_fit (Sort.values sort) (r ∷ rs) apart is = vlans_fit sort (vlans_of (r ∷ rs)) (small (r ∷ rs) apart)
+runs_flat_fit sort (r ∷ rs) apart is = absurd cc
+
+-- each VLAN as a member
+pub flat_fits : (sort : Sort) (f : Forest) → Fits sort f → Fits sort (flat f)
+flat_fits sort Forest.none h = tt
+flat_fits sort Forest.passed h = tt
+flat_fits sort (Forest.vlans runs) h = runs_flat_fit sort runs h.0 h.1
+flat_fits sort (Forest.tree s v i rest) h =
+    (h.0, flat_fits (within sort (step_text s)) i h.1, flat_fits sort rest h.2)
 
 -- ** bytes of a size, and the frames in them
 

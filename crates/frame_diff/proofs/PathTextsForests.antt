@@ -22,16 +22,18 @@ use Rattle.frame_diff.specs.Counters.{action_in, is_passed}
 use Rattle.frame_diff.specs.Forests.{Forest, Held, Leaf, Member, Path, Step, comes, entries_step, leaves}
 use Rattle.frame_diff.specs.Forests.{leaves_at, rest_step, under, values_step}
 use Rattle.frame_diff.specs.Items.{step_text}
-use Rattle.frame_diff.specs.Keys.{key_at}
+use Rattle.frame_diff.specs.Keys.{key_at, number_in}
 use Rattle.frame_diff.specs.Members.{Parts, Reading, alone, as_object, attributes_in, earlier, entries_in, entry_of}
 use Rattle.frame_diff.specs.Members.{entries_inside, entry_with, inside_with}
 use Rattle.frame_diff.specs.Members.{is_unnamed, array_at, arrays_in, arrays_of, value_with, values_with}
 use Rattle.frame_diff.specs.Members.{frame_member, held_by, is_some, kept_in, kept_inside, kept_with, list_at}
 use Rattle.frame_diff.specs.Members.{list_members, others_at}
-use Rattle.frame_diff.specs.Members.{members_in, message_forest, message_members, named, named_in, places, reading}
-use Rattle.frame_diff.specs.Members.{refused_in, refused_step, values_inside}
+use Rattle.frame_diff.specs.Members.{inside_of, members_in, message_forest, message_made, message_members, named}
+use Rattle.frame_diff.specs.Members.{named_in, numbers_by, places, reading, refused_in, refused_step, runs_by}
+use Rattle.frame_diff.specs.Members.{values_inside}
 use Rattle.frame_diff.specs.PathTexts.{IsRead}
 use Rattle.frame_diff.specs.declared.keys.Key.TheVariants as Keys
+use Rattle.frame_diff.proofs.Apart.{runs_apart}
 use Rattle.frame_diff.proofs.PathTexts.{Sort, Stands, StandsIn, Whose, array_stands, is_array, name_stands}
 use Rattle.frame_diff.proofs.PathTexts.{whose_entry, within}
 use Rattle.frame_diff.proofs.PathTextsNames.{AllFit as ListsFit, is_known, is_values, lists_fit, row_fits, row_named}
@@ -40,8 +42,9 @@ use Rattle.frame_diff.proofs.PathTextsNames.{sort_of, sort_of_each, value_fits, 
 use Rattle.frame_diff.proofs.PathTextsNames.{whose_table}
 use Rattle.frame_diff.proofs.PathTextsFits.{AllFit, AreFew, AreShort, Fits, HeldFit, InnerFits}
 use Rattle.frame_diff.proofs.PathTextsFits.{IsShort, append_fits, inside_fit}
-use Rattle.frame_diff.proofs.PathTextsFits.{each_held, few_in, fields_fit, forest_fits, held_append}
-use Rattle.frame_diff.proofs.PathTextsFits.{held_fits, keyed_fit, left_fits, listed_fit, places_fit, unless_fits}
+use Rattle.frame_diff.proofs.PathTextsFits.{each_held, few_in, fields_fit, flat_fits, forest_fits, held_append}
+use Rattle.frame_diff.proofs.PathTextsFits.{held_fits, keyed_fit, left_fits, listed_fit, places_fit, runs_fit}
+use Rattle.frame_diff.proofs.PathTextsFits.{unless_fits}
 use Rattle.frame_shown.specs.Items.{Lists}
 
 -- ** attributes
@@ -146,8 +149,13 @@ module _ (r : Reading) (fit : InnerFits r.inner) (list : Shape) where
       → HeldFit (sort_of_each sort) (values_with r list n fs)
       → Fits sort (values_inside (values_with r list n fs) (inside_with r list n fs))
   array_inside (Sort.values sort) n fs is few h =
-      inside_fit sort (values_with r list n fs) (inside_with r list n fs)
-      (listed_fit sort r.around list (value_with r list n) (each_one n) (key_at (Some n) list) fs few h)
+      let key = key_at (Some n) list in
+      let hs = values_with r list n fs in
+      inside_fit sort hs (inside_with r list n fs)
+      (runs_fit sort (runs_by (Some n) list fs)
+      (inside_of key (numbers_by (number_in r.around key list) (value_with r list n) fs) hs)
+      (runs_apart (Some n) list fs)
+      (listed_fit sort r.around list (value_with r list n) (each_one n) key fs few h))
   array_inside sort n fs is few h = absurd cc
 
   array_fits : (whose : Whose) (name : List ℕ) (hs : List (Option Held)) (inside : Forest)
@@ -390,10 +398,10 @@ header_fits bytes = (
   ((refl, refl), tt, ((refl, refl), tt, ((refl, refl), tt, ((refl, refl), tt, tt)))),
 )
 
-pub message_fits : (is_state : Bool) (cx : Around) (m : Parts) → IsRead cx m
-    → Fits (Sort.attributes Whose.other) (message_forest is_state cx m)
+made_fits : (is_state : Bool) (cx : Around) (m : Parts) → IsRead cx m
+    → Fits (Sort.attributes Whose.other) (message_made is_state cx m)
 unfolding message_members
-message_fits is_state cx m read =
+made_fits is_state cx m read =
     let family = slice_index m.header 0 in
     let fs = frames_in (items m.attributes) in
     let around = with_address_len cx (address_len fs) in
@@ -408,6 +416,11 @@ message_fits is_state cx m read =
     (lists_fit around read.0 (Shapes.Message family) Whose.other refl) fs (few_in m.attributes read.1)))
     (unless_fits others refused_step _ ((reading 1 is_state cx).inner Shapes.Refused m.refused) (refl, refl)
     (reading_fits 1 is_state cx read.0 Shapes.Refused m.refused refl read.2)))
+
+pub message_fits : (is_state : Bool) (cx : Around) (m : Parts) → IsRead cx m
+    → Fits (Sort.attributes Whose.other) (message_forest is_state cx m)
+message_fits is_state cx m read =
+    flat_fits (Sort.attributes Whose.other) (message_made is_state cx m) (made_fits is_state cx m read)
 
 -- ** the paths of leaves
 
@@ -432,6 +445,7 @@ under_stand sort s (l ∷ ls) is h = ((is, h.0), under_stand sort s ls is h.1)
 pub leaves_stand : (sort : Sort) (f : Forest) → Fits sort f → AllStand leaf_path sort (leaves f)
 leaves_stand sort Forest.none h = tt
 leaves_stand sort Forest.passed h = tt
+leaves_stand sort (Forest.vlans runs) h = tt
 leaves_stand sort (Forest.tree s v i rest) h =
     append_stand leaf_path sort (leaves_at s v i (leaves i)) (leaves rest)
     (at i (leaves i) (leaves_stand (within sort (step_text s)) i h.1)) (leaves_stand sort rest h.2)
@@ -440,4 +454,5 @@ leaves_stand sort (Forest.tree s v i rest) h =
         → AllStand leaf_path sort (leaves_at s v j ls)
     at Forest.none ls k = ((h.0, tt), tt)
     at Forest.passed ls k = tt
+    at (Forest.vlans runs) ls k = tt
     at (Forest.tree a b c d) ls k = under_stand sort s ls h.0 k

@@ -14,7 +14,7 @@ use Rattle.frame_diff.specs.PathTexts.{PathTextsAreApart}
 use Rattle.frame_diff.specs.Wholes.{is_alone, wholes}
 use Rattle.frame_diff.specs.declared.side.Side.{Side}
 use Rattle.frame_diff.specs.declared.side.Side.TheVariants.{Old, New}
-use Rattle.frame_diff.proofs.Apart.{message_apart}
+use Rattle.frame_diff.proofs.Flat.{message_apart}
 use Rattle.frame_diff.proofs.Messages.{messages_told}
 use Rattle.frame_diff.proofs.Once.{StandOnce, leaves_once}
 use Rattle.frame_diff.proofs.PathTexts.{Sort, StandsIn, Whose, path_of_text, within}
@@ -98,6 +98,7 @@ unless_fit false sort f h = h
 wholes_fit : (sort : Sort) (f g : Forest) → Fits sort f → Fits sort (wholes f g)
 wholes_fit sort Forest.none g h = tt
 wholes_fit sort Forest.passed g h = tt
+wholes_fit sort (Forest.vlans runs) g h = h
 wholes_fit sort (Forest.tree s v i rest) g h =
     let beside = find s g in
     let inner = within sort (step_text s) in (

@@ -41,8 +41,9 @@ use Rattle.frame_diff.specs.Members.{fields, fields_kept, form_inside, frame_mem
 use Rattle.frame_diff.specs.Members.{ipv6_inside, is_some, kept_by, kept_in, list_at, list_members, listed_in}
 use Rattle.frame_diff.specs.Members.{meaning_inside, members_in, message_forest, message_members, named, named_by}
 use Rattle.frame_diff.specs.Members.{named_in, reading, refused_in, refused_step, unless_none, way_inside, kept_inside}
-use Rattle.frame_diff.specs.Members.{list_by}
+use Rattle.frame_diff.specs.Members.{list_by, message_made, runs_by, runs_or}
 use Rattle.frame_diff.specs.Settled.{settled}
+use Rattle.frame_diff.specs.Vlans.{flat}
 use Rattle.frame_diff.specs.declared.keys.Key.TheVariants as Keys
 use Rattle.frame_diff.proofs.PlainKeys.{number_same}
 
@@ -156,8 +157,9 @@ module _ (cx other : Around) (s : AreAlike cx other) where
     inside_same : (list : Shape) (n : ℕ) (fs : List Frame)
         → inside_with (by cx) list n fs ≡ inside_with (by other) list n fs
     inside_same list n fs = let key = key_at (Some n) list in λ i.
-        inside_of key (numbers_by (λ f. number_same cx other s key list f i) (λ f. value_same list n f i) fs)
-        (flat_map (λ f. value_same list n f i) fs)
+        runs_or (runs_by (Some n) list fs)
+        (inside_of key (numbers_by (λ f. number_same cx other s key list f i) (λ f. value_same list n f i) fs)
+        (flat_map (λ f. value_same list n f i) fs))
 
     arrays_same : (list : Shape) (fs : List Frame) → arrays_in (by cx) list fs ≡ arrays_in (by other) list fs
     arrays_same list fs = λ i.
@@ -283,7 +285,11 @@ message_same is_state cx other s m = λ i.
     ++ attributes_same is_state cx other s (slice_index m.header 0) m.attributes i
     ++ refused_same is_state cx other s m.refused i
 
+pub made_alike : (order : Order) (cx other : Around) → IsPlain order cx → IsPlain order other → (is_state : Bool)
+    (m : Parts) → message_made is_state cx m ≡ message_made is_state other m
+made_alike order cx other one two is_state m =
+    ap forest (message_same is_state cx other (plainly_alike order cx other one two) m)
+
 pub forests_alike : (order : Order) (cx other : Around) → IsPlain order cx → IsPlain order other → (is_state : Bool)
     (m : Parts) → message_forest is_state cx m ≡ message_forest is_state other m
-forests_alike order cx other one two is_state m =
-    ap forest (message_same is_state cx other (plainly_alike order cx other one two) m)
+forests_alike order cx other one two is_state m = ap flat (made_alike order cx other one two is_state m)

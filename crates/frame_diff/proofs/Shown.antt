@@ -251,6 +251,7 @@ module _ (nest : Nesting) (inner : Inner) (cx : Around) (list : Shape) (apart : 
       → comes (Step.name name) (unless_none s v i) ≡ false
   list_lacks name s v Forest.none other = refl
   list_lacks name s v Forest.passed other = refl
+  list_lacks name s v (Forest.vlans runs) other = refl
   list_lacks name s v (Forest.tree a b c d) other = ap (λ x. cond x true false) other
 
   none_comes : (fs : List Frame) (s : Step) (hs : List (Option Held)) (i : Forest)
@@ -267,8 +268,10 @@ module _ (nest : Nesting) (inner : Inner) (cx : Around) (list : Shape) (apart : 
       → NoneComes (unless_none Step.repeated v i) (unless_none Step.other w j)
   repeated_lacks v w Forest.none j = tt
   repeated_lacks v w Forest.passed j = tt
+  repeated_lacks v w (Forest.vlans runs) j = tt
   repeated_lacks v w (Forest.tree a b c d) Forest.none = (refl, tt)
   repeated_lacks v w (Forest.tree a b c d) Forest.passed = (refl, tt)
+  repeated_lacks v w (Forest.tree a b c d) (Forest.vlans runs) = (refl, tt)
   repeated_lacks v w (Forest.tree a b c d) (Forest.tree e f g h) = (refl, tt)
 
   pub members_shown : (fs : List Frame)

@@ -21,6 +21,7 @@ member_silent : (side : Side) (path : Path) (v : List Token) (i : Forest) → to
     → member_told side path v i (told side path i) (Some (v, i)) ≡ []
 member_silent side path v Forest.none inner = leaf_silent side path v
 member_silent side path v Forest.passed inner = refl
+member_silent side path v (Forest.vlans runs) inner = refl
 member_silent side path v (Forest.tree a b c d) inner = inner
 
 pub found_first : (s : Step) (v : List Token) (i rest : Forest) → find s (Forest.tree s v i rest) ≡ Some (v, i)
@@ -39,6 +40,7 @@ rest_has s v i rest g none has t held found = has t held (by (is_step s t) refl)
 pub silent_in : (side : Side) (path : Path) (f g : Forest) → AreApart f → Has f g → told side path f g ≡ []
 silent_in side path Forest.none g apart has = refl
 silent_in side path Forest.passed g apart has = refl
+silent_in side path (Forest.vlans runs) g apart has = refl
 silent_in side path (Forest.tree s v i rest) g apart has =
     (λ k. member_told side (path ++ s ∷ []) v i (told side (path ++ s ∷ []) i)
     (has s (v, i) (found_first s v i rest) k) ++ told side path rest g)

@@ -61,6 +61,7 @@ use Rattle.frame_diff.specs.Settled.{is_still, settled, stands_still}
 use Rattle.frame_diff.specs.Still.{WholesStandStill}
 use Rattle.frame_diff.specs.declared.keys.Key.{Key}
 use Rattle.frame_diff.specs.declared.keys.Key.TheVariants as Keys
+use Rattle.frame_diff.specs.Members.{runs_by, runs_or}
 
 -- ** what is left of an entry
 
@@ -420,11 +421,12 @@ module _ (nest : Nesting) (here there : Inner) (cx : Around) (same : HoldSame he
 
     inside_same : (n : ℕ) → inside_with r list n fs ≡ inside_with t list n fs
     inside_same n = let key = key_at (Some n) list in λ k.
-        inside_of key
+        runs_or (runs_by (Some n) list fs)
+        (inside_of key
         (each_same (λ f. map (λ h. number_in cx key list f) (value_with r list n f))
         (λ f. map (λ h. number_in cx key list f) (value_with t list n f))
         (λ f is. ap (map (λ h. number_in cx key list f)) (value_same n f is)) fs are k)
-        (values_same n k)
+        (values_same n k))
 
     arrays_same : arrays_in r list fs ≡ arrays_in t list fs
     arrays_same = λ k. flat_map (λ l. array_at l.1 (values_same l.0 k) (inside_same l.0 k)) (lists_in cx list)

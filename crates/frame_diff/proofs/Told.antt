@@ -1,5 +1,5 @@
 -- What two messages tell.
-use Rattle.std.proofs.Common.{◌≡◌, ℕ, Bool, true, false, List, [], ◌++◌, refl, sym, ap, ◌∙◌, map, subst}
+use Rattle.std.proofs.Common.{◌≡◌, ℕ, Bool, true, false, List, [], ◌++◌, refl, sym, ap, ◌∙◌, subst}
 use Rattle.std.specs.Prelude.{◌&&◌, ◌==◌, codes, slice_index}
 use Rattle.std.proofs.Common.{eqb-true}
 use Rattle.nla_wire.specs.Frames.{Frame}
@@ -14,21 +14,24 @@ use Rattle.frame_shown.specs.Messages.{address_len, header_members, with_address
 use Rattle.frame_shown.specs.declared.form.Around.{Around}
 use Rattle.frame_shown.specs.declared.form.List.TheVariants as Shapes
 use Rattle.frame_diff.specs.Forests.{Member, forest, left_of}
-use Rattle.frame_diff.specs.Items.{change_item, items_told}
-use Rattle.frame_diff.specs.Laws.{messages_told}
-use Rattle.frame_diff.specs.Members.{Parts, Reading, attributes_in, fields, members_in, message_forest}
+use Rattle.frame_diff.specs.Items.{items_told}
+use Rattle.frame_diff.specs.Members.{Parts, Reading, attributes_in, fields, members_in, message_made}
 use Rattle.frame_diff.specs.Members.{is_some, list_members, message_members, named, reading, refused_in}
 use Rattle.frame_diff.specs.Members.{refused_step, unless_none}
 use Rattle.frame_diff.specs.Walked.{HasNames}
 use Rattle.frame_diff.specs.declared.side.Side.{Side}
 use Rattle.frame_diff.specs.declared.side.Side.TheVariants.{Old, New}
-use Rattle.frame_diff.proofs.Apart.{message_apart}
 use Rattle.frame_diff.proofs.Entries.{both_told}
 use Rattle.frame_diff.proofs.Inside.{same_written}
 use Rattle.frame_diff.proofs.Items.{both_are}
 use Rattle.frame_diff.proofs.Names.{names_apart}
 use Rattle.frame_diff.proofs.Parts.{NoneComes, both_lack, both_parts, lacks_both, unless_told}
 use Rattle.frame_diff.proofs.Sorts.{AreOf, members_sort, named_sort, refused_sort, sorts_apart}
+use Rattle.std.specs.List.{flat_map}
+use Rattle.frame_diff.specs.Laws.{messages_by}
+use Rattle.frame_diff.specs.Members.{message_made}
+use Rattle.frame_diff.specs.Ranges.{told_items}
+use Rattle.frame_diff.proofs.Classes.{above_runs}
 
 -- ** one beside the other
 
@@ -76,7 +79,7 @@ module _ (is_state : Bool) (cx theirs : Around) (side : Side) (own others : Part
       (sorts_apart 5 1 refl (refused_in is_state cx own.refused) (named ms) (refused_sort is_state cx own.refused)
       (named_sort ms))
 
-  parts_told : items_told side [] (message_forest is_state cx own) (message_forest is_state theirs others)
+  parts_told : items_told side [] (message_made is_state cx own) (message_made is_state theirs others)
       ≡ items_told side [] (fields (header_members own.header)) (fields (header_members others.header))
       ++ (items_told side [] (forest (attributes_of cx own)) (forest (attributes_of theirs others))
       ++ items_told side [] (forest (refused_in is_state cx own.refused))
@@ -99,8 +102,8 @@ module _ (is_state : Bool) (cx theirs : Around) (side : Side) (own others : Part
       (forest (attributes_of theirs others)))) middle
       → new ≡ with_members (objects (items_told side [] (forest (refused_in is_state cx own.refused))
       (forest (refused_in is_state theirs others.refused)))) further
-      → new ≡ with_members (objects (items_told side [] (message_forest is_state cx own)
-      (message_forest is_state theirs others))) page
+      → new ≡ with_members (objects (items_told side [] (message_made is_state cx own)
+      (message_made is_state theirs others))) page
   side_told page middle further new first then last =
       let header = items_told side [] (fields (header_members own.header)) (fields (header_members others.header)) in
       let accepted = items_told side [] (forest (attributes_of cx own)) (forest (attributes_of theirs others)) in
@@ -136,22 +139,24 @@ refused_told side is_state cx theirs own others page new =
     same_written _ _ page new
     (sym (unless_told side [] refused_step (levels 1 cx Shapes.Refused own) (levels 1 theirs Shapes.Refused others)
     ((reading 1 is_state cx).inner Shapes.Refused own) ((reading 1 is_state theirs).inner Shapes.Refused others)
-    refl))
+    refl (above_runs (is_some (frames_in (items own))) (list_members (reading 0 is_state cx) Shapes.Refused (frames_in (items own))))
+    (above_runs (is_some (frames_in (items others)))
+    (list_members (reading 0 is_state theirs) Shapes.Refused (frames_in (items others))))))
 
 -- ** both
 
 pub messages_written : (is_state : Bool) (cx other : Around) (old new : Parts) (page middle last : Draft)
-    → middle ≡ with_members (objects (items_told Old [] (message_forest is_state cx old)
-    (message_forest is_state other new))) page
-    → last ≡ with_members (objects (items_told New [] (message_forest is_state other new)
-    (message_forest is_state cx old))) middle
-    → last ≡ with_members (objects (map change_item (messages_told is_state cx other old new))) page
+    → middle ≡ with_members (objects (items_told Old [] (message_made is_state cx old)
+    (message_made is_state other new))) page
+    → last ≡ with_members (objects (items_told New [] (message_made is_state other new)
+    (message_made is_state cx old))) middle
+    → last ≡ with_members (objects (flat_map told_items (messages_by is_state cx other old new))) page
 messages_written is_state cx other old new page middle last first second =
-    let f = message_forest is_state cx old in
-    let g = message_forest is_state other new in
+    let f = message_made is_state cx old in
+    let g = message_made is_state other new in
     both_told (items_told Old [] f g) (items_told New [] g f) page middle last first second
     ∙ ap (λ os. with_members (objects os) page)
-    (both_are f g (message_apart is_state cx old) (message_apart is_state other new))
+    (both_are f g)
 
 -- ** the header
 

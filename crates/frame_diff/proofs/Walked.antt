@@ -37,6 +37,13 @@ use Rattle.frame_diff.specs.declared.walk.Attributes.{Attributes}
 use Rattle.frame_diff.proofs.Apart.{held_apart as inside_apart}
 use Rattle.frame_diff.proofs.Silent.{Has, found_first, rest_has}
 use Rattle.frame_diff.proofs.Steps.{text_is, text_same}
+use Rattle.std.proofs.Common.{inl, inr}
+use Rattle.std.specs.Prelude.{◌⊎◌}
+use Rattle.std.specs.List.{flat_map}
+use Rattle.link_vlans.specs.Pieces.{pieces_of}
+use Rattle.link_vlans.proofs.Silent.{silent}
+use Rattle.frame_diff.specs.Forests.{runs_inside}
+use Rattle.frame_diff.specs.Items.{piece_items}
 
 -- ** bytes behind a frame
 
@@ -169,20 +176,27 @@ inside_same : (side : Side) (text : List ℕ) (v : List Token) (i : Forest) → 
     → held_items side text (v, i) (Some (v, i)) ≡ []
 inside_same side text v Forest.none inner = leaf_same side text v
 inside_same side text v Forest.passed inner = refl
+inside_same side text v (Forest.vlans runs) inner = inner
 inside_same side text v (Forest.tree a b c d) inner = inner
 
-trees_same : (side : Side) (text : List ℕ) (f g : Forest) → AreApart f → Has f g → items_told side text f g ≡ []
-trees_same side text Forest.none g apart has = refl
-trees_same side text Forest.passed g apart has = refl
-trees_same side text (Forest.tree s v i rest) g apart has =
+trees_same : (side : Side) (text : List ℕ) (f g : Forest) → AreApart f → Has f g
+    → (runs_inside f ≡ [] ⊎ runs_inside f ≡ runs_inside g) → items_told side text f g ≡ []
+trees_same side text Forest.none g apart has are = refl
+trees_same side text Forest.passed g apart has are = refl
+trees_same side text (Forest.vlans runs) g apart has are = elim are [
+  | inl none ↦ ap (λ rs. flat_map (piece_items side text) (pieces_of rs (runs_inside g))) none
+  | inr same ↦ (λ k. flat_map (piece_items side text) (pieces_of runs (sym same k)))
+      ∙ ap (flat_map (piece_items side text)) (silent runs apart)
+]
+trees_same side text (Forest.tree s v i rest) g apart has are =
     let path = further text s in
     (λ k. step_items side text s (v, i) (has s (v, i) (found_first s v i rest) k) ++ items_told side text rest g)
     ∙ ap (λ l. l ++ items_told side text rest g) (beside_items side text s (v, i) (v, i))
-    ∙ (λ k. inside_same side path v i (trees_same side path i i apart.1 (λ t held h. h)) k
-    ++ trees_same side text rest g apart.2 (rest_has s v i rest g apart.0 has) k)
+    ∙ (λ k. inside_same side path v i (trees_same side path i i apart.1 (λ t held h. h) (inr refl)) k
+    ++ trees_same side text rest g apart.2 (rest_has s v i rest g apart.0 has) (inl apart.3) k)
 
 pub tree_same : (side : Side) (text : List ℕ) (i : Forest) → AreApart i → items_told side text i i ≡ []
-tree_same side text i apart = trees_same side text i i apart (λ t held h. h)
+tree_same side text i apart = trees_same side text i i apart (λ t held h. h) (inr refl)
 
 pub held_same : (side : Side) (text : List ℕ) (v : List Token) (i : Forest) → AreApart i
     → held_items side text (v, i) (Some (v, i)) ≡ []

@@ -1,5 +1,5 @@
 -- What is compared of a whole message is what is shown of it.
-use Rattle.std.proofs.Common.{◌≡◌, ℕ, false, List, [], ◌++◌, append-nil, refl, ap, ◌∙◌}
+use Rattle.std.proofs.Common.{◌≡◌, ℕ, false, List, [], ◌∷◌, ◌++◌, append-nil, refl, ap, ◌∙◌}
 use Rattle.std.specs.Prelude.{drop, slice_index}
 use Rattle.nla_wire.specs.Items.{items}
 use Rattle.link_info.specs.Rows.{AreAllRows}
@@ -8,9 +8,13 @@ use Rattle.frame_shown.specs.Messages.{address_len, frames_shown, header_members
 use Rattle.frame_shown.specs.Messages.{with_address_len}
 use Rattle.frame_shown.specs.declared.form.Around.{Around}
 use Rattle.frame_shown.specs.declared.form.List.TheVariants as Shapes
-use Rattle.frame_diff.specs.Forests.{Member, forest}
-use Rattle.frame_diff.specs.Members.{attributes_in, message_forest, message_members, named, reading, whole}
+use Rattle.frame_diff.specs.Forests.{AreApart, Forest, Member, forest, runs_inside}
+use Rattle.frame_diff.specs.Items.{step_text}
+use Rattle.frame_diff.specs.Members.{attributes_in, message_forest, message_made, message_members, named, reading}
+use Rattle.frame_diff.specs.Members.{whole}
 use Rattle.frame_diff.specs.Shown.{AreNamedApart, WholeIsShown, shown_in}
+use Rattle.frame_diff.specs.Vlans.{flat}
+use Rattle.frame_diff.proofs.Apart.{made_apart, no_runs}
 use Rattle.frame_diff.proofs.Names.{names_apart}
 use Rattle.frame_diff.proofs.Shown.{members_are, parts_shown}
 use Rattle.frame_diff.proofs.Sorts.{members_sort, named_sort, sorts_apart}
@@ -19,6 +23,15 @@ use Rattle.frame_diff.proofs.Told.{refused_none}
 header_apart : (bytes : List ℕ) → AreNamedApart (header_members bytes)
 header_apart bytes =
     ((refl, (refl, (refl, (refl, tt)))), ((refl, (refl, (refl, tt))), ((refl, (refl, tt)), ((refl, tt), (tt, tt)))))
+
+-- members are shown as they are, whatever VLANs stand inside them
+shown_flat : (f : Forest) → AreApart f → runs_inside f ≡ [] → shown_in (flat f) ≡ shown_in f
+shown_flat Forest.none apart none = refl
+shown_flat Forest.passed apart none = refl
+shown_flat (Forest.vlans []) apart none = refl
+shown_flat (Forest.vlans (r ∷ rs)) apart none = absurd cc
+shown_flat (Forest.tree s v i rest) apart none =
+    ap (λ ms. (step_text s, v) ∷ ms) (shown_flat rest apart.2 apart.3)
 
 module _ (cx : Around) (bytes : List ℕ) where
   abbrev around : Around
@@ -43,7 +56,9 @@ module _ (cx : Around) (bytes : List ℕ) where
 
   all_shown : AreAllRows cx.tables.now → shown_in (message_forest false cx (whole bytes)) ≡ shown_of cx bytes
   all_shown all =
-      ap (λ ms. shown_in (forest ms)) members_are_these
+      shown_flat (message_made false cx (whole bytes)) (made_apart false cx (whole bytes))
+      (no_runs (message_members false cx (whole bytes)))
+      ∙ ap (λ ms. shown_in (forest ms)) members_are_these
       ∙ parts_shown header attributes (sorts_apart 1 0 refl header attributes (named_sort (header_members bytes))
       (members_sort (reading 5 false around) (Shapes.Message (slice_index bytes 0))
       (frames_in (items (drop 16 bytes)))))

@@ -14,6 +14,7 @@ use Rattle.frame_diff.specs.declared.side.Side.TheVariants.{Old, New}
 use Rattle.frame_diff.proofs.Leaves.{all_told, told_is}
 use Rattle.frame_diff.proofs.Silent.{Has, found_first, rest_has}
 use Rattle.frame_diff.proofs.Steps.{step_same}
+use Rattle.frame_diff.specs.Forests.{runs_inside}
 
 -- ** members
 
@@ -24,6 +25,7 @@ held_cut s beside held = (held.0, cut s beside (wholes held.1 (inside_in beside)
 found_whole : (s : Step) (f g : Forest) → find s (wholes f g) ≡ option_map (held_cut s (find s g)) (find s f)
 found_whole s Forest.none g = refl
 found_whole s Forest.passed g = refl
+found_whole s (Forest.vlans runs) g = refl
 found_whole s (Forest.tree t v i rest) g = by (is_step t s) refl (found_whole s rest g)
   where
     by : (b : Bool) → is_step t s ≡ b → find s (wholes rest g) ≡ option_map (held_cut s (find s g)) (find s rest)
@@ -39,13 +41,21 @@ cut_apart s beside i apart = by (is_label s && is_alone beside)
     by true = tt
     by false = apart
 
+wholes_runs : (f g : Forest) → runs_inside f ≡ [] → runs_inside (wholes f g) ≡ []
+wholes_runs Forest.none g none = refl
+wholes_runs Forest.passed g none = refl
+wholes_runs (Forest.vlans runs) g none = none
+wholes_runs (Forest.tree s v i rest) g none = refl
+
 pub wholes_apart : (f g : Forest) → AreApart f → AreApart (wholes f g)
 wholes_apart Forest.none g apart = tt
 wholes_apart Forest.passed g apart = tt
+wholes_apart (Forest.vlans runs) g apart = apart
 wholes_apart (Forest.tree s v i rest) g apart = (
   found_whole s rest g ∙ ap (option_map (held_cut s (find s g))) apart.0,
   cut_apart s (find s g) (wholes i (inside_in (find s g))) (wholes_apart i (inside_in (find s g)) apart.1),
   wholes_apart rest g apart.2,
+  wholes_runs rest g apart.3,
 )
 
 -- ** beside the wholes of others
@@ -71,6 +81,7 @@ found_beside s v i g h found =
 leaf_beside : (v : List Token) (j i : Forest) → leaf_in (Some (v, wholes j i)) ≡ leaf_in (Some (v, j))
 leaf_beside v Forest.none i = refl
 leaf_beside v Forest.passed i = refl
+leaf_beside v (Forest.vlans runs) i = refl
 leaf_beside v (Forest.tree a b c d) i = refl
 
 module _ (side : Side) (path : Path) (v : List Token) where
@@ -83,6 +94,7 @@ module _ (side : Side) (path : Path) (v : List Token) where
   found_same w j i inner true = ap (leaf_change side path v) (leaf_beside w j i)
   found_same w j Forest.none inner false = ap (leaf_change side path v) (leaf_beside w j Forest.none)
   found_same w j Forest.passed inner false = refl
+  found_same w j (Forest.vlans runs) inner false = refl
   found_same w j (Forest.tree a b c d) inner false = inner
 
   member_same : (s : Step) (i : Forest) (beside : Option Held)
@@ -100,6 +112,7 @@ pub told_same : (side : Side) (path : Path) (f g h : Forest) → AreApart f → 
     → told side path (wholes f g) (wholes g h) ≡ told side path (wholes f g) g
 told_same side path Forest.none g h apart has = refl
 told_same side path Forest.passed g h apart has = refl
+told_same side path (Forest.vlans runs) g h apart has = refl
 told_same side path (Forest.tree s v i rest) g h apart has =
     let inside = cut s (find s g) (wholes i (inside_in (find s g))) in
     (λ k. member_told side (path ++ s ∷ []) v inside (told side (path ++ s ∷ []) inside)
@@ -130,6 +143,7 @@ alone_told : (side : Side) (path : Path) (v : List Token) (i : Forest)
     → opened_by (alone side) path v i ≡ member_told side path v i (told side path i) None
 alone_told side path v Forest.none = sym (alone_is side path v)
 alone_told side path v Forest.passed = refl
+alone_told side path v (Forest.vlans runs) = refl
 alone_told side path v (Forest.tree a b c d) =
     sym (told_is side path (Forest.tree a b c d) Forest.none tt
     ∙ alone_leaves side path (leaves (Forest.tree a b c d)))
@@ -164,6 +178,7 @@ module _ (side : Side) (own : Forest) (opening : Change → List Change)
       ≡ member_told side path v i (told side path i) beside
   kept_opened path v Forest.none beside is inner = leaf_opened path v (leaf_in beside) is
   kept_opened path v Forest.passed beside is inner = refl
+  kept_opened path v (Forest.vlans runs) beside is inner = refl
   kept_opened path v (Forest.tree a b c d) beside is inner = inner
 
   -- what the member tells, if it is told as a whole or not
@@ -191,6 +206,7 @@ module _ (side : Side) (own : Forest) (opening : Change → List Change)
       → flat_map opening (told side path (wholes f g) g) ≡ told side path f g
   told_opened path Forest.none g apart has = refl
   told_opened path Forest.passed g apart has = refl
+  told_opened path (Forest.vlans runs) g apart has = refl
   told_opened path (Forest.tree s v i rest) g apart has =
       let beside = find s g in
       let is : inside_at (path ++ s ∷ []) own ≡ i =

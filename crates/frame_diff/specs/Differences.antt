@@ -45,6 +45,7 @@ abbrev pub leaf_in : Option Held → Option (List Token)
 leaf_in None = None
 leaf_in (Some (v, Forest.none)) = Some v
 leaf_in (Some (v, Forest.passed)) = None
+leaf_in (Some (v, Forest.vlans runs)) = None
 leaf_in (Some (v, Forest.tree a b c d)) = None
 
 -- the members inside one
@@ -56,12 +57,14 @@ inside_in (Some held) = held.1
 abbrev pub member_told : Side → Path → List Token → Forest → (Forest → List Change) → Option Held → List Change
 member_told side path v Forest.none told beside = leaf_change side path v (leaf_in beside)
 member_told side path v Forest.passed told beside = []
+member_told side path v (Forest.vlans runs) told beside = []
 member_told side path v (Forest.tree a b c d) told beside = told (inside_in beside)
 
 -- what members tell beside others
 abbrev pub told : Side → Path → Forest → Forest → List Change
 told side path Forest.none others = []
 told side path Forest.passed others = []
+told side path (Forest.vlans runs) others = []
 told side path (Forest.tree s v i rest) others =
     member_told side (path ++ s ∷ []) v i (told side (path ++ s ∷ []) i) (find s others)
     ++ told side path rest others

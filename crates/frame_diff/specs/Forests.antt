@@ -3,6 +3,8 @@ use Rattle.std.specs.Prelude.{◌≡◌, ◌==◌, ◌&&◌, ℕ, List, [], ◌�
 use Rattle.std.specs.Prelude.{map}
 use lib.Pointwise.{pointwise}
 use Rattle.json.specs.Token.{Token}
+use Rattle.link_vlans.specs.Runs.{are_apart}
+use Rattle.link_vlans.specs.declared.run.Run.{Run}
 use Rattle.frame_diff.specs.declared.labels.Label.{Label}
 
 -- ** paths
@@ -78,10 +80,11 @@ is_path (s ∷ p) (t ∷ q) = is_step s t && is_path p q
 -- ** members
 
 -- members beside each other: the step to each, its value as it is shown, and those inside it; a value inside which
--- there are none is a leaf, unless it has some that are all passed over
+-- there are none is a leaf, unless it has some that are all passed over; or the runs of the VLANs of a port
 pub data Forest : Type 0 where
   none : Forest
   passed : Forest
+  vlans : (runs : List Run) → Forest
   tree : (step : Step) (value : List Token) (inside rest : Forest) → Forest
 
 -- a value, and the members inside it
@@ -92,13 +95,23 @@ Held = List Token × Forest
 abbrev pub find : Step → Forest → Option Held
 find t Forest.none = None
 find t Forest.passed = None
+find t (Forest.vlans runs) = None
 find t (Forest.tree s v i rest) = cond (is_step s t) (Some (v, i)) (find t rest)
 
--- no two members beside each other have one step
+-- the runs in a forest, if it holds VLANs
+abbrev pub runs_inside : Forest → List Run
+runs_inside Forest.none = []
+runs_inside Forest.passed = []
+runs_inside (Forest.vlans runs) = runs
+runs_inside (Forest.tree s v i rest) = []
+
+-- no two members beside each other have one step, no VLAN stands in two runs, and none beside members
 abbrev pub AreApart : Forest → Type 0
 AreApart Forest.none = Unit {0}
 AreApart Forest.passed = Unit {0}
-AreApart (Forest.tree s v i rest) = (find s rest ≡ None) × AreApart i × AreApart rest
+AreApart (Forest.vlans runs) = are_apart None runs ≡ true
+AreApart (Forest.tree s v i rest) =
+    (find s rest ≡ None) × AreApart i × AreApart rest × (runs_inside rest ≡ [])
 
 -- members, of which those are left out behind which another one of their step stands
 abbrev pub Member : Type 0
@@ -129,11 +142,13 @@ under s ls = map (λ l. (s ∷ l.0, l.1)) ls
 abbrev pub leaves_at : Step → List Token → Forest → List Leaf → List Leaf
 leaves_at s v Forest.none ls = (s ∷ [], v) ∷ []
 leaves_at s v Forest.passed ls = []
+leaves_at s v (Forest.vlans runs) ls = []
 leaves_at s v (Forest.tree a b c d) ls = under s ls
 
 abbrev pub leaves : Forest → List Leaf
 leaves Forest.none = []
 leaves Forest.passed = []
+leaves (Forest.vlans runs) = []
 leaves (Forest.tree s v i rest) = leaves_at s v i (leaves i) ++ leaves rest
 
 -- the first value at a path

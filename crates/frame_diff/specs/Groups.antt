@@ -5,6 +5,7 @@ use Rattle.std.specs.List.{flat_map}
 use Rattle.nla_wire.specs.Frames.{Frame}
 use Rattle.nla_wire.specs.Items.{items}
 use Rattle.link_info.specs.Tables.{frames_in}
+use Rattle.link_vlans.specs.declared.run.Run.{Run}
 use Rattle.shown.specs.Drafts.{Members, list_of}
 use Rattle.json.specs.Token.{Token}
 use Rattle.frame_shown.specs.Frames.{list_shown}
@@ -18,6 +19,7 @@ use Rattle.frame_diff.specs.Inside.{above}
 use Rattle.frame_diff.specs.Items.{joined}
 use Rattle.frame_diff.specs.Keys.{key_at, number_in}
 use Rattle.frame_diff.specs.Members.{Reading, are_plain, entries_in, entry_with, frame_member, inside_of, list_by}
+use Rattle.frame_diff.specs.Members.{runs_by, runs_or}
 use Rattle.frame_diff.specs.Members.{named_in, numbers_by, value_in, value_with, values_inside, values_with}
 use Rattle.frame_diff.specs.Settled.{settled}
 use Rattle.frame_diff.specs.Values.{array_shown, kept_at, kept_inside_at, listed_shown}
@@ -128,9 +130,16 @@ numbers_at nest inner is_state a =
     (picked_by (reading_at nest inner is_state a.around.now) a.number a.list) (frames_in (items a.bytes.now))
 
 -- each by its number, or by its place
-abbrev pub group_inside : Showing → Holding → Bool → Attributes → Forest
-group_inside nest inner is_state a = inside_of (key_at a.number a.list)
+abbrev pub labelled_inside : Showing → Holding → Bool → Attributes → Forest
+labelled_inside nest inner is_state a = inside_of (key_at a.number a.list)
     (numbers_at nest inner is_state a) (group_at nest inner is_state a)
+
+-- the runs of VLANs, where it is a list of these
+abbrev pub runs_at : Attributes → Option (List Run)
+runs_at a = runs_by a.number a.list (frames_in (items a.bytes.now))
+
+abbrev pub group_inside : Showing → Holding → Bool → Attributes → Forest
+group_inside nest inner is_state a = runs_or (runs_at a) (labelled_inside nest inner is_state a)
 
 abbrev pub group_held : Showing → Holding → Bool → Attributes → Held
 group_held nest inner is_state a = group_by (group_at nest inner is_state a) (group_inside nest inner is_state a)

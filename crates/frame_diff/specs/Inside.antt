@@ -1,8 +1,8 @@
 -- What stands inside values and lists beside each other.
-use Rattle.std.specs.Prelude.{◌≡◌, ℕ, zero, suc, List, Bool, true, false, Option, Some, None}
+use Rattle.std.specs.Prelude.{◌≡◌, ℕ, zero, suc, List, [], Bool, true, false, Option, Some, None}
 use Rattle.frame_shown.specs.declared.form.Around.{Around}
 use Rattle.frame_shown.specs.declared.form.List.{List as Shape}
-use Rattle.frame_diff.specs.Forests.{Forest, Step, field_step, find}
+use Rattle.frame_diff.specs.Forests.{Forest, Step, field_step, find, runs_inside}
 use Rattle.frame_diff.specs.Members.{inner_by}
 use Rattle.frame_diff.specs.Walked.{Holding, Showing, reading_at}
 use Rattle.frame_diff.specs.declared.walk.Attributes.{Attributes}
@@ -11,6 +11,7 @@ use Rattle.frame_diff.specs.declared.walk.Attributes.{Attributes}
 abbrev pub has_none : Forest → Bool
 has_none Forest.none = true
 has_none Forest.passed = false
+has_none (Forest.vlans runs) = false
 has_none (Forest.tree s v i rest) = false
 
 -- the step to a field
@@ -38,6 +39,11 @@ is_of_object Step.other = true
 abbrev pub HoldsNoField : Holding → Type 0
 HoldsNoField inner = (is_state : Bool) (cx : Around) (list : Shape) (p : List ℕ) (name : List ℕ)
     → find (field_step name) (inner is_state cx list p) ≡ None
+
+-- and none is of VLANs
+abbrev pub HoldsNoRuns : Holding → Type 0
+HoldsNoRuns inner = (is_state : Bool) (cx : Around) (list : Shape) (p : List ℕ)
+    → runs_inside (inner is_state cx list p) ≡ []
 
 -- the members of a list, where there is one
 abbrev pub inside_list : Holding → Bool → Option Attributes → Forest

@@ -1,12 +1,21 @@
 -- What is told, as it is written: an object for each change, with its path, the old value and the new one.
 use Rattle.std.specs.Prelude.{ℕ, List, [], ◌∷◌, ◌++◌, Bool, true, false, Option, Some, None, codes, cond, decimal}
+use Rattle.std.specs.Prelude.{option_map}
+use Rattle.std.specs.List.{flat_map}
 use Rattle.json.specs.Token.{Token, string}
 use Rattle.shown.specs.Drafts.{Members}
 use Rattle.frame_diff.specs.Differences.{Change, inside_in, is_shown_same, leaf_in}
-use Rattle.frame_diff.specs.Forests.{Forest, Held, Path, Step, find, is_label}
+use Rattle.frame_diff.specs.Forests.{Forest, Held, Path, Step, find, is_label, runs_inside}
 use Rattle.frame_diff.specs.Labels.{label_text}
 use Rattle.frame_diff.specs.Sides.{side_name}
+use Rattle.frame_diff.specs.Vlans.{flags_shown, range_text, run_shown}
 use Rattle.frame_diff.specs.Wholes.{cut}
+use Rattle.frame_shown.specs.Values.{number_tokens}
+use Rattle.link_vlans.specs.Pieces.{pieces_of}
+use Rattle.link_vlans.specs.Runs.{id_at}
+use Rattle.link_vlans.specs.declared.pieces.Piece.{Piece}
+use Rattle.link_vlans.specs.declared.run.Run.{Run}
+use Rattle.link_vlans.specs.declared.run.Said.{Said}
 use Rattle.frame_diff.specs.declared.side.Side.{Side}
 use Rattle.frame_diff.specs.declared.side.Side.TheVariants.{Old, New}
 
@@ -70,12 +79,32 @@ leaf_items New text v (Some w) = []
 abbrev pub member_items : Side → List ℕ → List Token → Forest → (Forest → List Members) → Option Held → List Members
 member_items side text v Forest.none items beside = leaf_items side text v (leaf_in beside)
 member_items side text v Forest.passed items beside = []
+member_items side text v (Forest.vlans runs) items beside = items (inside_in beside)
 member_items side text v (Forest.tree a b c d) items beside = items (inside_in beside)
+
+-- of VLANs as one change: each beside what the other one says of them
+abbrev pub id_items : Side → List ℕ → Option ℕ → Option ℕ → List Members
+id_items side text None other = []
+id_items side text (Some id) other =
+    leaf_items side (joined text (codes "id")) (number_tokens id) (option_map number_tokens other)
+
+abbrev pub vlan_items : Side → List ℕ → ℕ → Said → Said → List Members
+vlan_items side text vid s b = id_items side text (id_at vid s.ahead) (id_at vid b.ahead)
+    ++ leaf_items side (joined text (codes "flags")) (flags_shown s.flags) (Some (flags_shown b.flags))
+
+abbrev pub piece_items_by : Side → List ℕ → Run → Option Said → List Members
+piece_items_by side text r None = alone_item text side (run_shown r) ∷ []
+piece_items_by side text r (Some b) = vlan_items side text r.first r.said b
+
+abbrev pub piece_items : Side → List ℕ → Piece → List Members
+piece_items side text p = piece_items_by side (text ++ range_text p.own) p.own p.beside
 
 -- a value with a label that stands alone is told as a whole
 abbrev pub items_told : Side → List ℕ → Forest → Forest → List Members
 items_told side text Forest.none others = []
 items_told side text Forest.passed others = []
+items_told side text (Forest.vlans runs) others =
+    flat_map (piece_items side text) (pieces_of runs (runs_inside others))
 items_told side text (Forest.tree s v i rest) others =
     member_items side (further text s) v (cut s (find s others) i) (items_told side (further text s) i) (find s others)
     ++ items_told side text rest others

@@ -4,7 +4,7 @@ use Rattle.std.specs.Prelude.{slice_get}
 use Rattle.std.specs.List.{AllByRecursion}
 use Rattle.shown.specs.Drafts.{Members}
 use Rattle.frame_diff.specs.Forests.{Held, Step, find}
-use Rattle.frame_diff.specs.Groups.{group_at, group_inside, is_entries, numbers_at, value_at}
+use Rattle.frame_diff.specs.Groups.{group_at, labelled_inside, is_entries, numbers_at, value_at}
 use Rattle.frame_diff.specs.Keys.{number_of}
 use Rattle.frame_diff.specs.Labels.{place_of}
 use Rattle.frame_diff.specs.Values.{kept_at, kept_held, kept_numbers}
@@ -70,7 +70,7 @@ StandsFor own others a =
 -- the same is found in it at steps
 abbrev pub FindsAt : {X : Type 0} → (X → Step) → Attributes → Attributes → Type 0
 FindsAt {X} step others a = (nest : Showing) (inner : Holding) (is_state : Bool) (x : X)
-    → find (step x) (group_inside nest inner is_state a) ≡ find (step x) (group_inside nest inner is_state others)
+    → find (step x) (labelled_inside nest inner is_state a) ≡ find (step x) (labelled_inside nest inner is_state others)
 
 -- the value with a label
 abbrev pub value_of : {X : Type 0} → Label → List (Labelled X) → Option X

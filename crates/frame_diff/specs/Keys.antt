@@ -33,14 +33,12 @@ use Rattle.frame_diff.specs.declared.walk.Attribute.{Attribute}
 
 -- the name of the number
 abbrev pub key_name : Key → List ℕ
-key_name Keys.Vid = codes "vid"
 key_name Keys.Msti = codes "msti"
 key_name Keys.From = codes "from"
 key_name Keys.Vf = codes "vf"
 key_name Keys.Number = codes "number"
 
 abbrev pub is_key : Key → Option Key → Bool
-is_key Keys.Vid (Some Keys.Vid) = true
 is_key Keys.Msti (Some Keys.Msti) = true
 is_key Keys.From (Some Keys.From) = true
 is_key Keys.Vf (Some Keys.Vf) = true
@@ -49,7 +47,6 @@ is_key _ _ = false
 
 -- of the values of the list of a number, or of all
 abbrev pub key_at : Option ℕ → Shape → Option Key
-key_at (Some n) (Shapes.Of Places.BridgeSpec) = Some Keys.Vid
 key_at (Some n) (Shapes.Of Places.BridgeMst) = Some Keys.Msti
 key_at (Some n) (Shapes.Of Places.VlanQos) = Some Keys.From
 key_at None (Shapes.Entries Groups.Info) = Some Keys.Vf

@@ -1,5 +1,5 @@
 -- What is told of members beside others is what differs between the leaves of both.
-use Rattle.std.specs.Prelude.{◌≡◌, ℕ, Bool, true, false, List, [], ◌∷◌, Some, map}
+use Rattle.std.specs.Prelude.{◌≡◌, ℕ, Bool, true, false, List, [], ◌∷◌, Some}
 use Rattle.std.specs.List.{flat_map}
 use Rattle.nla_wire.specs.Frames.{Frame, number}
 use Rattle.frame_shown.specs.Tables.{is_each, row_in}
@@ -9,8 +9,10 @@ use Rattle.frame_diff.specs.Beside.{held_of}
 use Rattle.frame_diff.specs.Counters.{action_at, action_in, is_clear, is_passed, level_in}
 use Rattle.frame_diff.specs.Differences.{Change, both_told, changes, is_told, path_of, told}
 use Rattle.frame_diff.specs.Forests.{AreApart, Forest, Path, Step, leaves}
-use Rattle.frame_diff.specs.Items.{change_item, items_told, path_text}
-use Rattle.frame_diff.specs.Members.{Parts, Reading, frame_member, is_unnamed, message_forest, value_with, way_inside}
+use Rattle.frame_diff.specs.Items.{items_told, path_text}
+use Rattle.frame_diff.specs.Members.{Parts, Reading, frame_member, is_unnamed, message_forest, message_made}
+use Rattle.frame_diff.specs.Members.{value_with, way_inside}
+use Rattle.frame_diff.specs.Ranges.{Told, apart, both_by, told_by, told_items}
 use Rattle.frame_diff.specs.Wholes.{between, opened, wholes}
 use Rattle.frame_diff.specs.declared.side.Side.{Side}
 
@@ -30,10 +32,10 @@ EachIsToldOnce = (old new : Forest) → AreApart old → AreApart new → AreOnc
 abbrev pub SameIsSilent : Type 0
 SameIsSilent = (side : Side) (path : Path) (f : Forest) → AreApart f → told side path f f ≡ []
 
--- so it is written: a change for each, where values that are told as a whole are leaves
+-- so it is written: VLANs beside each other that changed alike as one change
 abbrev pub ItemsAreChanges : Type 0
 ItemsAreChanges = (side : Side) (path : Path) (f g : Forest)
-    → items_told side (path_text path) f g ≡ map change_item (told side path (wholes f g) g)
+    → items_told side (path_text path) f g ≡ flat_map told_items (told_by side path f g)
 
 -- leaf by leaf, what is told of two is what differs between the leaves of both
 abbrev pub WholesAreLeaves : Type 0
@@ -46,6 +48,16 @@ WholesAreLeaves = (old new : Forest) → AreApart old → AreApart new
 abbrev pub messages_told : Bool → Around → Around → Parts → Parts → List Change
 messages_told is_state cx other old new =
     between (message_forest is_state cx old) (message_forest is_state other new)
+
+-- as it is written
+abbrev pub messages_by : Bool → Around → Around → Parts → Parts → List Told
+messages_by is_state cx other old new =
+    both_by (message_made is_state cx old) (message_made is_state other new)
+
+-- VLAN by VLAN, what is written of two messages is what is told of them
+abbrev pub RangesAreChanges : Type 0
+RangesAreChanges = (is_state : Bool) (cx other : Around) (old new : Parts)
+    → flat_map apart (messages_by is_state cx other old new) ≡ messages_told is_state cx other old new
 
 -- it is what differs between all leaves of both, where a value with a label that stands alone is a leaf; leaf by leaf
 -- it is what differs between all leaves; and each path is told once

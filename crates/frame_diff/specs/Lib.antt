@@ -1,5 +1,6 @@
 pub mod Sides
 pub mod Forests
+pub mod Vlans
 pub mod Differences
 pub mod Wholes
 pub mod Counters
@@ -10,6 +11,7 @@ pub mod Labels
 pub mod Members
 pub mod Beside
 pub mod Items
+pub mod Ranges
 pub mod Shown
 pub mod Names
 pub mod Still

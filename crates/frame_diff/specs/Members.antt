@@ -12,7 +12,10 @@ use Rattle.link_info.specs.Meanings.{Meaning, Raw, Present, Number, Signed, Word
 use Rattle.link_info.specs.Meanings.{Members as Fields, Elements, Listed, Nested, read_as}
 use Rattle.link_info.specs.Styles.{plain_size}
 use Rattle.link_info.specs.Tables.{frames_in}
+use Rattle.link_info.specs.declared.place.Place.TheVariants as Places
 use Rattle.link_state.specs.Table.{Action}
+use Rattle.link_vlans.specs.Runs.{runs_in}
+use Rattle.link_vlans.specs.declared.run.Run.{Run}
 use Rattle.shown.specs.Drafts.{Members, list_of, object_of}
 use Rattle.frame_shown.specs.Accepted.{accepted, refused as not_accepted}
 use Rattle.frame_shown.specs.Frames.{items_in, levels, way_shown}
@@ -41,6 +44,7 @@ use Rattle.frame_diff.specs.Keys.{key_at, number_in}
 use Rattle.frame_diff.specs.Labels.{keyed}
 pub use Rattle.frame_diff.specs.Named.{is_unnamed}
 use Rattle.frame_diff.specs.Settled.{settled}
+use Rattle.frame_diff.specs.Vlans.{flat}
 use Rattle.frame_diff.specs.declared.keys.Key.{Key}
 use Rattle.frame_diff.specs.declared.keys.Key.TheVariants as Keys
 
@@ -227,6 +231,7 @@ value_in (Some held) = held.0
 abbrev pub unless_none : Step → List Token → Forest → List Member
 unless_none s value Forest.none = []
 unless_none s value Forest.passed = []
+unless_none s value (Forest.vlans runs) = []
 unless_none s value (Forest.tree a b c d) = (s, (value, Forest.tree a b c d)) ∷ []
 
 -- at a step, where there are any: each at its place, or by its number
@@ -265,10 +270,25 @@ value_with r list n f = cond (number f == n)
 abbrev pub values_with : Reading → Shape → ℕ → List Frame → List (Option Held)
 values_with r list n fs = flat_map (value_with r list n) fs
 
+-- the runs of the VLANs of a port, in a list that a kernel writes so
+abbrev pub unless_empty : Option (List Run) → Option (List Run)
+unless_empty None = None
+unless_empty (Some []) = None
+unless_empty (Some (r ∷ rs)) = Some (r ∷ rs)
+
+abbrev pub runs_by : Option ℕ → Shape → List Frame → Option (List Run)
+runs_by (Some n) (Shapes.Of Places.BridgeSpec) fs = unless_empty (runs_in n fs)
+runs_by _ _ fs = None
+
+abbrev pub runs_or : Option (List Run) → Forest → Forest
+runs_or None inside = inside
+runs_or (Some runs) inside = Forest.vlans runs
+
 -- and what stands inside it
 abbrev pub inside_with : Reading → Shape → ℕ → List Frame → Forest
 inside_with r list n fs = let kind = key_at (Some n) list in
-    inside_of kind (numbers_by (number_in r.around kind list) (value_with r list n) fs) (values_with r list n fs)
+    runs_or (runs_by (Some n) list fs)
+    (inside_of kind (numbers_by (number_in r.around kind list) (value_with r list n) fs) (values_with r list n fs))
 
 -- a list under its name, where it has a value
 abbrev pub array_at : List ℕ → List (Option Held) → Forest → List Member
@@ -362,8 +382,12 @@ message_members is_state cx m =
     named (header_members m.header) ++ attributes_in is_state cx (slice_index m.header 0) m.attributes
     ++ refused_in is_state cx m.refused
 
+abbrev pub message_made : Bool → Around → Parts → Forest
+message_made is_state cx m = forest (message_members is_state cx m)
+
+-- with each VLAN as a member
 abbrev pub message_forest : Bool → Around → Parts → Forest
-message_forest is_state cx m = forest (message_members is_state cx m)
+message_forest is_state cx m = flat (message_made is_state cx m)
 
 -- of bytes that are a message; and of those that are read leniently
 abbrev pub whole : List ℕ → Parts

@@ -19,6 +19,7 @@ use Rattle.frame_diff.specs.Members.{fields, members_in, message_forest, reading
 abbrev pub shown_in : Forest → Members
 shown_in Forest.none = []
 shown_in Forest.passed = []
+shown_in (Forest.vlans runs) = []
 shown_in (Forest.tree s v i rest) = (step_text s, v) ∷ shown_in rest
 
 -- no two lists of values have one name

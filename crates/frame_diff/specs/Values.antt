@@ -20,6 +20,7 @@ use Rattle.frame_diff.specs.Counters.{is_passed}
 use Rattle.frame_diff.specs.Forests.{Forest, Held}
 use Rattle.frame_diff.specs.Labels.{keyed}
 use Rattle.frame_diff.specs.Members.{as_object, kept_by, numbers_by}
+use Rattle.frame_diff.specs.Vlans.{flags_shown, run_shown}
 use Rattle.frame_diff.specs.declared.kept.Entry.{Entry}
 use Rattle.frame_diff.specs.declared.kept.Entry.TheVariants as Entries
 use Rattle.frame_diff.specs.declared.kept.Kept.{Kept}
@@ -47,6 +48,8 @@ value_shown nest cx (Values.Spelled plain bytes) = spelled plain bytes.now
 value_shown nest cx (Values.Field field bytes place) = field_shown cx field bytes.now place
 value_shown nest cx (Values.Octets bytes) = hexadecimal bytes.now
 value_shown nest cx (Values.LinkFlags bits) = flags_of link_flag_names bits
+value_shown nest cx (Values.VlanFlags bits) = flags_shown bits
+value_shown nest cx (Values.Vlans run) = run_shown run
 value_shown nest cx (Values.Listed list p) = listed_shown nest cx list p.now
 value_shown nest cx (Values.Array list n p) = array_shown nest cx list n p.now
 value_shown nest cx (Values.Kept name kind p) = object_of (frame_members name.now kind p.now)

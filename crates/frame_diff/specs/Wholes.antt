@@ -18,6 +18,7 @@ cut s beside i = cond (is_label s && is_alone beside) Forest.none i
 abbrev pub wholes : Forest → Forest → Forest
 wholes Forest.none others = Forest.none
 wholes Forest.passed others = Forest.passed
+wholes (Forest.vlans runs) others = Forest.vlans runs
 wholes (Forest.tree s v i rest) others =
     Forest.tree s v (cut s (find s others) (wholes i (inside_in (find s others)))) (wholes rest others)
 
@@ -36,6 +37,7 @@ inside_at (s ∷ path) f = inside_at path (inside_in (find s f))
 abbrev pub opened_by : (Path → List Token → Change) → Path → List Token → Forest → List Change
 opened_by change path v Forest.none = change path v ∷ []
 opened_by change path v Forest.passed = []
+opened_by change path v (Forest.vlans runs) = []
 opened_by change path v (Forest.tree a b c d) = map (λ l. change (path ++ l.0) l.1) (leaves (Forest.tree a b c d))
 
 -- a change of two objects, leaf by leaf

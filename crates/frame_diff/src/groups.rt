@@ -1,6 +1,6 @@
 //! What a list of values tells beside another one, place by place.
 
-ghost use Rattle.std.specs.Prelude.{◌≡◌, ◌<◌, ◌+◌, ◌^◌, ◌∷◌, [], ℕ, Bool, IfSome, None, OnOk, Some, decimal, false};
+ghost use Rattle.std.specs.Prelude.{◌≡◌, ◌<◌, ◌+◌, ◌^◌, ◌∷◌, [], ℕ, Bool, IfOk, IfSome, None, OnOk, Some, decimal, false};
 ghost use Rattle.std.specs.Prelude.{not};
 ghost use Rattle.std.specs.Prelude.{map, option_map, true};
 ghost use Rattle.nla_wire.specs.Items.{items};
@@ -14,6 +14,7 @@ ghost use Rattle.frame_diff.specs.Differences.{inside_in, leaf_in};
 ghost use Rattle.frame_diff.specs.Forests.{Step, find};
 ghost use Rattle.frame_diff.specs.Groups.{all_of, flat_shown, is_valued, picked_by, first_by, first_of};
 ghost use Rattle.frame_diff.specs.Groups.{group_at, group_held, group_inside, group_step, is_entries};
+ghost use Rattle.frame_diff.specs.Groups.{labelled_inside, runs_at};
 ghost use Rattle.frame_diff.specs.Groups.{IsFlat, IsSameEntry, is_group, is_same_group, list_held};
 ghost use Rattle.frame_diff.specs.Groups.{next_place};
 ghost use Rattle.frame_diff.specs.Groups.{picked, place_items, rest_by, rest_of, value_at, values_by};
@@ -37,6 +38,7 @@ use crate::lists::{is_without, none_of, tell_object};
 use crate::named::{is_each, is_unnamed};
 use crate::nests::is_nest;
 use crate::path::{join, join_place};
+use crate::ranges::{runs_beside, runs_of, tell_vlans};
 use crate::same::is_same_list;
 use crate::value::tell_value;
 use crate::walk::{Attribute, Attributes, Pass, Walk};
@@ -45,7 +47,7 @@ use frame_shown::depth::Above;
 use frame_shown::form::{Form, List, Table, Way, row_in};
 use nla_wire::{NlaBuffer, NlasIterator};
 use shown::Page;
-use std::alloc::AllocError;
+use std::alloc::{AllocError, Global};
 
 /// An attribute of a list, if it has a name.
 fn named<'a>(is_state: bool, list: Attributes<'a>, frame: &NlaBuffer<'a>) -> Option<Attribute<'a>>
@@ -756,8 +758,8 @@ fn tell_by_place<W: Walk, V: Values>(
     requires entries { is_entries others.list ≡ is_entries own.list }
     requires alike { pass.is_alike ≡ true → AreBeside own (Some others) }
     ensures { OnOk result (page.new ≡ with_members (objects (items_told pass.side path.now
-        (group_inside W.nest W.inner pass.is_state own.entry)
-        (group_inside W.nest W.inner pass.is_state others.entry))) page.old) }
+        (labelled_inside W.nest W.inner pass.is_state own.entry)
+        (labelled_inside W.nest W.inner pass.is_state others.entry))) page.old) }
 {
     let others = placed_beside(own, others);
     tell_places::<W, V>(texts, pass, page, path, own, others)
@@ -779,11 +781,87 @@ fn tell_by_key<W: Walk, V: Values>(
     requires entries { is_entries others.list ≡ is_entries own.list }
     requires alike { pass.is_alike ≡ true → AreBeside own (Some others) }
     ensures { OnOk result (page.new ≡ with_members (objects (items_told pass.side path.now
-        (group_inside W.nest W.inner pass.is_state own.entry)
-        (group_inside W.nest W.inner pass.is_state others.entry))) page.old) }
+        (labelled_inside W.nest W.inner pass.is_state own.entry)
+        (labelled_inside W.nest W.inner pass.is_state others.entry))) page.old) }
 {
     let others = keyed_beside(key, own, others);
     tell_keyed::<W, V>(texts, pass, page, path, key, own, others)
+}
+
+/// Another list; a list without values, where it is one of VLANs.
+fn labelled_beside<'a>(
+    alloc: Global,
+    own: Attributes<'a>,
+    others: Attributes<'a>,
+) -> Result<Attributes<'a>, AllocError>
+    ensures found { IfOk result (λ a. (nest : Showing) (inner : Holding) (is_state : Bool) (s : Step)
+        → find s (labelled_inside nest inner is_state a)
+        ≡ find s (group_inside nest inner is_state others.entry)) }
+    ensures stands { IfOk result (λ a. StandsFor own.entry others.entry a) }
+{
+    if runs_of(alloc, others)?.is_some() {
+        return Ok(none_of(own));
+    }
+    Ok(others)
+}
+
+/// Tells of the values of a list that is none of VLANs, by their labels or by their places.
+fn tell_labels<W: Walk, V: Values>(
+    texts: &mut Texts,
+    pass: Pass,
+    page: &mut Page,
+    path: &str,
+    own: Attributes<'_>,
+    others: Attributes<'_>,
+) -> Result<(), AllocError>
+    requires runs { runs_at own ≡ None }
+    requires fits { V.fits own.list }
+    requires names { HasNames own.around.now }
+    requires entries { is_entries others.list ≡ is_entries own.list }
+    requires alike { pass.is_alike ≡ true → AreBeside own (Some others) }
+    ensures { OnOk result (page.new ≡ with_members (objects (items_told pass.side path.now
+        (group_inside W.nest W.inner pass.is_state own.entry)
+        (group_inside W.nest W.inner pass.is_state others.entry))) page.old) }
+{
+    let others = labelled_beside(texts.alloc, own, others)?;
+    match key_in(own) {
+        Some(key) => tell_by_key::<W, V>(texts, pass, page, path, key, own, others),
+        None => tell_by_place::<W, V>(texts, pass, page, path, own, others),
+    }
+}
+
+/// Tells of the values of a list beside those of another one.
+fn tell_inside<W: Walk, V: Values>(
+    texts: &mut Texts,
+    pass: Pass,
+    page: &mut Page,
+    path: &str,
+    own: Attributes<'_>,
+    others: Attributes<'_>,
+) -> Result<(), AllocError>
+    requires fits { V.fits own.list }
+    requires names { HasNames own.around.now }
+    requires entries { is_entries others.list ≡ is_entries own.list }
+    requires alike { pass.is_alike ≡ true → AreBeside own (Some others) }
+    ensures { OnOk result (page.new ≡ with_members (objects (items_told pass.side path.now
+        (group_inside W.nest W.inner pass.is_state own.entry)
+        (group_inside W.nest W.inner pass.is_state others.entry))) page.old) }
+{
+    match runs_of(texts.alloc, own)? {
+        Some(runs) => {
+            let theirs = runs_beside(texts.alloc, others)?;
+            tell_vlans(
+                texts,
+                own,
+                page,
+                path,
+                pass.side,
+                runs.as_slice(),
+                theirs.as_slice(),
+            )
+        }
+        None => tell_labels::<W, V>(texts, pass, page, path, own, others),
+    }
 }
 
 /// Tells of a list of values beside another one, if there is one.
@@ -810,10 +888,7 @@ pub(crate) fn tell_values<W: Walk, V: Values>(
     }
     let (others, is_alike) = values_beside::<W>(pass, own, beside);
     let pass = Pass { is_alike, ..pass };
-    match key_in(own) {
-        Some(key) => tell_by_key::<W, V>(texts, pass, page, path, key, own, others),
-        None => tell_by_place::<W, V>(texts, pass, page, path, own, others),
-    }
+    tell_inside::<W, V>(texts, pass, page, path, own, others)
 }
 
 /// Whether two lists are lists of values under one name.

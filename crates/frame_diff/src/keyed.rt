@@ -4,7 +4,7 @@ ghost use Rattle.std.specs.Prelude.{◌≡◌, ◌++◌, [], ◌∷◌, Bool, If
 ghost use Rattle.std.specs.Prelude.{Some, option_map, slice_get, true};
 ghost use Rattle.shown.specs.Drafts.{with_members};
 ghost use Rattle.frame_shown.specs.Items.{objects};
-ghost use Rattle.frame_diff.specs.Groups.{group_inside, is_entries, picked, value_at};
+ghost use Rattle.frame_diff.specs.Groups.{labelled_inside, is_entries, picked, value_at};
 ghost use Rattle.frame_diff.specs.Items.{items_told};
 ghost use Rattle.frame_diff.specs.Keyed.{AreIn, AreLabelled, FindsAt, IsIn, StandsFor, helds_now, labels_now};
 ghost use Rattle.frame_diff.specs.Keyed.{numbers_now, picked_numbers, value_of, values_now};
@@ -291,8 +291,8 @@ pub(crate) fn tell_keyed<W: Walk, V: Values>(
     requires entries { is_entries others.list ≡ is_entries own.list }
     requires alike { pass.is_alike ≡ true → AreBeside own (Some others) }
     ensures { OnOk result (page.new ≡ with_members (objects (items_told pass.side path.now
-        (group_inside W.nest W.inner pass.is_state own.entry)
-        (group_inside W.nest W.inner pass.is_state others.entry))) page.old) }
+        (labelled_inside W.nest W.inner pass.is_state own.entry)
+        (labelled_inside W.nest W.inner pass.is_state others.entry))) page.old) }
 {
     let values = values_in(texts.alloc, pass.is_state, key, own)?;
     let theirs = values_in(texts.alloc, pass.is_state, key, others)?;

@@ -23,8 +23,6 @@ use nla_wire::fields::u32_at;
 /// What tells the values of a list apart: a number that each of them says.
 #[derive(Clone, Copy, Drop)]
 pub enum Key {
-    /// That of a VLAN.
-    Vid,
     /// That of a spanning tree.
     Msti,
     /// The priority that is mapped to another one.
@@ -41,7 +39,6 @@ impl Key {
         ensures { result.now ≡ key_name self }
     {
         match self {
-            Key::Vid => "vid",
             Key::Msti => "msti",
             Key::From => "from",
             Key::Vf => "vf",
@@ -55,7 +52,6 @@ pub(crate) fn is_key(key: Key, other: Option<Key>) -> bool
     ensures { result ≡ is_key key other }
 {
     match (key, other) {
-        (Key::Vid, Some(Key::Vid)) => true,
         (Key::Msti, Some(Key::Msti)) => true,
         (Key::From, Some(Key::From)) => true,
         (Key::Vf, Some(Key::Vf)) => true,
@@ -69,7 +65,6 @@ pub(crate) fn key_in(list: Attributes<'_>) -> Option<Key>
     ensures { result ≡ key_at list.entry.number list.entry.list }
 {
     match (list.number, list.list) {
-        (Some(_), List::Of(Place::BridgeSpec)) => Some(Key::Vid),
         (Some(_), List::Of(Place::BridgeMst)) => Some(Key::Msti),
         (Some(_), List::Of(Place::VlanQos)) => Some(Key::From),
         (None, List::Entries(Group::Info)) => Some(Key::Vf),

@@ -1,7 +1,7 @@
 //! What is told of two messages is what differs between all their leaves.
 
 ghost use Rattle.frame_diff.specs.Laws.{CountersArePassed, EachIsToldOnce, ItemsAreChanges, MessagesAreTold};
-ghost use Rattle.frame_diff.specs.Laws.{SameIsSilent, WhatDiffersIsTold, WholesAreLeaves};
+ghost use Rattle.frame_diff.specs.Laws.{RangesAreChanges, SameIsSilent, WhatDiffersIsTold, WholesAreLeaves};
 ghost use Rattle.frame_diff.specs.Names.{NamesAreApart};
 ghost use Rattle.frame_diff.specs.PathTexts.{PathTextsAreApart};
 ghost use Rattle.frame_diff.specs.Shown.{MembersAreShown, WholeIsShown};
@@ -45,9 +45,15 @@ pub fn law_settled()
     ensures { WholesStandStill }
 {}
 
-/// What is written behind the text of a path is an object for each change that is told.
+/// What is written behind the text of a path is an object for each change that is told; of VLANs beside each other that
+/// changed alike it is one.
 pub fn law_items()
     ensures { ItemsAreChanges }
+{}
+
+/// VLAN by VLAN, what is written of two messages is what is told of them.
+pub fn law_ranges()
+    ensures { RangesAreChanges }
 {}
 
 /// The members of a list of attributes are what is shown of it, where no two numbers have one name; and so are those of

@@ -1,6 +1,7 @@
 //! What differs between two messages.
 
 ghost use Rattle.std.specs.Prelude.{◌≡◌, ◌==◌, ◌&&◌, [], IfOk, OnOk, map, slice_index, true};
+ghost use Rattle.std.specs.List.{flat_map};
 ghost use Rattle.nla_wire.specs.Items.{items};
 ghost use Rattle.link_info.specs.Rows.{AreAllRows};
 ghost use Rattle.link_info.specs.Tables.{frames_in};
@@ -10,10 +11,11 @@ ghost use Rattle.frame_shown.specs.Messages.{address_len, header_members, with_a
 ghost use Rattle.frame_shown.specs.Plain.{plain};
 ghost use Rattle.frame_shown.specs.declared.form.Around.{Around as Beside};
 ghost use Rattle.frame_diff.specs.Forests.{forest};
-ghost use Rattle.frame_diff.specs.Items.{change_item, items_told};
-ghost use Rattle.frame_diff.specs.Laws.{messages_told};
-ghost use Rattle.frame_diff.specs.Members.{attributes_in, fields, message_forest, refused_in, whole};
+ghost use Rattle.frame_diff.specs.Items.{items_told};
+ghost use Rattle.frame_diff.specs.Laws.{messages_by};
+ghost use Rattle.frame_diff.specs.Members.{attributes_in, fields, message_made, refused_in, whole};
 ghost use Rattle.frame_diff.specs.Messages.{parts_of, with_order};
+ghost use Rattle.frame_diff.specs.Ranges.{told_items};
 ghost use Rattle.frame_diff.specs.Rows.{row_shown};
 
 use crate::leaf::{Texts, Value};
@@ -220,8 +222,8 @@ pub(crate) fn tell_side(
     requires rows { AreAllRows cx.now.tables.now }
     requires alike { pass.is_alike ≡ true → cx.now ≡ theirs.now }
     ensures { OnOk result (page.new ≡ with_members (objects (items_told pass.side []
-        (message_forest pass.is_state cx.now (parts_of own.entry))
-        (message_forest pass.is_state theirs.now (parts_of others.entry)))) page.old) }
+        (message_made pass.is_state cx.now (parts_of own.entry))
+        (message_made pass.is_state theirs.now (parts_of others.entry)))) page.old) }
 {
     tell_header(
         texts,
@@ -260,8 +262,8 @@ pub(crate) fn tell_messages(
     new: Message<'_>,
 ) -> Result<(), AllocError>
     requires { AreAllRows cx.now.tables.now }
-    ensures { OnOk result (page.new ≡ with_members (objects (map change_item
-        (messages_told is_state cx.now (with_order cx.now order)
+    ensures { OnOk result (page.new ≡ with_members (objects (flat_map told_items
+        (messages_by is_state cx.now (with_order cx.now order)
         (parts_of old.entry) (parts_of new.entry)))) page.old) }
 {
     let theirs = Around { order, ..*cx };
@@ -289,8 +291,8 @@ pub fn tell(
     old: Message<'_>,
     new: Message<'_>,
 ) -> Result<(), AllocError>
-    ensures { OnOk result (page.new ≡ with_members (objects (map change_item
-        (messages_told is_state (plain orders.0) (plain orders.1)
+    ensures { OnOk result (page.new ≡ with_members (objects (flat_map told_items
+        (messages_by is_state (plain orders.0) (plain orders.1)
         (parts_of old.entry) (parts_of new.entry)))) page.old) }
 {
     let tables = all_rows();

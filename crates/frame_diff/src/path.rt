@@ -3,9 +3,11 @@
 ghost use Rattle.std.specs.Prelude.{◌≡◌, ◌++◌, IfOk, OnOk, decimal, string_bytes};
 ghost use Rattle.frame_diff.specs.Items.{joined};
 ghost use Rattle.frame_diff.specs.Labels.{again_text, label_text, number_text};
+ghost use Rattle.frame_diff.specs.Vlans.{end_text, range_text};
 
 use crate::labels::Label;
 use itoa::Buffer;
+use link_vlans::Run;
 use std::alloc::{AllocError, Global};
 
 /// The text of a path that goes one step on: the step stands behind a point, where it is not the first one.
@@ -71,6 +73,33 @@ pub(crate) fn join_label(
     path.push_str(name)?;
     push_number(&mut path, label.number)?;
     push_again(&mut path, label)?;
+    path.push(']')?;
+    Ok(path)
+}
+
+/// Adds the last VLAN of a run, where that is another one than the first.
+fn push_end(path: &mut String, run: Run) -> Result<(), AllocError>
+    ensures { OnOk result (string_bytes path.new ≡ string_bytes path.old ++ end_text run) }
+{
+    if run.first == run.last {
+        return Ok(());
+    }
+    let mut digits = Buffer::new();
+    path.push('-')?;
+    path.push_str(digits.format(run.last))?;
+    Ok(())
+}
+
+/// The text of a path that goes on at the VLANs of a run.
+pub(crate) fn join_vlans(alloc: Global, text: &str, run: Run) -> Result<String, AllocError>
+    ensures { IfOk result (λ path. string_bytes path ≡ text.now ++ range_text run) }
+{
+    let mut digits = Buffer::new();
+    let mut path = String::with_capacity(alloc, text.len() + 32)?;
+    path.push_str(text)?;
+    path.push_str("[vid=")?;
+    path.push_str(digits.format(run.first))?;
+    push_end(&mut path, run)?;
     path.push(']')?;
     Ok(path)
 }

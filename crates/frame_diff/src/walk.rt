@@ -5,7 +5,7 @@ ghost use Rattle.shown.specs.Drafts.{with_members};
 ghost use Rattle.frame_shown.specs.Items.{objects};
 ghost use Rattle.frame_shown.specs.declared.form.Around.{Around as Beside};
 ghost use Rattle.frame_shown.specs.declared.form.List.{List as Shape};
-ghost use Rattle.frame_diff.specs.Inside.{HoldsNoField, has_none, inside_list};
+ghost use Rattle.frame_diff.specs.Inside.{HoldsNoField, HoldsNoRuns, has_none, inside_list};
 ghost use Rattle.frame_diff.specs.Items.{items_told};
 ghost use Rattle.frame_diff.specs.Members.{is_nest};
 ghost use Rattle.frame_diff.specs.Walked.{AreBeside, HasNames, Holding, HoldsApart};
@@ -84,8 +84,9 @@ pub(crate) trait Walk: Depth {
             (inside_list inner pass.is_state (Some own.entry)) (inside_list inner pass.is_state beside.entry)))
             page.old) };
 
-    /// No two members of a list have one step, and none is a field.
+    /// No two members of a list have one step, none is a field, and no list is of VLANs.
     fn laws()
         ensures apart { HoldsApart inner }
-        ensures fieldless { HoldsNoField inner };
+        ensures fieldless { HoldsNoField inner }
+        ensures runless { HoldsNoRuns inner };
 }

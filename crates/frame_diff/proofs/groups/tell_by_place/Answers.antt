@@ -1,5 +1,5 @@
 use Rattle.std.proofs.lemmas.Result.{on_ok_weaker}
-use Rattle.frame_diff.specs.Groups.{group_at, group_inside}
+use Rattle.frame_diff.specs.Groups.{group_at, labelled_inside}
 use Rattle.frame_diff.specs.Items.{items_told}
 use Rattle.frame_diff.specs.Members.{places}
 use Rattle.frame_diff.proofs.Inside.{same_written}
@@ -17,7 +17,7 @@ returns g c =
     let others = c.placed_beside-others.result in
     on_ok_weaker c.tell_places.result (same_written
     (items_told side text (places (group_at nest inner is_state own)) (places (group_at nest inner is_state others)))
-    (items_told side text (group_inside nest inner is_state own) (group_inside nest inner is_state c.args.others))
+    (items_told side text (labelled_inside nest inner is_state own) (labelled_inside nest inner is_state c.args.others))
     c.args.page.now c.tell_places.new.page
     (place_told nest inner is_state side text own c.args.others others c.requires.own
     c.placed_beside-others.ensures.key c.placed_beside-others.ensures.found)) c.tell_places.ensures

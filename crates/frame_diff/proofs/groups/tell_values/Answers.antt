@@ -24,8 +24,8 @@ returns-then-are_plain g c =
     (sym (held_leaf side text (held c.args.own) beside (group_plain nest inner is_state c.args.own
     ∙ c.are_plain.ensures ∙ c.if-are_plain.true)))) c.tell_flat.ensures
 
-pub returns-in-Some : goal.returns-in-Some
-returns-in-Some g c =
+pub returns : goal.returns
+returns g c =
     let nest = g.W.Depth.nest in
     let inner = g.W.Walk.inner in
     let is_state = c.args.pass.is_state in
@@ -33,24 +33,8 @@ returns-in-Some g c =
     let side = c.args.pass.side in
     let text = c.args.path.now in
     let others = c.values_beside-is_alike.result.0 in
-    on_ok_weaker c.tell_by_key.result (same_written
+    on_ok_weaker c.tell_inside.result (same_written
     (items_told side text (group_inside nest inner is_state c.args.own) (group_inside nest inner is_state others))
-    (held_items side text (held c.args.own) (option_map held c.args.beside)) c.args.page.now c.tell_by_key.new.page
+    (held_items side text (held c.args.own) (option_map held c.args.beside)) c.args.page.now c.tell_inside.new.page
     (values_told nest inner is_state side text c.args.own others c.args.beside
-    (c.are_plain.ensures ∙ c.if-are_plain.false) c.values_beside-is_alike.ensures.inside)) c.tell_by_key.ensures
-
-pub returns-in-None : goal.returns-in-None
-returns-in-None g c =
-    let nest = g.W.Depth.nest in
-    let inner = g.W.Walk.inner in
-    let is_state = c.args.pass.is_state in
-    let held = group_held nest inner is_state in
-    let side = c.args.pass.side in
-    let text = c.args.path.now in
-    let others = c.values_beside-is_alike.result.0 in
-    on_ok_weaker c.tell_by_place.result (same_written
-    (items_told side text (group_inside nest inner is_state c.args.own) (group_inside nest inner is_state others))
-    (held_items side text (held c.args.own) (option_map held c.args.beside)) c.args.page.now
-    c.tell_by_place.new.page
-    (values_told nest inner is_state side text c.args.own others c.args.beside
-    (c.are_plain.ensures ∙ c.if-are_plain.false) c.values_beside-is_alike.ensures.inside)) c.tell_by_place.ensures
+    (c.are_plain.ensures ∙ c.if-are_plain.false) c.values_beside-is_alike.ensures.inside)) c.tell_inside.ensures

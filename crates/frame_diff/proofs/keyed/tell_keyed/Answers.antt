@@ -2,7 +2,7 @@ use Rattle.std.proofs.Common.{◌≡◌, ◌<◌, ◌+◌, ◌∙◌, List, ap, 
 use Rattle.std.specs.Prelude.{Some}
 use Rattle.shown.specs.Drafts.{Draft, with_members}
 use Rattle.frame_shown.specs.Items.{objects}
-use Rattle.frame_diff.specs.Groups.{group_inside}
+use Rattle.frame_diff.specs.Groups.{labelled_inside}
 use Rattle.frame_diff.specs.Items.{items_told}
 use Rattle.frame_diff.specs.Keyed.{AreIn, AreLabelled, IsIn, labels_now, value_of}
 use Rattle.frame_diff.specs.Labels.{IsIndex, labels_of, place_of}
@@ -50,7 +50,7 @@ loop-one-preserved g c =
     let place : place_of c.one-item.result.label (labels_now vs) ≡ Some c.loop-one.place =
     label_place vs i c.one-item.result _ apart within c.one-item.is ∙ ap Some (sym c.loop-one.invariant.place) in
     let all : Draft = with_members (objects (items_told c.args.pass.side c.args.path.now
-    (group_inside nest inner is_state c.args.own) (group_inside nest inner is_state c.args.others)))
+    (labelled_inside nest inner is_state c.args.own) (labelled_inside nest inner is_state c.args.others)))
     c.args.page.now in
     record {
       place = ap (λ n. n + 1) c.loop-one.invariant.place;

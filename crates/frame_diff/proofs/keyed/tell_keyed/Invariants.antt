@@ -1,7 +1,7 @@
 use Rattle.std.proofs.Common.{◌≡◌, List, drop}
 use Rattle.shown.specs.Drafts.{with_members}
 use Rattle.frame_shown.specs.Items.{objects}
-use Rattle.frame_diff.specs.Groups.{group_inside}
+use Rattle.frame_diff.specs.Groups.{labelled_inside}
 use Rattle.frame_diff.specs.Items.{items_told}
 use Rattle.frame_diff.specs.Keyed.{AreLabelled, labels_now}
 use Rattle.frame_diff.specs.Labels.{IsIndex, labels_of}
@@ -23,6 +23,6 @@ invariant-loop-one g l =
           → IsIndex l.places (labels_now l.one-items) (labels_now others);
       told : with_members (objects (all_told l.key (one_held nest inner is_state) l.pass.side l.path l.theirs.items
           (drop l.one-index l.one-items))) l.page
-          ≡ with_members (objects (items_told l.pass.side l.path (group_inside nest inner is_state l.own)
-          (group_inside nest inner is_state l.others))) l.fn.page;
+          ≡ with_members (objects (items_told l.pass.side l.path (labelled_inside nest inner is_state l.own)
+          (labelled_inside nest inner is_state l.others))) l.fn.page;
     }

@@ -4,7 +4,7 @@ use Rattle.frame_diff.specs.Groups.{rest_forest}
 use Rattle.frame_diff.specs.Inside.{above, inside_list}
 use Rattle.frame_diff.specs.Items.{items_told, joined}
 use Rattle.frame_diff.specs.Values.{kept_at, kept_inside_at}
-use Rattle.frame_diff.proofs.Grouped.{kept_told}
+use Rattle.frame_diff.proofs.Grouped.{kept_runless, kept_told}
 use Rattle.frame_diff.proofs.Inside.{same_written}
 use Rattle.frame_diff.proofs.lists.tell_rest.Goals as goal
 
@@ -23,5 +23,6 @@ returns g c =
     on_ok_weaker c.tell_others.result (same_written
     (items_told side (joined text (codes "other")) inside other)
     (items_told side text (rest_forest is_state c.args.own) beside) c.args.page.now c.tell_others.new.page
-    (kept_told side text hs gs inside other beside (c.listed_beside-others.ensures nest inner is_state)))
+    (kept_told side text hs gs inside other beside (kept_runless is_state c.args.own)
+    (kept_runless is_state c.listed_beside-others.result) (c.listed_beside-others.ensures nest inner is_state)))
     c.tell_others.ensures

@@ -1,11 +1,11 @@
-use Rattle.std.proofs.Common.{map}
+use Rattle.std.specs.List.{flat_map}
 use Rattle.std.proofs.lemmas.Result.{on_ok_weaker}
 use Rattle.frame_shown.specs.Plain.{plain}
-use Rattle.frame_diff.specs.Items.{change_item}
-use Rattle.frame_diff.specs.Laws.{messages_told}
+use Rattle.frame_diff.specs.Laws.{messages_by}
 use Rattle.frame_diff.specs.Messages.{parts_of, with_order}
+use Rattle.frame_diff.specs.Ranges.{told_items}
 use Rattle.frame_diff.proofs.Inside.{same_written}
-use Rattle.frame_diff.proofs.Orders.{plainly_told}
+use Rattle.frame_diff.proofs.Orders.{plainly_by}
 use Rattle.frame_diff.proofs.message.tell.Goals as goal
 
 pub returns : goal.returns
@@ -14,9 +14,9 @@ returns c =
     let old = parts_of c.args.old in
     let new = parts_of c.args.new in
     on_ok_weaker c.tell_messages.result (same_written
-    (map change_item (messages_told c.args.is_state cx (with_order cx c.args.orders.1) old new))
-    (map change_item (messages_told c.args.is_state (plain c.args.orders.0) (plain c.args.orders.1) old new))
+    (flat_map told_items (messages_by c.args.is_state cx (with_order cx c.args.orders.1) old new))
+    (flat_map told_items (messages_by c.args.is_state (plain c.args.orders.0) (plain c.args.orders.1) old new))
     c.args.page.now c.tell_messages.new.page
-    (λ k. map change_item
-    (plainly_told c.args.is_state c.args.orders.0 c.args.orders.1 cx c.plain-cx.ensures old new k)))
+    (λ k. flat_map told_items
+    (plainly_by c.args.is_state c.args.orders.0 c.args.orders.1 cx c.plain-cx.ensures old new k)))
     c.tell_messages.ensures
