@@ -1,7 +1,7 @@
 -- How what changed is added: the list of it, and the line that has it.
 use Rattle.std.proofs.Common.{◌≡◌, ◌<◌, ℕ, suc, Bool, true, false, List, [], ◌∷◌, ◌++◌, refl, sym, ap, ◌∙◌}
 use Rattle.std.proofs.Common.{append_assoc, append-nil, length, length-append, arith}
-use Rattle.std.specs.Prelude.{codes, cond, map}
+use Rattle.std.specs.Prelude.{codes, cond}
 use Rattle.std.specs.List.{flat_map}
 use Rattle.json.specs.Token.{Token, begin_array, begin_object, end_array, end_object, key}
 use Rattle.shown.specs.Print.{print, print_from, escape_byte, escape_from, ends_value}
@@ -15,13 +15,13 @@ use Rattle.shown.proofs.Printed.{ends_push, print_from-append}
 use Rattle.frame_shown.specs.Items.{objects}
 use Rattle.frame_shown.specs.Plain.{plain}
 use Rattle.frame_shown.specs.declared.form.Order.{Order}
-use Rattle.frame_diff.specs.Differences.{Change}
 use Rattle.frame_diff.specs.Items.{change_item}
-use Rattle.frame_diff.specs.Laws.{messages_told}
+use Rattle.frame_diff.specs.Laws.{messages_by}
 use Rattle.frame_diff.specs.Members.{Parts, leniently, whole}
+use Rattle.frame_diff.specs.Ranges.{told_items}
 use Rattle.message_diff.specs.declared.snapshot.Compared.{Compared}
 use Rattle.message_diff.specs.Changed.{AddsChanged, AddsList, change_tokens, changed_line, changed_members}
-use Rattle.message_diff.specs.Changed.{changes_between, changes_or, list_text, state_change, told_changes}
+use Rattle.message_diff.specs.Changed.{items_between, items_or, list_text, state_change, written_items}
 use Rattle.message_diff.specs.Compared.{is_lenient, is_state, parts_by}
 use Rattle.message_diff.specs.Shots.{Shot}
 
@@ -30,18 +30,18 @@ use Rattle.message_diff.specs.Shots.{Shot}
 module _ (by : Compared) (old new : Shot) (state : Bool) (m n : Order) (p q : Parts) (states : state ≡ is_state by)
     (first : m ≡ old.order) (second : n ≡ new.order) where
   told_by : p ≡ parts_by by old.text → q ≡ parts_by by new.text
-      → messages_told state (plain m) (plain n) p q ≡ changes_between by old new
-  told_by was is i = messages_told (states i) (plain (first i)) (plain (second i)) (was i) (is i)
+      → flat_map told_items (messages_by state (plain m) (plain n) p q) ≡ items_between by old new
+  told_by was is i = flat_map told_items (messages_by (states i) (plain (first i)) (plain (second i)) (was i) (is i))
 
   -- where messages are read leniently, and where they are not
   pub told_leniently : is_lenient by ≡ true → p ≡ leniently old.text → q ≡ leniently new.text
-      → messages_told state (plain m) (plain n) p q ≡ changes_between by old new
+      → flat_map told_items (messages_by state (plain m) (plain n) p q) ≡ items_between by old new
   told_leniently lenient was is =
       let apart = λ (text : List ℕ). ap (λ b. cond b (leniently text) (whole text)) (sym lenient) in
       told_by (was ∙ apart old.text) (is ∙ apart new.text)
 
   pub told_whole : is_lenient by ≡ false → p ≡ whole old.text → q ≡ whole new.text
-      → messages_told state (plain m) (plain n) p q ≡ changes_between by old new
+      → flat_map told_items (messages_by state (plain m) (plain n) p q) ≡ items_between by old new
   told_whole whole_too was is =
       let one = λ (text : List ℕ). ap (λ b. cond b (leniently text) (whole text)) (sym whole_too) in
       told_by (was ∙ one old.text) (is ∙ one new.text)
@@ -50,9 +50,6 @@ module _ (by : Compared) (old new : Shot) (state : Bool) (m n : Order) (p q : Pa
 
 abbrev with_objects : List Members → Draft → Draft
 with_objects os page = with_members (objects os) page
-
-abbrev with_changes : List Change → Draft → Draft
-with_changes cs page = with_objects (map change_item cs) page
 
 -- an object ends a value
 object_ends : (ts : List Token) (o : Members) → ends_value (ts ++ object_of o) ≡ true
@@ -72,34 +69,34 @@ pub list_begun : (name : List ℕ) (page new : Draft) → new ≡ with_begun nam
 list_begun name page new is =
     ap (λ (d : Draft). ends_value d.tokens) is ∙ ends_push false (named page.inside name page.tokens) begin_array
 
-module _ (other : Change) (old new : Draft) (empty : ends_value old.tokens ≡ false) where
-  some_told : (cs : List Change) → new ≡ with_changes cs old → ends_value new.tokens ≡ true
-      → new ≡ with_changes (changes_or other cs) old
+module _ (other : Members) (old new : Draft) (empty : ends_value old.tokens ≡ false) where
+  some_told : (os : List Members) → new ≡ with_objects os old → ends_value new.tokens ≡ true
+      → new ≡ with_objects (items_or other os) old
   some_told [] is some =
       let clash : false ≡ true = sym empty ∙ ap (λ (d : Draft). ends_value d.tokens) (sym is) ∙ some in absurd cc
-  some_told (c ∷ cs) is some = is
+  some_told (o ∷ os) is some = is
 
-  none_told : (last : Draft) (cs : List Change) → new ≡ with_changes cs old → ends_value new.tokens ≡ false
-      → last ≡ with_changes (other ∷ []) new → last ≡ with_changes (changes_or other cs) old
-  none_told last [] is none more = more ∙ ap (with_changes (other ∷ [])) is
-  none_told last (c ∷ cs) is none more =
+  none_told : (last : Draft) (os : List Members) → new ≡ with_objects os old → ends_value new.tokens ≡ false
+      → last ≡ with_objects (other ∷ []) new → last ≡ with_objects (items_or other os) old
+  none_told last [] is none more = more ∙ ap (with_objects (other ∷ [])) is
+  none_told last (o ∷ os) is none more =
       let clash : true ≡ false =
-      sym (objects_end (change_item c) (map change_item cs) old)
-      ∙ ap (λ (d : Draft). ends_value d.tokens) (sym is) ∙ none in absurd cc
+      sym (objects_end o os old) ∙ ap (λ (d : Draft). ends_value d.tokens) (sym is) ∙ none in absurd cc
 
 module _ (by : Compared) (old new : Shot) (page told : Draft) (empty : ends_value page.tokens ≡ false)
-    (is : told ≡ with_changes (changes_between by old new) page) where
-  -- some changes were told, or none, and then both encodings
-  pub any_told : ends_value told.tokens ≡ true → told ≡ with_changes (told_changes by old new) page
-  unfolding told_changes
-  any_told some = some_told (state_change old.text new.text) page told empty (changes_between by old new) is some
+    (is : told ≡ with_objects (items_between by old new) page) where
+  abbrev texts : Members
+  texts = change_item (state_change old.text new.text)
 
-  pub texts_told : (last : Draft) → ends_value told.tokens ≡ false
-      → last ≡ with_changes (state_change old.text new.text ∷ []) told
-      → last ≡ with_changes (told_changes by old new) page
-  unfolding told_changes
-  texts_told last none more =
-      none_told (state_change old.text new.text) page told empty last (changes_between by old new) is none more
+  -- some changes were told, or none, and then both encodings
+  pub any_told : ends_value told.tokens ≡ true → told ≡ with_objects (written_items by old new) page
+  unfolding written_items
+  any_told some = some_told texts page told empty (items_between by old new) is some
+
+  pub texts_told : (last : Draft) → ends_value told.tokens ≡ false → last ≡ with_objects (texts ∷ []) told
+      → last ≡ with_objects (written_items by old new) page
+  unfolding written_items
+  texts_told last none more = none_told texts page told empty last (items_between by old new) is none more
 
 -- ** the list
 
@@ -108,12 +105,12 @@ objects_values [] = refl
 objects_values (o ∷ os) = ap (λ (ts : List Token). object_of o ++ ts) (objects_values os)
 
 -- a list that was begun, filled with changes and ended
-pub changes_listed : (name : List ℕ) (cs : List Change) (old first last new : Draft)
-    → first ≡ with_begun name Items old → last ≡ with_changes cs first → Ends last new
-    → new ≡ with_value name (change_tokens cs) old
-changes_listed name cs old first last new begun is ends =
-    list_ended name (objects (map change_item cs)) old last new (is ∙ ap (with_changes cs) begun) ends
-    ∙ ap (λ (ts : List Token). with_value name (list_of ts) old) (objects_values (map change_item cs))
+pub changes_listed : (name : List ℕ) (os : List Members) (old first last new : Draft)
+    → first ≡ with_begun name Items old → last ≡ with_objects os first → Ends last new
+    → new ≡ with_value name (change_tokens os) old
+changes_listed name os old first last new begun is ends =
+    list_ended name (objects os) old last new (is ∙ ap (with_objects os) begun) ends
+    ∙ ap (λ (ts : List Token). with_value name (list_of ts) old) (objects_values os)
 
 -- ** as the one member of an object
 
@@ -160,5 +157,5 @@ longer_list by old new before now is =
       arith,
       ap length is,
       length-append before (list_text by old new),
-      some_list (flat_map object_of (map change_item (told_changes by old new))),
+      some_list (flat_map object_of (written_items by old new)),
     )

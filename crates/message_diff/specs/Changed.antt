@@ -1,5 +1,5 @@
 -- A line that tells what changed of an interface.
-use Rattle.std.specs.Prelude.{◌≡◌, ℕ, List, [], ◌∷◌, ◌++◌, codes, map}
+use Rattle.std.specs.Prelude.{◌≡◌, ℕ, List, [], ◌∷◌, ◌++◌, codes}
 use Rattle.std.specs.List.{flat_map}
 use Rattle.hex.specs.Hex.{encode_lower}
 use Rattle.json.specs.Token.{Token, string}
@@ -11,7 +11,9 @@ use Rattle.frame_shown.specs.declared.form.Order.{Order}
 use Rattle.frame_diff.specs.Differences.{Change}
 use Rattle.frame_diff.specs.Forests.{Forest, Step}
 use Rattle.frame_diff.specs.Items.{change_item}
+use Rattle.frame_diff.specs.Laws.{messages_by}
 use Rattle.frame_diff.specs.Members.{message_forest}
+use Rattle.frame_diff.specs.Ranges.{Told, told_items}
 use Rattle.frame_diff.specs.Wholes.{between}
 use Rattle.message_diff.specs.declared.snapshot.Compared.{Compared}
 use Rattle.message_diff.specs.Alone.{change_member, told_words}
@@ -42,18 +44,37 @@ changes_or other (c ∷ cs) = c ∷ cs
 unfoldable pub told_changes : Compared → Shot → Shot → List Change
 told_changes by old new = changes_or (state_change old.text new.text) (changes_between by old new)
 
+-- ** as it is written
+
+-- what differs between two, where VLANs beside each other that changed alike are told as one
+abbrev pub ranges_between : Compared → Shot → Shot → List Told
+ranges_between by old new = messages_by (is_state by) (plain old.order) (plain new.order) (parts_by by old.text)
+    (parts_by by new.text)
+
+-- the objects of these
+abbrev pub items_between : Compared → Shot → Shot → List Members
+items_between by old new = flat_map told_items (ranges_between by old new)
+
+abbrev pub items_or : Members → List Members → List Members
+items_or other [] = other ∷ []
+items_or other (o ∷ os) = o ∷ os
+
+-- what is written of two whose encodings differ
+unfoldable pub written_items : Compared → Shot → Shot → List Members
+written_items by old new = items_or (change_item (state_change old.text new.text)) (items_between by old new)
+
 -- ** the line
 
--- an object for each change
-abbrev pub change_tokens : List Change → List Token
-change_tokens cs = list_of (flat_map object_of (map change_item cs))
+-- the list of these objects
+abbrev pub change_tokens : List Members → List Token
+change_tokens os = list_of (flat_map object_of os)
 
 -- behind words, what became of the interface, which it is, and what changed of it
 unfoldable pub changed_members : Compared → List ℕ → Shot → Shot → Members
 changed_members by front old new =
     told_words front
     ++ change_member (codes "changed")
-    ∷ (head_of new.text ++ (codes "changes", change_tokens (told_changes by old new)) ∷ [])
+    ∷ (head_of new.text ++ (codes "changes", change_tokens (written_items by old new)) ∷ [])
 
 abbrev pub changed_line : Compared → List ℕ → Shot → Shot → List ℕ
 changed_line by front old new = with_lf (print (object_of (changed_members by front old new)))
@@ -80,7 +101,7 @@ AddsChangedBy by order old new before now =
 
 -- it has no line's end
 abbrev pub list_text : Compared → Shot → Shot → List ℕ
-list_text by old new = print (change_tokens (told_changes by old new))
+list_text by old new = print (change_tokens (written_items by old new))
 
 abbrev pub AddsList : Compared → Shot → Shot → List ℕ → List ℕ → Type 0
 AddsList by old new before now = now ≡ before ++ list_text by old new

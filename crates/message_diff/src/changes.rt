@@ -1,13 +1,13 @@
 //! What differs between two encodings.
 
-ghost use Rattle.std.specs.Prelude.{◌≡◌, ◌∷◌, [], IfOk, OnOk, codes, false, map, true};
+ghost use Rattle.std.specs.Prelude.{◌≡◌, ◌∷◌, [], IfOk, OnOk, codes, false, true};
 ghost use Rattle.shown.specs.Drafts.{with_members, with_value};
 ghost use Rattle.shown.specs.Print.{ends_value};
 ghost use Rattle.frame_shown.specs.Items.{objects};
 ghost use Rattle.frame_diff.specs.Items.{change_item};
 ghost use Rattle.frame_diff.specs.Members.{leniently};
 ghost use Rattle.frame_diff.specs.Messages.{parts_of};
-ghost use Rattle.message_diff.specs.Changed.{change_tokens, changes_between, state_change, told_changes};
+ghost use Rattle.message_diff.specs.Changed.{change_tokens, items_between, state_change, written_items};
 ghost use Rattle.message_diff.specs.Compared.{is_lenient};
 ghost use Rattle.message_diff.specs.Split.{parts_in};
 
@@ -64,7 +64,7 @@ fn tell_leniently(
 ) -> Result<(), AllocError>
     requires { is_lenient by ≡ true }
     ensures { OnOk result (page.new ≡ with_members
-        (objects (map change_item (changes_between by old.now new.now))) page.old) }
+        (objects (items_between by old.now new.now)) page.old) }
 {
     let was = Split::of(texts.alloc, old.text())?;
     let is = Split::of(texts.alloc, new.text())?;
@@ -88,7 +88,7 @@ fn tell_changes(
     page: &mut Page,
 ) -> Result<(), AllocError>
     ensures { OnOk result (page.new ≡ with_members
-        (objects (map change_item (changes_between by old.now new.now))) page.old) }
+        (objects (items_between by old.now new.now)) page.old) }
 {
     if by.is_lenient() {
         return tell_leniently(texts, by, old, new, page);
@@ -122,7 +122,7 @@ fn tell_all(
 ) -> Result<(), AllocError>
     requires { ends_value page.now.tokens ≡ false }
     ensures { OnOk result (page.new ≡ with_members
-        (objects (map change_item (told_changes by old.now new.now))) page.old) }
+        (objects (written_items by old.now new.now)) page.old) }
 {
     tell_changes(texts, by, old, new, page)?;
     if page.ends_value() {
@@ -140,7 +140,7 @@ pub fn show_changes(
     page: &mut Page,
 ) -> Result<(), AllocError>
     ensures { OnOk result (page.new ≡ with_value (codes "changes")
-        (change_tokens (told_changes by old.now new.now)) page.old) }
+        (change_tokens (written_items by old.now new.now)) page.old) }
 {
     page.begin("changes", Nest::List)?;
     tell_all(texts, by, old, new, page)?;

@@ -3,7 +3,7 @@
 ghost use Rattle.message_diff.specs.Laws.{ChangesAreTold, HeadsAreMeant};
 
 /// What is told of two encodings is all that differs between all leaves of both, each path once; of an encoding beside
-/// itself, in one order, nothing.
+/// itself, in one order, nothing. VLAN by VLAN, what is written is what is told.
 pub fn law_told()
     ensures { ChangesAreTold }
 {}

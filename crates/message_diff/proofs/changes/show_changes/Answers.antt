@@ -1,6 +1,6 @@
 use Rattle.std.specs.Prelude.{codes}
 use Rattle.std.proofs.lemmas.Result.{on_ok_weaker}
-use Rattle.message_diff.specs.Changed.{told_changes}
+use Rattle.message_diff.specs.Changed.{written_items}
 use Rattle.message_diff.proofs.Changed.{changes_listed, list_begun}
 use Rattle.message_diff.proofs.changes.show_changes.Goals as goal
 
@@ -10,6 +10,6 @@ tell_all-requires c = list_begun (codes "changes") c.args.page.now c.begin.new.s
 pub returns : goal.returns
 returns c =
     on_ok_weaker c.end.result
-    (changes_listed (codes "changes") (told_changes c.args.by c.args.old.now c.args.new.now) c.args.page.now
+    (changes_listed (codes "changes") (written_items c.args.by c.args.old.now c.args.new.now) c.args.page.now
     c.begin.new.self c.tell_all.new.page c.end.new.self c.in_ok-begin.ensures c.in_ok-tell_all.ensures)
     c.end.ensures

@@ -1,5 +1,6 @@
 use Rattle.frame_shown.specs.Plain.{plain}
 use Rattle.frame_diff.proofs.Messages.{messages_told}
+use Rattle.frame_diff.proofs.RangesTold.{ranges_are}
 use Rattle.message_diff.specs.Compared.{is_state, parts_by}
 use Rattle.message_diff.proofs.laws.law_told.Goals as goal
 
@@ -12,4 +13,6 @@ returns c = record {
   once = λ by old new. messages_told.once (is_state by) (plain old.order) (plain new.order) (parts_by by old.text)
       (parts_by by new.text);
   silent = λ by shot. messages_told.silent (is_state by) (plain shot.order) (parts_by by shot.text);
+  written = λ by old new. ranges_are (is_state by) (plain old.order) (plain new.order) (parts_by by old.text)
+      (parts_by by new.text);
 }

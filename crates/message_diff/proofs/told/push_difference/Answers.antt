@@ -3,7 +3,7 @@ use Rattle.std.specs.Prelude.{codes}
 use Rattle.shown.specs.Drafts.{Members, with_members, with_value}
 use Rattle.message_shown.proofs.Added.{members_then, object_told}
 use Rattle.message_diff.specs.Alone.{change_member, told_words}
-use Rattle.message_diff.specs.Changed.{change_tokens, changed_members, told_changes}
+use Rattle.message_diff.specs.Changed.{change_tokens, changed_members, written_items}
 use Rattle.message_diff.specs.Named.{head_of}
 use Rattle.message_diff.proofs.told.push_difference.Goals as goal
 
@@ -15,7 +15,7 @@ returns c =
     let words = told_words c.args.front.now in
     let member = change_member (codes "changed") in
     let head = head_of new.text in
-    let list = change_tokens (told_changes c.args.by old new) in
+    let list = change_tokens (written_items c.args.by old new) in
     let more : Members = (codes "changes", list) ∷ [] in
     object_told (words ++ member ∷ (head ++ more)) c.show_changes.new.page _ _ _
     (members_then words head more member c.in_ok-page.page c.show_told.new.page c.string.new.self
