@@ -11,11 +11,13 @@ use Rattle.link_info.specs.Meanings.{Meaning, Raw, Present, Number, Signed, Word
 use Rattle.link_info.specs.Meanings.{Members as Fields, Elements, Listed, Nested, read_as}
 use Rattle.link_info.specs.Styles.{plain_size}
 use Rattle.link_info.specs.Tables.{frames_in}
+use Rattle.link_info.specs.declared.place.Place.TheVariants as Places
 use Rattle.link_state.specs.Table.{Action}
 use Rattle.link_vlans.specs.Pieces.{AreOnce, said_at, said_of, vlans_of}
-use Rattle.link_vlans.specs.Runs.{are_apart, is_run}
+use Rattle.link_vlans.specs.Runs.{are_apart, is_run, runs_in}
 use Rattle.link_vlans.specs.declared.run.Run.{Run}
 use Rattle.link_vlans.specs.declared.run.Said.{Said}
+use Rattle.link_vlans.proofs.Bounds.{AreAbove, runs_above}
 use Rattle.link_vlans.proofs.Say.{found, once}
 use Rattle.shown.specs.Drafts.{Members}
 use Rattle.frame_shown.specs.Frames.{levels}
@@ -49,7 +51,7 @@ use Rattle.frame_diff.specs.Members.{kept_with, list_at, list_by, list_members, 
 use Rattle.frame_diff.specs.Members.{message_forest, message_made, message_members, named, named_by, named_in}
 use Rattle.frame_diff.specs.Members.{numbers_by, others_at, placed, placed_one, places, reading, refused_in}
 use Rattle.frame_diff.specs.Members.{refused_step, runs_by, runs_or, unless_none, value_with, values_inside}
-use Rattle.frame_diff.specs.Members.{entry_with, values_with, way_inside}
+use Rattle.frame_diff.specs.Members.{entry_with, unless_empty, values_with, way_inside}
 use Rattle.frame_diff.specs.Vlans.{flat, vlan_fields, vlan_inside, vlan_label, vlan_shown, vlan_step, vlan_trees}
 use Rattle.frame_diff.specs.declared.keys.Key.{Key}
 use Rattle.frame_diff.specs.declared.keys.Key.TheVariants as Keys
@@ -57,7 +59,7 @@ use Rattle.frame_diff.specs.declared.labels.Label.{Label}
 use Rattle.frame_diff.proofs.Apart.{fields_apart, made_apart}
 use Rattle.frame_diff.proofs.Steps.{text_is, text_same}
 
--- ** no step of a member is that of a VLAN
+-- ** no step of a member is that of a VLAN, and no id of a tunnel is cut off below
 
 abbrev pub is_vid : Step → Bool
 is_vid (Step.label a l) = is_text (codes "vid") a
@@ -71,7 +73,7 @@ is_vid Step.other = false
 abbrev pub AreMade : Forest → Type 0
 AreMade Forest.none = Unit {0}
 AreMade Forest.passed = Unit {0}
-AreMade (Forest.vlans runs) = Unit {0}
+AreMade (Forest.vlans runs) = AreAbove runs
 AreMade (Forest.tree s v i rest) = (is_vid s ≡ false) × AreMade i × AreMade rest
 
 abbrev AllMade : List Member → Type 0
@@ -315,9 +317,22 @@ array_made : (name : List ℕ) (hs : List (Option Held)) (inside : Forest) → A
 array_made name [] inside h = tt
 array_made name (x ∷ hs) inside h = (refl, inside_made (x ∷ hs) inside h, tt)
 
-runs_or_made : (runs : Option (List Run)) (inside : Forest) → AreMade inside → AreMade (runs_or runs inside)
-runs_or_made None inside h = h
-runs_or_made (Some rs) inside h = tt
+some_above : (found : Option (List Run)) → ((rs : List Run) → found ≡ Some rs → AreAbove rs) → (rs : List Run)
+    → unless_empty found ≡ Some rs → AreAbove rs
+some_above None all rs is = absurd cc
+some_above (Some []) all rs is = absurd cc
+some_above (Some (r ∷ rs)) all ss is = all ss is
+
+picked_above : (picks : Option ℕ) (list : Shape) (fs : List Frame) (rs : List Run)
+    → runs_by picks list fs ≡ Some rs → AreAbove rs
+picked_above (Some n) (Shapes.Of Places.BridgeSpec) fs rs is =
+    some_above (runs_in n fs) (runs_above n fs) rs is
+picked_above _ _ fs rs is = absurd cc
+
+runs_or_made : (runs : Option (List Run)) (inside : Forest)
+    → ((rs : List Run) → runs ≡ Some rs → AreAbove rs) → AreMade inside → AreMade (runs_or runs inside)
+runs_or_made None inside above h = h
+runs_or_made (Some rs) inside above h = above rs refl
 
 inside_with_made : (r : Reading) (list : Shape) (n : ℕ) (fs : List Frame) → InnerMade r.inner
     → AreMade (inside_with r list n fs)
@@ -325,6 +340,7 @@ inside_with_made r list n fs h =
     let key = key_at (Some n) list in
     runs_or_made (runs_by (Some n) list fs)
     (inside_of key (numbers_by (number_in r.around key list) (value_with r list n) fs) (values_with r list n fs))
+    (picked_above (Some n) list fs)
     (each_made_inside key (numbers_by (number_in r.around key list) (value_with r list n) fs) (values_with r list n fs)
     (each_held (value_with r list n) fs (value_with_made r list n h)))
 

@@ -286,7 +286,8 @@ module _ (nest : Showing) (inner : Holding) (is_state : Bool) where
       → has_none (group_held nest inner is_state a).1 ≡ are_plain (group_at nest inner is_state a)
   group_plain a =
       inside_plain (group_at nest inner is_state a) (group_inside nest inner is_state a)
-      (λ some. runs_some (runs_by a.number a.list (frames_in (items a.bytes.now))) (labelled_inside nest inner is_state a)
+      (λ some. runs_some (runs_by a.number a.list (frames_in (items a.bytes.now)))
+      (labelled_inside nest inner is_state a)
       (inside_some (key_at a.number a.list) (numbers_at nest inner is_state a) (group_at nest inner is_state a)
       (numbers_long (number_in a.around.now (key_at a.number a.list) a.list)
       (picked_by (reading_at nest inner is_state a.around.now) a.number a.list) (frames_in (items a.bytes.now))

@@ -10,6 +10,7 @@ pub mod WholesTold
 pub mod Apart
 pub mod Flat
 pub mod RangesTold
+pub mod Written
 pub mod Messages
 pub mod Items
 pub mod Beside

@@ -139,7 +139,8 @@ refused_told side is_state cx theirs own others page new =
     same_written _ _ page new
     (sym (unless_told side [] refused_step (levels 1 cx Shapes.Refused own) (levels 1 theirs Shapes.Refused others)
     ((reading 1 is_state cx).inner Shapes.Refused own) ((reading 1 is_state theirs).inner Shapes.Refused others)
-    refl (above_runs (is_some (frames_in (items own))) (list_members (reading 0 is_state cx) Shapes.Refused (frames_in (items own))))
+    refl (above_runs (is_some (frames_in (items own)))
+    (list_members (reading 0 is_state cx) Shapes.Refused (frames_in (items own))))
     (above_runs (is_some (frames_in (items others)))
     (list_members (reading 0 is_state theirs) Shapes.Refused (frames_in (items others))))))
 

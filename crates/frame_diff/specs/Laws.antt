@@ -59,6 +59,16 @@ abbrev pub RangesAreChanges : Type 0
 RangesAreChanges = (is_state : Bool) (cx other : Around) (old new : Parts)
     → flat_map apart (messages_by is_state cx other old new) ≡ messages_told is_state cx other old new
 
+abbrev pub is_empty : {X : Type 0} → List X → Bool
+is_empty [] = true
+is_empty (x ∷ xs) = false
+
+-- nothing is written of two messages exactly where nothing is told of them
+abbrev pub WrittenIsTold : Type 0
+WrittenIsTold = (is_state : Bool) (cx other : Around) (old new : Parts)
+    → is_empty (flat_map told_items (messages_by is_state cx other old new))
+    ≡ is_empty (messages_told is_state cx other old new)
+
 -- it is what differs between all leaves of both, where a value with a label that stands alone is a leaf; leaf by leaf
 -- it is what differs between all leaves; and each path is told once
 pub record MessagesAreTold : Type 0 where

@@ -1,8 +1,7 @@
 //! What a list of values tells beside another one, place by place.
 
-ghost use Rattle.std.specs.Prelude.{◌≡◌, ◌<◌, ◌+◌, ◌^◌, ◌∷◌, [], ℕ, Bool, IfOk, IfSome, None, OnOk, Some, decimal, false};
-ghost use Rattle.std.specs.Prelude.{not};
-ghost use Rattle.std.specs.Prelude.{map, option_map, true};
+ghost use Rattle.std.specs.Prelude.{◌≡◌, ◌<◌, ◌+◌, ◌^◌, ◌∷◌, [], ℕ, Bool, IfOk, IfSome, None, OnOk, Some, decimal};
+ghost use Rattle.std.specs.Prelude.{false, map, not, option_map, true};
 ghost use Rattle.nla_wire.specs.Items.{items};
 ghost use Rattle.link_info.specs.Tables.{frames_in};
 ghost use Rattle.shown.specs.Drafts.{with_members};

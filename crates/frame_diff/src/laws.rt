@@ -2,6 +2,7 @@
 
 ghost use Rattle.frame_diff.specs.Laws.{CountersArePassed, EachIsToldOnce, ItemsAreChanges, MessagesAreTold};
 ghost use Rattle.frame_diff.specs.Laws.{RangesAreChanges, SameIsSilent, WhatDiffersIsTold, WholesAreLeaves};
+ghost use Rattle.frame_diff.specs.Laws.{WrittenIsTold};
 ghost use Rattle.frame_diff.specs.Names.{NamesAreApart};
 ghost use Rattle.frame_diff.specs.PathTexts.{PathTextsAreApart};
 ghost use Rattle.frame_diff.specs.Shown.{MembersAreShown, WholeIsShown};
@@ -54,6 +55,11 @@ pub fn law_items()
 /// VLAN by VLAN, what is written of two messages is what is told of them.
 pub fn law_ranges()
     ensures { RangesAreChanges }
+{}
+
+/// Nothing is written of two messages exactly where nothing is told of them.
+pub fn law_written()
+    ensures { WrittenIsTold }
 {}
 
 /// The members of a list of attributes are what is shown of it, where no two numbers have one name; and so are those of

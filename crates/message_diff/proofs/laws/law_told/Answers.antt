@@ -1,6 +1,7 @@
 use Rattle.frame_shown.specs.Plain.{plain}
 use Rattle.frame_diff.proofs.Messages.{messages_told}
 use Rattle.frame_diff.proofs.RangesTold.{ranges_are}
+use Rattle.frame_diff.proofs.Written.{written_is}
 use Rattle.message_diff.specs.Compared.{is_state, parts_by}
 use Rattle.message_diff.proofs.laws.law_told.Goals as goal
 
@@ -14,5 +15,7 @@ returns c = record {
       (parts_by by new.text);
   silent = λ by shot. messages_told.silent (is_state by) (plain shot.order) (parts_by by shot.text);
   written = λ by old new. ranges_are (is_state by) (plain old.order) (plain new.order) (parts_by by old.text)
+      (parts_by by new.text);
+  empty = λ by old new. written_is (is_state by) (plain old.order) (plain new.order) (parts_by by old.text)
       (parts_by by new.text);
 }
