@@ -5,18 +5,29 @@ use Rattle.std.specs.Prelude.{◌&&◌, Option, Some, None, cond}
 use Rattle.std.specs.List.{flat_map}
 use Rattle.json.specs.Token.{Token, begin_object}
 use Rattle.shown.specs.Drafts.{list_of}
-use Rattle.frame_diff.specs.Forests.{Forest, Held, Member, Step, comes, forest, is_step, leaves, leaves_at, left_of}
+use Rattle.frame_diff.specs.Forests.{Forest, Held, Leaf, Member, Step, comes, forest, is_step, leaves, leaves_at}
+use Rattle.frame_diff.specs.Forests.{left_of}
 use Rattle.frame_diff.specs.Labels.{count, label_step, labelled, labels_behind, labels_of}
 use Rattle.frame_diff.specs.Members.{alone, earlier, group_of, inside_of, is_nest, list_at, placed, places}
 use Rattle.frame_diff.specs.Members.{are_plain, unless_none, value_in, values_inside}
+use Rattle.frame_diff.specs.Vlans.{flat}
 use Rattle.frame_diff.specs.declared.keys.Key.{Key}
 use Rattle.frame_diff.specs.declared.labels.Label.{Label}
 
+-- inside a value there is no member: it is a leaf
+abbrev pub is_leaf : Forest → Bool
+is_leaf Forest.none = true
+is_leaf Forest.passed = false
+is_leaf (Forest.vlans runs) = false
+is_leaf (Forest.tree s v i rest) = false
+
+-- so it is with each VLAN as a member
+abbrev pub is_none : Forest → Bool
+is_none f = is_leaf (flat f)
+
 -- the value of an object or a list, if it holds no members
 abbrev pub nest_value : List Token → Forest → List Token
-nest_value v Forest.none = v
-nest_value v Forest.passed = begin_object ∷ []
-nest_value v (Forest.tree s w i rest) = begin_object ∷ []
+nest_value v i = cond (is_none i) v (begin_object ∷ [])
 
 abbrev pub bare_value : List Token → Forest → List Token
 bare_value v i = cond (is_nest v) (nest_value v i) v
@@ -24,6 +35,7 @@ bare_value v i = cond (is_nest v) (nest_value v i) v
 abbrev pub bare : Forest → Forest
 bare Forest.none = Forest.none
 bare Forest.passed = Forest.passed
+bare (Forest.vlans runs) = Forest.vlans runs
 bare (Forest.tree s v i rest) = Forest.tree s (bare_value v i) (bare i) (bare rest)
 
 abbrev pub bare_held : Held → Held
@@ -52,17 +64,28 @@ value_there v = by (is_nest v)
     by false = refl
 
 -- values that hold no members are there
-one_same : (s : Step) (v : List Token) (i : Forest) → leaves (bare i) ≡ leaves i
-    → leaves_at s (bare_value v i) (bare i) (leaves (bare i)) ≡ leaves_at s v i (leaves i)
-one_same s v Forest.none same = ap (λ w. (s ∷ [], w) ∷ []) (value_there v)
-one_same s v Forest.passed same = refl
-one_same s v (Forest.tree a b c d) same = ap (λ ls. leaves_at s v (Forest.tree a b c d) ls) same
+value_kept : (s : Step) (v : List Token) (f : Forest) (ls : List Leaf)
+    → leaves_at s (cond (is_nest v) (cond (is_leaf f) v (begin_object ∷ [])) v) f ls ≡ leaves_at s v f ls
+value_kept s v Forest.none ls = ap (λ w. (s ∷ [], w) ∷ []) (value_there v)
+value_kept s v Forest.passed ls = refl
+value_kept s v (Forest.vlans runs) ls = refl
+value_kept s v (Forest.tree a b c d) ls = refl
 
-pub leaves_bare : (f : Forest) → leaves (bare f) ≡ leaves f
+inside_kept : (s : Step) (v : List Token) (i : Forest) (ls : List Leaf)
+    → leaves_at s v (flat (bare i)) ls ≡ leaves_at s v (flat i) ls
+inside_kept s v Forest.none ls = refl
+inside_kept s v Forest.passed ls = refl
+inside_kept s v (Forest.vlans runs) ls = refl
+inside_kept s v (Forest.tree a b c d) ls = refl
+
+pub leaves_bare : (f : Forest) → leaves (flat (bare f)) ≡ leaves (flat f)
 leaves_bare Forest.none = refl
 leaves_bare Forest.passed = refl
+leaves_bare (Forest.vlans runs) = refl
 leaves_bare (Forest.tree s v i rest) =
-    (λ k. one_same s v i (leaves_bare i) k ++ leaves_bare rest k)
+    (λ k. (inside_kept s (bare_value v i) i (leaves (flat (bare i)))
+    ∙ value_kept s v (flat i) (leaves (flat (bare i)))
+    ∙ ap (leaves_at s v (flat i)) (leaves_bare i)) k ++ leaves_bare rest k)
 
 -- ** members
 
@@ -95,13 +118,13 @@ left_bare b (m ∷ ms) = forest_bare (m ∷ ms)
 -- ** lists of values
 
 nest_bare : (v : List Token) (i : Forest) → is_nest (bare_value v i) ≡ is_nest v
-nest_bare v i = by (is_nest v) refl i
+nest_bare v i = by (is_nest v) refl (is_none i)
   where
-    by : (b : Bool) → is_nest v ≡ b → (j : Forest) → is_nest (cond b (nest_value v j) v) ≡ b
-    by true is Forest.none = is
-    by true is Forest.passed = refl
-    by true is (Forest.tree s w x y) = refl
-    by false is j = is
+    by : (b : Bool) → is_nest v ≡ b → (none : Bool)
+        → is_nest (cond b (cond none v (begin_object ∷ [])) v) ≡ b
+    by true is true = is
+    by true is false = refl
+    by false is none = is
 
 -- values that are the same with what is in them are the same where that is passed over
 pub passed_same : (v w : List Token) (i j : Forest) → bare_held (v, i) ≡ bare_held (w, j)
@@ -152,6 +175,7 @@ pub unless_bare : (s : Step) (v : List Token) (f : Forest) → is_nest v ≡ tru
     → bare_all (unless_none s v f) ≡ unless_none s (begin_object ∷ []) (bare f)
 unless_bare s v Forest.none nest = refl
 unless_bare s v Forest.passed nest = refl
+unless_bare s v (Forest.vlans runs) nest = refl
 unless_bare s v (Forest.tree a b c d) nest =
     ap (λ t. (s, (cond t (begin_object ∷ []) v, bare (Forest.tree a b c d))) ∷ []) nest
 
@@ -211,19 +235,10 @@ earlier_same ms ns same = earlier_bare ms ∙ ap earlier_ones same ∙ sym (earl
 
 -- ** values that hold none
 
-abbrev pub is_none : Forest → Bool
-is_none Forest.none = true
-is_none Forest.passed = false
-is_none (Forest.tree s v i rest) = false
-
-nest_by : (v : List Token) (f : Forest) → nest_value v f ≡ cond (is_none f) v (begin_object ∷ [])
-nest_by v Forest.none = refl
-nest_by v Forest.passed = refl
-nest_by v (Forest.tree s w i rest) = refl
-
 none_bare : (f : Forest) → is_none (bare f) ≡ is_none f
 none_bare Forest.none = refl
 none_bare Forest.passed = refl
+none_bare (Forest.vlans runs) = refl
 none_bare (Forest.tree s v i rest) = refl
 
 -- a forest of some members holds some
@@ -301,11 +316,9 @@ list_value hs f = nest_value (list_of (values hs)) (values_inside hs f)
 list_value_bare : (hs : List (Option Held)) (f : Forest) → HoldsSome hs f
     → list_value hs f ≡ list_value (bare_opts hs) (bare f)
 list_value_bare hs f there =
-    nest_by (list_of (values hs)) (values_inside hs f)
-    ∙ by (is_none (values_inside hs f)) refl
+    by (is_none (values_inside hs f)) refl
     ∙ ap (λ b. cond b (list_of (values (bare_opts hs))) (begin_object ∷ []))
     (sym (ap is_none (sym (inside_bare hs f)) ∙ none_bare (values_inside hs f)))
-    ∙ sym (nest_by (list_of (values (bare_opts hs))) (values_inside (bare_opts hs) (bare f)))
   where
     by : (b : Bool) → is_none (values_inside hs f) ≡ b
         → cond b (list_of (values hs)) (begin_object ∷ [])
@@ -335,10 +348,8 @@ left_value : (v : List Token) (b : Bool) (ms : List Member)
     → nest_value v (left_of b ms) ≡ object_value v b (bare_all ms)
 left_value v true [] = refl
 left_value v false [] = refl
-left_value v true (m ∷ ms) =
-    nest_by v (forest (m ∷ ms)) ∙ ap (λ n. cond n v (begin_object ∷ [])) (some_there m ms)
-left_value v false (m ∷ ms) =
-    nest_by v (forest (m ∷ ms)) ∙ ap (λ n. cond n v (begin_object ∷ [])) (some_there m ms)
+left_value v true (m ∷ ms) = ap (λ n. cond n v (begin_object ∷ [])) (some_there m ms)
+left_value v false (m ∷ ms) = ap (λ n. cond n v (begin_object ∷ [])) (some_there m ms)
 
 left_held : (v : List Token) (b : Bool) (ms : List Member) → is_nest v ≡ true
     → bare_held (v, left_of b ms) ≡ (object_value v b (bare_all ms), left_of b (bare_all ms))

@@ -9,7 +9,7 @@ use Rattle.frame_diff.specs.Members.{message_forest}
 use Rattle.frame_diff.specs.Wholes.{opened}
 use Rattle.frame_diff.specs.declared.side.Side.{Side}
 use Rattle.frame_diff.specs.declared.side.Side.TheVariants.{Old, New}
-use Rattle.frame_diff.proofs.Apart.{message_apart}
+use Rattle.frame_diff.proofs.Flat.{message_apart}
 use Rattle.frame_diff.proofs.Messages.{messages_told}
 use Rattle.frame_diff.proofs.Once.{StandOnce, leaves_once}
 use Rattle.frame_diff.proofs.Steps.{path_same, text_same}

@@ -13,6 +13,9 @@ use Rattle.link_info.specs.Meanings.{Members as Fields, Elements, Listed, Nested
 use Rattle.link_info.specs.declared.style.Style.{Style}
 use Rattle.link_info.specs.Tables.{frames_in}
 use Rattle.link_state.specs.Table.{Action}
+use Rattle.link_vlans.specs.Pieces.{vlans_of}
+use Rattle.link_vlans.specs.Runs.{are_apart}
+use Rattle.link_vlans.specs.declared.run.Run.{Run}
 use Rattle.shown.specs.Drafts.{object_of}
 use Rattle.frame_shown.specs.Frames.{entries_in as entries_shown, frame_item, items_in, levels, list_shown}
 use Rattle.frame_shown.specs.Frames.{way_shown}
@@ -42,18 +45,21 @@ use Rattle.frame_diff.specs.Members.{entry_with, form_inside, group_of, inside_o
 use Rattle.frame_diff.specs.Members.{is_unnamed, array_at, arrays_in, arrays_of, value_with, values_with}
 use Rattle.frame_diff.specs.Members.{frame_member, held_by, inner_by, is_nest, is_some, others_at}
 use Rattle.frame_diff.specs.Members.{list_at, listed_in}
-use Rattle.frame_diff.specs.Members.{list_members, meaning_inside, members_in, message_forest, message_members}
-use Rattle.frame_diff.specs.Members.{way_inside}
+use Rattle.frame_diff.specs.Members.{list_members, meaning_inside, members_in, message_forest, message_made}
+use Rattle.frame_diff.specs.Members.{message_members, runs_by, runs_or, way_inside}
 use Rattle.frame_diff.specs.Named.{is_named, last_named}
 use Rattle.frame_diff.specs.Members.{named, named_by, named_in, reading, refused_in, refused_step, unless_none}
 use Rattle.frame_diff.specs.Messages.{with_order}
 use Rattle.frame_diff.specs.Settled.{settled}
+use Rattle.frame_diff.specs.Vlans.{flat, vlan_trees}
 use Rattle.frame_diff.specs.declared.keys.Key.{Key}
+use Rattle.frame_diff.proofs.Apart.{runs_apart}
+use Rattle.frame_diff.proofs.Flat.{HasMembers, runs_have}
 use Rattle.frame_diff.proofs.Numbered.{numbers_long}
 use Rattle.frame_diff.proofs.Settled.{settled_none}
 use Rattle.told_laws.proofs.Bare.{HoldsSome, bare, bare_all, bare_append, bare_held, bare_one, bare_opts, earlier_same}
 use Rattle.told_laws.proofs.Bare.{forest_bare, group_same, leaves_bare, left_same, list_same, opts_append}
-use Rattle.told_laws.proofs.Bare.{of_same, of_some, passed_same, placed_some, unless_bare}
+use Rattle.told_laws.proofs.Bare.{is_leaf, is_none, of_same, of_some, passed_same, placed_some, unless_bare}
 use Rattle.told_laws.proofs.Passed.{is_form, is_shape, is_way, row_way}
 
 -- ** lists that go over frames
@@ -91,6 +97,30 @@ numbers_same num other F G [] one same = refl
 numbers_same num other F G (f ∷ fs) one same = λ k. (sym (const_of (num f) (F f))
     ∙ (λ j. map (λ h. one f j) (same f j))
     ∙ const_of (other f) (G f)) k ++ numbers_same num other F G fs one same k
+
+-- ** runs of VLANs
+
+runs_there : (rs : List Run) → are_apart None rs ≡ true → is_none (Forest.vlans rs) ≡ false
+runs_there [] apart = refl
+runs_there (r ∷ rs) apart = by (vlan_trees (vlans_of (r ∷ rs))) (runs_have r rs apart)
+  where
+    by : (f : Forest) → HasMembers f → is_leaf f ≡ false
+    by Forest.none h = absurd h
+    by Forest.passed h = absurd h
+    by (Forest.vlans runs) h = absurd h
+    by (Forest.tree s v i rest) h = refl
+
+runs_some : (n : ℕ) (list : Shape) (fs : List Frame) (hs : List (Option Held)) (f : Forest) → HoldsSome hs f
+    → HoldsSome hs (runs_or (runs_by (Some n) list fs) f)
+runs_some n list fs hs f some = by (runs_by (Some n) list fs) refl
+  where
+    by : (o : Option (List Run)) → runs_by (Some n) list fs ≡ o → HoldsSome hs (runs_or o f)
+    by None is = some
+    by (Some runs) is = λ _. runs_there runs (runs_apart (Some n) list fs runs is)
+
+runs_same : (o : Option (List Run)) (f g : Forest) → bare f ≡ bare g → bare (runs_or o f) ≡ bare (runs_or o g)
+runs_same None f g same = same
+runs_same (Some runs) f g same = refl
 
 -- ** what a list is shown as
 
@@ -308,6 +338,26 @@ module _ (cx : Around) (order : Order) (nest other : Nesting) (inner theirs : In
         of_some key (numbers_by (number_in cx key list) F fs) (flat_map F fs)
         (numbers_long (number_in cx key list) F fs)
 
+    -- runs of VLANs depend on no order
+    with_same : (list : Shape) (n : ℕ) (fs : List Frame) → is_shape list ≡ true
+        → bare (inside_with r list n fs) ≡ bare (inside_with s list n fs)
+    with_same list n fs h =
+        let key = key_at (Some n) list in
+        runs_same (runs_by (Some n) list fs)
+        (inside_of key (numbers_by (number_in cx key list) (value_with r list n) fs) (values_with r list n fs))
+        (inside_of key (numbers_by (number_in (with_order cx order) key list) (value_with s list n) fs)
+        (values_with s list n fs))
+        (inside_same key list (value_with r list n) (value_with s list n) fs (λ f. value_same list n f h))
+
+    with_some : (cx : Around) (list : Shape) (n : ℕ) (F : Frame → List (Option Held)) (fs : List Frame)
+        → HoldsSome (flat_map F fs) (runs_or (runs_by (Some n) list fs)
+        (inside_of (key_at (Some n) list) (numbers_by (number_in cx (key_at (Some n) list) list) F fs)
+        (flat_map F fs)))
+    with_some cx list n F fs =
+        let key = key_at (Some n) list in
+        runs_some n list fs (flat_map F fs) (inside_of key (numbers_by (number_in cx key list) F fs) (flat_map F fs))
+        (inside_some cx key list F fs)
+
     array_same : (name : List ℕ) (hs js : List (Option Held)) (f g : Forest) → HoldsSome hs f → HoldsSome js g
         → bare_opts hs ≡ bare_opts js → bare f ≡ bare g
         → bare_all (array_at name hs f) ≡ bare_all (array_at name js g)
@@ -324,11 +374,10 @@ module _ (cx : Around) (order : Order) (nest other : Nesting) (inner theirs : In
         (λ l. array_at l.1 (values_with s list l.0 fs) (inside_with s list l.0 fs)) lists
         (λ l. array_same l.1 (values_with r list l.0 fs) (values_with s list l.0 fs)
         (inside_with r list l.0 fs) (inside_with s list l.0 fs)
-        (inside_some cx (key_at (Some l.0) list) list (value_with r list l.0) fs)
-        (inside_some (with_order cx order) (key_at (Some l.0) list) list (value_with s list l.0) fs)
+        (with_some cx list l.0 (value_with r list l.0) fs)
+        (with_some (with_order cx order) list l.0 (value_with s list l.0) fs)
         (opts_flat (value_with r list l.0) (value_with s list l.0) fs (λ f. value_same list l.0 f h))
-        (inside_same (key_at (Some l.0) list) list (value_with r list l.0) (value_with s list l.0) fs
-        (λ f. value_same list l.0 f h)))
+        (with_same list l.0 fs h))
 
     members_same : (list : Shape) (fs : List Frame) → is_shape list ≡ true
         → bare_all (members_in r list fs) ≡ bare_all (members_in s list fs)
@@ -496,8 +545,8 @@ module _ (cx : Around) (order : Order) (m : Parts) where
 pub order_alone : (cx : Around) (order : Order) (m : Parts)
     → leaves (message_forest true (with_order cx order) m) ≡ leaves (message_forest true cx m)
 order_alone cx order m =
-    sym (leaves_bare (message_forest true (with_order cx order) m))
-    ∙ ap leaves (forest_bare (message_members true (with_order cx order) m)
+    sym (leaves_bare (message_made true (with_order cx order) m))
+    ∙ ap (λ f. leaves (flat f)) (forest_bare (message_members true (with_order cx order) m)
     ∙ ap forest (sym (all_same cx order m))
     ∙ sym (forest_bare (message_members true cx m)))
-    ∙ leaves_bare (message_forest true cx m)
+    ∙ leaves_bare (message_made true cx m)
