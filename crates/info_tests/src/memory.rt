@@ -171,7 +171,7 @@ fn write_again(rt: &impl Abort, alloc: Global, data: &[u8], refused: &mut Refuse
     assert!(rt; data.starts_with(added.as_slice()));
 }
 
-/// Where memory is refused, the test says of which call; `scripts/test/refused_info.sh` refuses each allocation in turn.
+/// Where memory is refused, the test says of which call; `scripts/test/refused_info.sh` refuses each one in turn.
 #[test]
 fn refused_memory_changes_nothing(rt: HostRuntime) {
     let alloc = rt.alloc();
