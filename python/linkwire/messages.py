@@ -64,9 +64,10 @@ class Fault(ValueError):
 
 
 class Change(NamedTuple):
-    """A member that differs: its path in what `show` returns. `old` is None where it came, `new` where it went. A VLAN,
-    or another value of a list that paths name by a number, comes and goes whole: the path ends with its label,
-    `af-spec.vlan-info[vid=200]`, and the value is the dict that `show` has."""
+    """A member that differs: its path in what `show` returns. `old` is None where it came, `new` where it went. A value
+    of a list that paths name by a number comes and goes whole: the path ends with its label, `other[number=70]`, and
+    the value is the dict that `show` has. VLANs that come or go together are one change, with the path
+    `af-spec.vlan-info[vid=10-20]`, the dict of the first one, and its `vid-end`."""
 
     path: str
     old: Any
@@ -329,8 +330,8 @@ def _fill(found: Dict[str, Any], settings: List[bytes]) -> bool:
 def diff(old: Bytes, new: Bytes, kernel: Optional[str] = None, counters: bool = False,
          lenient: bool = False) -> List[Change]:
     """What changed from one message to another, as linkdiff(1) tells it; an empty list where the states are equal.
-    IFLA_EVENT, which announcements alone have, is left out of both first. A VLAN has its number in the path,
-    `af-spec.vlan-info[vid=200].flags`; linkdiff(1) says how paths name the values of lists.
+    IFLA_EVENT, which announcements alone have, is left out of both first. VLANs have their numbers in the path,
+    `af-spec.vlan-info[vid=10-20].flags`; linkdiff(1) says how paths name the values of lists.
 
     kernel, lenient: as for `show`, of both messages.
     counters: compares the canonical encodings, so that what moves by itself is there too.

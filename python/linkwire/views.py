@@ -20,6 +20,8 @@ _KNOWN = "ifname", "prop-list", "master", "link-netnsid", "linkinfo", "protinfo"
 _FIRST = "linkinfo.kind", "mtu", "operstate", "address", "master"
 # how paths begin in events, and here
 _PLACES = ("linkinfo.slave-data.", "port."), ("linkinfo.data.", "data."), ("protinfo.", "port.")
+# VLANs of a bridge's port: their list, the first and the last one, and which member is told of them
+_VLANS = re.compile(r"((?:.*\.)?af-spec\.vlan-(?:tunnel-)?info)\[vid=([0-9]+)(?:-([0-9]+))?\](?:\.(id|flags))?")
 
 
 class Told(NamedTuple):
@@ -248,6 +250,69 @@ def _labelled(path: str) -> List[str]:
     return [path[:it.end()] for it in re.finditer("]", path)]
 
 
+def _of_vlan(value: Any, at: int, is_id: bool) -> Any:
+    """What a value of VLANs says of the one that is so far behind the first: ids go along with VLANs."""
+    if isinstance(value, dict):
+        return {name: it + at if name in ("id", "vid") else it for name, it in value.items()
+                if name not in ("id-end", "vid-end")}
+    return value + at if is_id and value is not None else value
+
+
+def _each(it: Change) -> Iterator[Change]:
+    """The changes of a range VLAN by VLAN, and any other one as it is."""
+    found = _VLANS.fullmatch(it.path)
+    if found is None or found[3] is None:
+        yield it
+        return
+    of, first, last, name = found.groups()
+    for at in range(int(last) - int(first) + 1):
+        old, new = (_of_vlan(value, at, name == "id") for value in (it.old, it.new))
+        yield Change(f"{of}[vid={int(first) + at}]" + (f".{name}" if name else ""), old, new)
+
+
+def _range(of: str, first: int, last: int, some: Mapping[str, Change]) -> Iterator[Change]:
+    """The changes of a VLAN as those of all VLANs from it to the last one."""
+    def whole(value: Any) -> Any:
+        if not isinstance(value, dict):
+            return value
+        ends = {"id-end": value["id"] + last - first} if "id" in value else {}
+        return {**value, **ends, "vid-end": last}
+
+    for name, it in some.items():
+        path = f"{of}[vid={first}-{last}]" + (f".{name}" if name else "")
+        yield it if first == last else Change(path, whole(it.old), whole(it.new))
+
+
+def _ranges(of: str, vlans: Mapping[int, Mapping[str, Change]]) -> Iterator[Change]:
+    """The changes of VLANs of a list: those next to each other that changed alike are one."""
+    runs: List[Tuple[int, int, Dict[str, Any]]] = []
+    for vid, some in sorted(vlans.items()):
+        alike = {name: [_of_vlan(value, -vid, name == "id") for value in (it.old, it.new)] for name, it in some.items()}
+        if runs and runs[-1][1:] == (vid - 1, alike):
+            runs[-1] = runs[-1][0], vid, alike
+        else:
+            runs.append((vid, vid, alike))
+    for first, last, _ in runs:
+        yield from _range(of, first, last, vlans[first])
+
+
+def _joined(changes: Iterable[Change]) -> List[Change]:
+    """The changes, of which those of VLANs stand in ranges, at the place of the first one of their list."""
+    found: List[List[Change]] = []
+    places: Dict[str, List[Change]] = {}
+    lists: Dict[str, Dict[int, Dict[str, Change]]] = {}
+    for it in changes:
+        vlan = _VLANS.fullmatch(it.path)
+        if vlan is None or vlan[1] not in places:
+            found.append([] if vlan else [it])
+        if vlan:
+            places.setdefault(vlan[1], found[-1])
+            lists.setdefault(vlan[1], {}).setdefault(int(vlan[2]), {})[vlan[4] or ""] = it
+    for of, vlans_of in lists.items():
+        places[of] += _ranges(of, vlans_of)
+    return [it for some in found for it in some]
+
+
 class _Held:
     """The changes of a link that are held: `told` is the first of them, `moved` has the values of lists that came or
     went, and whether each was there at first, and now."""
@@ -257,7 +322,11 @@ class _Held:
         self.changes: Dict[str, Change] = {}
         self.moved: Dict[str, Tuple[bool, bool]] = {}
 
-    def add(self, it: Change) -> None:
+    def add(self, change: Change) -> None:
+        for it in _each(change):
+            self._add(it)
+
+    def _add(self, it: Change) -> None:
         if is_whole(it):
             was = self.moved.get(it.path, (it.new is None, True))[0]
             self.moved[it.path] = was, it.old is None
@@ -269,7 +338,7 @@ class _Held:
             self.changes[one.path] = Change(one.path, self.changes.get(one.path, one).old, one.new)
 
     def release(self) -> Told:
-        """All of it, as one: a value of a list that came or went meanwhile is whole."""
+        """All of it, as one: a value of a list that came or went meanwhile is whole, and VLANs are in ranges."""
         changes: List[Change] = []
         inside: Dict[str, Tuple[int, Dict[str, Any]]] = {}  # of each value its place, and its leaves
         for it in self.changes.values():
@@ -286,7 +355,7 @@ class _Held:
         for path, (place, leaves) in inside.items():
             value = _whole(path, leaves)
             changes[place] = Change(path, value, None) if self.moved[path][0] else Change(path, None, value)
-        return self.told._replace(changes=changes)
+        return self.told._replace(changes=_joined(changes))
 
 
 class Settling:

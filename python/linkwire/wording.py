@@ -14,8 +14,9 @@ _SETS = {"ifi-flags", "prop-list.alt-ifname", "port.vlan"}
 _TEXTS = {"lost": "messages of the kernel: all links are asked for again",
           "again": "all is known: what changed meanwhile is told above"}
 _QUOTED = set(' ",()[]→;')
-# the label of a value of a list: behind which list, the name of the number that it says, and that number
-_LABEL = re.compile(r"(.*)\[(([a-z]+)(?:=([0-9]+))?[^]]*)\]")
+# the label of a value of a list: behind which list, the name of the number that it says, that number, and the last one
+# of a range
+_LABEL = re.compile(r"(.*)\[(([a-z]+)(?:=([0-9]+)(?:-([0-9]+))?)?[^]]*)\]")
 
 
 def escaped(text: str, encoding: str = "utf-8") -> str:
@@ -81,10 +82,10 @@ class Words:
         found = _LABEL.fullmatch(it.path)
         if found is None:
             return "", ""
-        of, label, key, number = found.groups()
+        of, label, key, number, last = found.groups()
         there = it.new if it.old is None else it.old
-        said = {name: one for name, one in flat(there).items()
-                if name.rpartition(".")[2] != key or not isinstance(one, int) or str(one) != number}
+        said = {name: one for name, one in flat(there).items() if not isinstance(one, int) or (
+            name.rpartition(".")[2], str(one)) not in ((key, number), (f"{key}-end", last))}
         return self._member(of), ("+" if it.old is None else "-") + label + (self._object(said) if said else "")
 
     def _member(self, path: str) -> str:

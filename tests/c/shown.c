@@ -48,8 +48,22 @@ static const char vlans_said[] = "{\"ifi-family\":7,\"ifi-type\":0,\"ifi-index\"
                                  "\"af-spec\":{\"vlan-info\":[{\"flags\":[\"pvid\",\"untagged\"],\"vid\":1},"
                                  "{\"flags\":[],\"vid\":9}]}}";
 static const char vlan_came[] = "[{\"path\":\"af-spec.vlan-info[vid=9]\",\"new\":{\"flags\":[],\"vid\":9}}]";
-static const char damage_turned[] = "[{\"path\":\"af-spec.vlan-info[vid#0]\",\"old\":\"6162\",\"new\":\"616263\"}]";
-static const char damage_went[] = "[{\"path\":\"af-spec.vlan-info[vid#0]\",\"old\":\"6162\"}]";
+static const char damage_turned[] = "[{\"path\":\"af-spec.vlan-info.1\",\"old\":\"6162\",\"new\":\"616263\"}]";
+static const char damage_went[] = "[{\"path\":\"af-spec.vlan-info.0.flags\",\"old\":[\"pvid\",\"untagged\"]},"
+                                  "{\"path\":\"af-spec.vlan-info.0.vid\",\"old\":1},"
+                                  "{\"path\":\"af-spec.vlan-info.1\",\"old\":\"6162\"},"
+                                  "{\"path\":\"af-spec.vlan-info[vid=1]\",\"new\":{\"flags\":[\"pvid\",\"untagged\"],"
+                                  "\"vid\":1}}]";
+/* The VLANs from 10 to 20, and those that get untagged or go: 10 to 14, which are a range, and 15. */
+static const uint8_t range[] = {BRIDGE_PORT, 20, 0, 26, 0, 8, 0, 2, 0, 8, 0, 10, 0, 8, 0, 2, 0, 16, 0, 20, 0};
+static const uint8_t less[] = {BRIDGE_PORT, 36, 0, 26, 0, 8, 0, 2, 0, 12, 0, 10, 0, 8, 0, 2, 0, 20, 0, 14, 0,
+                               8,           0,  2, 0, 8, 0, 16, 0, 8, 0, 2, 0, 16, 0, 20, 0};
+static const char range_turned[] = "[{\"path\":\"af-spec.vlan-info[vid=10-14].flags\",\"old\":[],"
+                                   "\"new\":[\"untagged\"]},"
+                                   "{\"path\":\"af-spec.vlan-info[vid=15]\",\"old\":{\"flags\":[],\"vid\":15}}]";
+static const char range_came[] = "[{\"path\":\"af-spec.vlan-info[vid=1]\",\"old\":{\"flags\":[\"pvid\",\"untagged\"],"
+                                 "\"vid\":1}},{\"path\":\"af-spec.vlan-info[vid=10-20]\",\"new\":{\"flags\":[],"
+                                 "\"vid\":10,\"vid-end\":20}}]";
 
 static const char said[] = "{\"ifi-family\":0,\"ifi-type\":1,\"ifi-index\":7,\"ifi-flags\":[\"up\",\"broadcast\","
                            "\"running\",\"lower-up\"],\"ifi-change\":0,\"ifname\":\"lo\",\"mtu\":1500,"
@@ -109,6 +123,8 @@ CALL(tells_counters, DIFF(message, turned, LINKWIRE_COUNTERS))
 CALL(tells_leniently, DIFF(message, turned, LINKWIRE_LENIENT))
 CALL(tells_all, DIFF(message, turned, LINKWIRE_LENIENT | LINKWIRE_COUNTERS))
 CALL(tells_vlan, DIFF(one_vlan, vlans, 0))
+CALL(tells_range, DIFF(one_vlan, range, 0))
+CALL(tells_less, DIFF(range, less, LINKWIRE_LENIENT))
 CALL(tells_damage, DIFF(damaged, damaged_too, 0))
 CALL(tells_no_damage, DIFF(damaged, one_vlan, LINKWIRE_LENIENT | LINKWIRE_COUNTERS))
 
@@ -237,6 +253,8 @@ int main(int count, char **words) {
     answers(__LINE__, one_said, shows_one_vlan);
     answers(__LINE__, vlans_said, shows_vlans);
     answers(__LINE__, vlan_came, tells_vlan);
+    answers(__LINE__, range_came, tells_range);
+    answers(__LINE__, range_turned, tells_less);
     answers(__LINE__, damage_turned, tells_damage);
     answers(__LINE__, damage_went, tells_no_damage);
     writes_nothing();

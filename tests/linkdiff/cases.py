@@ -64,9 +64,10 @@ def paths(name):
 def vlans(*values, more=b""):
     """The VLANs of a bridge, in a list of an attribute for each; other attributes stand in front of them.
 
-    A value is a VLAN's id, or bytes, which are all of a damaged element.
+    A value is a VLAN's id, its flags and its id, or bytes, which are all of a damaged element.
     """
-    infos = [it if isinstance(it, bytes) else struct.pack("<HH", 0, it) for it in values]
+    infos = [it if isinstance(it, bytes) else struct.pack("<HH", *(it if isinstance(it, tuple) else (0, it)))
+             for it in values]
     return attribute(26, more + b"".join(attribute(2, it) for it in infos))
 
 
@@ -79,9 +80,24 @@ def functions(count):
     return attribute(22, b"".join(attribute(1, attribute(4, struct.pack("<II", at, 1))) for at in range(count)))
 
 
+def ranged(first, last, flags=0):
+    """The two values of a range of VLANs."""
+    return (flags | 8, first), (flags | 16, last)
+
+
 def vlan(number):
-    """The path of a VLAN that came or went."""
+    """The path of a VLAN that came or went, or of a range of VLANs."""
     return f" af-spec.vlan-info[vid={number}]"
+
+
+def flags_of(number):
+    """The path of flags that turned."""
+    return vlan(number) + ".flags"
+
+
+def placed(*places):
+    """The paths of VLANs in a list that no kernel writes."""
+    return "".join(f" af-spec.vlan-info.{it}.{name}" for it in places for name in ("flags", "vid"))
 
 
 def kept(*numbers, payload=b"\0"):
@@ -89,12 +105,30 @@ def kept(*numbers, payload=b"\0"):
     return b"".join(attribute(it, payload) for it in numbers)
 
 
-def tunnel(*numbers):
-    return attribute(3, b"".join(attribute(2, struct.pack("<H", it)) for it in numbers))
+def tunnels(*values, more=b""):
+    """Tunnels: of each the flags, the VLAN and the id, or bytes, which are all of a damaged one."""
+    found = [it if isinstance(it, bytes) else attribute(1, struct.pack("<I", it[2])) +
+             attribute(2, struct.pack("<H", it[1])) + attribute(3, struct.pack("<H", it[0])) + more for it in values]
+    return attribute(26, b"".join(attribute(3, it) for it in found))
 
 
-def trees(*numbers):
-    return b"".join(attribute(1, attribute(1, struct.pack("<H", it))) for it in numbers)
+def tunnel(number):
+    """The path of a tunnel, or of a range of tunnels."""
+    return f" af-spec.vlan-tunnel-info[vid={number}]"
+
+
+def trees(*values):
+    """Spanning trees; bytes are all of a damaged one."""
+    return b"".join(attribute(1, it if isinstance(it, bytes) else attribute(1, struct.pack("<H", it)))
+                    for it in values)
+
+
+def tree(label):
+    return f" af-spec.mst.entry[msti{label}]"
+
+
+def with_trees(*values):
+    return link(attribute(26, attribute(6, trees(*values))), family=7)
 
 
 def mappings(*pairs):
@@ -113,9 +147,14 @@ def ports(*numbers):
 
 
 NAME = attribute(3, b"e5\0")
+# the attributes of tunnel 7 of VLAN 10
+FIELDS = [attribute(1, b"\7\0\0\0"), attribute(2, b"\x0a\0"), attribute(3, b"\0\0")]
 # counters of IPv6 and of ICMPv6: of an older kernel, and none
 SHORT = protinfo(counted(36, *range(1, 36)), attribute(6, struct.pack("<6Q", 6, *range(1, 6))))
 EMPTY = protinfo(counted(), attribute(6, b""))
+# lists of VLANs that no kernel writes
+ODD = [(2, 1), (1, 1), (1, (8, 2)), ((8, 1), 2), ((16, 1),), (1, (16, 2)), ((24, 1),), ((8, 1), (24, 2)), ranged(1, 1),
+       ranged(2, 1), ((12, 1), (16, 2)), ((8, 1), (20, 2)), ((8, 1), (8, 2), (16, 3)), (*ranged(1, 3), 3)]
 # attributes of IFLA_LINKINFO that are kept; a state passes over those of number 3
 XSTATS = b"", kept(3), kept(3, payload=b"\1"), kept(99, 3, 3)
 
@@ -189,41 +228,118 @@ STREAMS = [
     ("a value in front of others is told alone", [],
      [link(vlans(10, 20), family=7), link(vlans(5, 10, 20), family=7), link(vlans(5, 10, 15, 20), family=7)],
      ["new 5", "changed 5" + vlan(5), "changed 5" + vlan(15)]),
-    ("an order is no change of a value", [], [link(vlans(1, 2), family=7), link(vlans(2, 1), family=7)],
-     ["new 5", "changed 5 state"]),
-    ("values of one number are counted", [],
-     [link(vlans(1, 2), family=7), link(vlans(1, 1, 2), family=7), link(vlans(1, 2, 1, 1), family=7),
-      link(vlans(2, 1), family=7)],
-     ["new 5", "changed 5" + vlan("1#1"), "changed 5" + vlan("1#2"), "changed 5" + vlan("1#1") + vlan("1#2")]),
+    ("a VLAN goes out of a range", [],
+     [link(vlans(*ranged(10, 20)), family=7), link(vlans(*ranged(10, 14), *ranged(16, 20)), family=7),
+      link(vlans(*ranged(10, 20)), family=7)],
+     ["new 5", *["changed 5" + vlan(15)] * 2]),
+    ("a VLAN joins a range", [],
+     [link(vlans(*ranged(10, 20)), family=7), link(vlans(*ranged(10, 21)), family=7),
+      link(vlans(*ranged(9, 21)), family=7)],
+     ["new 5", "changed 5" + vlan(21), "changed 5" + vlan(9)]),
+    ("a range beside the same VLANs one by one", [],
+     [link(vlans(*ranged(10, 13)), family=7), link(vlans(10, 11, 12, 13), family=7),
+      link(vlans(10, *ranged(11, 13)), family=7), link(vlans(10, *ranged(12, 13)), family=7)],
+     ["new 5", *["changed 5 state"] * 2, "changed 5" + vlan(11)]),
+    ("an event that is compressed, beside a dump that is not", [],
+     [link(vlans(1, 10, 11, 12, 13, (4, 14)), family=7), link(vlans(1, *ranged(10, 13), (4, 15)), family=7),
+      link(vlans(1, 10, 11, 12, (2, 13), (4, 15)), family=7)],
+     ["new 5", "changed 5" + vlan(14) + vlan(15), "changed 5" + flags_of(13)]),
+    ("single VLANs that come, go and turn are one change", [],
+     [link(vlans(*values), family=7) for values in (
+         (1,), (1, 2, 3, 4), ((4, 1), (4, 2), (4, 3), (4, 4)), ((4, 1),))],
+     ["new 5", "changed 5" + vlan("2-4"), "changed 5" + flags_of("1-4"), "changed 5" + vlan("2-4")]),
+    ("all VLANs get untagged: pieces by what was said of them", [],
+     [link(vlans((2, 1), *ranged(10, 20), *ranged(21, 30, 2)), family=7),
+      link(vlans((6, 1), *ranged(10, 20, 4), *ranged(21, 30, 6)), family=7)],
+     ["new 5", "changed 5" + flags_of(1) + flags_of("10-20") + flags_of("21-30")]),
+    ("one change of a range that goes, of its VLANs beside those that turn", [],
+     [link(vlans(*ranged(10, 20)), family=7), link(vlans(*ranged(5, 12), *ranged(15, 18, 4)), family=7)],
+     ["new 5", "changed 5" + vlan("13-14") + flags_of("15-18") + vlan("19-20") + vlan("5-9")]),
+    ("the least and the greatest numbers", [],
+     [link(vlans(0, 65535), family=7), link(vlans(*ranged(0, 65535)), family=7), link(family=7)],
+     ["new 5", "changed 5" + vlan("1-65534"), "changed 5" + vlan("0-65535")]),
+    ("lists that no kernel writes, each between two that one writes", [],
+     [link(vlans(*it), family=7) for values in ODD for it in ((7,), values)] + [link(vlans(7), family=7)],
+     ["new 5", *[f"changed 5{it}" for values in ODD for it in (
+         vlan(7) + placed(*range(len(values))), placed(*range(len(values))) + vlan(7))]]),
+    ("lists that no kernel writes, beside each other", [],
+     [link(vlans(*values), family=7) for values in ((2, 1), (3, 1), (3, (4, 1)), ((4, 1),) * 2)],
+     ["new 5", "changed 5 af-spec.vlan-info.0.vid", "changed 5 af-spec.vlan-info.1.flags",
+      "changed 5 af-spec.vlan-info.0.flags af-spec.vlan-info.0.vid"]),
+    ("ranges and single VLANs that come are one change, and those with others between them are not", [],
+     [link(*it, family=7) for it in (
+         (), (vlans(1, *ranged(2, 5), 6, *ranged(7, 9)),), (), (vlans(1, *ranged(3, 4), 6),))],
+     ["new 5", *["changed 5" + vlan("1-9")] * 2, "changed 5" + vlan(1) + vlan("3-4") + vlan(6)]),
     ("lists in two attributes of one name", [],
-     [link(vlans(1), vlans(1, 2), family=7), link(vlans(1, 2), vlans(1, 2), family=7)],
-     ["new 5", "changed 5 repeated.0.af-spec.vlan-info[vid=2]"]),
+     [link(vlans(1), vlans(1, 2), family=7), link(vlans(*ranged(1, 5)), vlans(1, 2), family=7)],
+     ["new 5", "changed 5 repeated.0.af-spec.vlan-info[vid=2-5]"]),
+    ("of VLANs a message of another family has none", [],
+     [link(vlans(1), family=8), link(vlans(1, 2), family=8)], ["new 5", "changed 5 other[number=26].payload"]),
     ("a damaged element beside whole ones changes, goes, comes, and is a whole one", [],
      [link(vlans(*values), family=7) for values in ((1, b"ab"), (1, b"abc"), (1,), (1, b"ab"), (1, 2), (b"ab", 2))],
-     ["new 5", *["changed 5 af-spec.vlan-info[vid#0]"] * 3, "changed 5 af-spec.vlan-info[vid#0]" + vlan(2),
-      "changed 5" + vlan(1) + " af-spec.vlan-info[vid#0]"]),
-    ("damaged elements are counted", [],
-     [link(vlans(*values), family=7) for values in ((b"ab", 1, b"abc"), (1, b"ab", b"abc", b""), (b"abc", 1))],
-     ["new 5", "changed 5 af-spec.vlan-info[vid#2]",
-      "changed 5 af-spec.vlan-info[vid#0] af-spec.vlan-info[vid#1] af-spec.vlan-info[vid#2]"]),
+     ["new 5", "changed 5 af-spec.vlan-info.1", "changed 5" + placed(0) + " af-spec.vlan-info.1" + vlan(1),
+      "changed 5" + vlan(1) + placed(0) + " af-spec.vlan-info.1",
+      "changed 5" + placed(0) + " af-spec.vlan-info.1" + vlan("1-2"),
+      "changed 5" + vlan("1-2") + " af-spec.vlan-info.0" + placed(1)]),
     ("damaged elements alone are one value", [],
-     [link(vlans(*values), family=7) for values in ((b"ab",), (b"ab", b"abc"), (b"ab", 1), (b"abc",))],
-     ["new 5", "changed 5 af-spec.vlan-info", "changed 5 af-spec.vlan-info af-spec.vlan-info[vid#0]" + vlan(1),
-      "changed 5 af-spec.vlan-info[vid#0]" + vlan(1) + " af-spec.vlan-info"]),
+     [link(vlans(*values), family=7) for values in ((b"ab",), (b"ab", b"abc"), (b"ab", 1), (b"abc",), (1,))],
+     ["new 5", "changed 5 af-spec.vlan-info", "changed 5 af-spec.vlan-info af-spec.vlan-info.0" + placed(1),
+      "changed 5 af-spec.vlan-info.0" + placed(1) + " af-spec.vlan-info", "changed 5 af-spec.vlan-info" + vlan(1)]),
     ("a list stands beside attributes that come twice", [],
      [link(vlans(1, 2, more=attribute(1, b"\0\0") + attribute(1, b"\1\0")), family=7),
       link(vlans(1, 3, more=attribute(1, b"\1\0") * 2), family=7)],
      ["new 5", "changed 5" + vlan(2) + " af-spec.repeated.0.mode" + vlan(3)]),
-    ("a tunnel's number is that of the last attribute of its name", [],
-     [link(attribute(26, tunnel(1) + tunnel(2)), family=7), link(attribute(26, tunnel(2, 1) + tunnel(2)), family=7)],
-     ["new 5", "changed 5 af-spec.vlan-tunnel-info[vid=1].repeated.0.vid"]),
-    ("a tunnel without a number, or with a damaged one", [],
-     [link(attribute(26, tunnel(1)), family=7), link(attribute(26, tunnel(1) + attribute(3, b"")), family=7),
-      link(attribute(26, attribute(3, attribute(2, b"odd")) + tunnel(1)), family=7)],
-     ["new 5", "changed 5 af-spec.vlan-tunnel-info[vid#0]",
-      "changed 5 af-spec.vlan-tunnel-info[vid#0] af-spec.vlan-tunnel-info[vid#0].vid"]),
+    ("other attributes among VLANs: a mode inside a range, and one that is kept", [],
+     [link(attribute(26, b"".join(attribute(2, struct.pack("<HH", *it)) + more for it in ranged(1, last))), family=7)
+      for last, more in ((3, b""), (4, attribute(1, b"\0\0")), (3, kept(99)))],
+     ["new 5", "changed 5 af-spec.mode" + vlan(4) + " af-spec.repeated.0.mode",
+      "changed 5 af-spec.mode" + vlan(4) + " af-spec.repeated.0.mode af-spec.other[number=99] "
+      "af-spec.other[number=99#1]"]),
+    ("tunnels whose ids go along", [],
+     [link(it, family=7) for it in (
+         tunnels((8, 10, 1010), (16, 20, 1020)), tunnels((8, 10, 1010), (16, 14, 1014), (8, 16, 1016), (16, 20, 1020)),
+         tunnels((8, 10, 2010), (16, 14, 2014), (8, 16, 1016), (16, 21, 1021)),
+         tunnels((8, 10, 2010), (16, 21, 2021)))],
+     ["new 5", "changed 5" + tunnel(15), "changed 5" + tunnel("10-14") + ".id" + tunnel(21),
+      "changed 5" + tunnel("16-21") + ".id" + tunnel(15)]),
+    ("tunnels whose ids do not go along", [],
+     [link(it, family=7) for it in (
+         tunnels((0, 10, 7), (0, 11, 7)), tunnels((0, 10, 8), (0, 11, 8)), tunnels((0, 10, 8), (0, 11, 9)),
+         tunnels((4, 10, 7), (4, 11, 8)), tunnels((8, 10, 7), (16, 11, 8)))],
+     ["new 5", "changed 5" + tunnel(10) + ".id" + tunnel(11) + ".id", "changed 5" + tunnel(11) + ".id",
+      "changed 5" + tunnel("10-11") + ".id" + tunnel("10-11") + ".flags", "changed 5" + tunnel("10-11") + ".flags"]),
+    ("tunnels that no kernel writes: by places", [],
+     [link(it, family=7) for it in (
+         tunnels((8, 10, 7), (16, 12, 9)), tunnels((8, 10, 7), (16, 12, 8)), tunnels((0, 10, 7), b"odd"),
+         tunnels((0, 10, 7)), tunnels((0, 10, 7), more=attribute(2, b"\1\0")))],
+     ["new 5", "changed 5" + tunnel("10-12") + "".join(
+         f" af-spec.vlan-tunnel-info.{at}.{name}" for at in (0, 1) for name in ("id", "vid", "flags")),
+      "changed 5 af-spec.vlan-tunnel-info.0.flags" + "".join(
+          f" af-spec.vlan-tunnel-info.1.{name}" for name in ("id", "vid", "flags")) + " af-spec.vlan-tunnel-info.1",
+      "changed 5" + "".join(f" af-spec.vlan-tunnel-info.0.{name}" for name in ("id", "vid", "flags")) +
+      " af-spec.vlan-tunnel-info.1" + tunnel(10),
+      "changed 5" + tunnel(10) + "".join(
+          f" af-spec.vlan-tunnel-info.0.{name}" for name in ("id", "flags", "vid", "repeated.0.vid"))]),
+    ("a tunnel has each attribute once, in any order, and whatever the flags of its number are", [],
+     [link(tunnels(b"".join(it)), family=7) for it in (
+         FIELDS, FIELDS[::-1], [attribute(0x8001, b"\7\0\0\0"), *FIELDS[1:]], [FIELDS[0], *FIELDS], FIELDS[:2],
+         FIELDS)],
+     ["new 5", *["changed 5 state"] * 2, "changed 5" + tunnel(10) + "".join(
+         f" af-spec.vlan-tunnel-info.0.{name}" for name in ("id", "vid", "flags", "repeated.0.id")),
+      "changed 5 af-spec.vlan-tunnel-info.0.flags af-spec.vlan-tunnel-info.0.repeated.0.id",
+      "changed 5 af-spec.vlan-tunnel-info.0.id af-spec.vlan-tunnel-info.0.vid" + tunnel(10)]),
+    ("a record with more or less bytes is no VLAN", [],
+     [link(vlans(1, it), family=7) for it in (2, b"\0\0\2", 2, b"\0\0\2\0\0", 2)],
+     ["new 5", *["changed 5" + vlan("1-2") + placed(0) + " af-spec.vlan-info.1",
+                 "changed 5" + placed(0) + " af-spec.vlan-info.1" + vlan("1-2")] * 2]),
+    ("values of one number are counted", [], [with_trees(1, 2), with_trees(1, 1, 2), with_trees(1, 2, 1, 1),
+                                              with_trees(2, 1)],
+     ["new 5", "changed 5" + tree("=1#1"), "changed 5" + tree("=1#2"), "changed 5" + tree("=1#1") + tree("=1#2")]),
+    ("damaged elements are counted", [],
+     [with_trees(*values) for values in ((b"ab", 1, b"abc"), (1, b"ab", b"abc", b"a"), (b"abc", 1))],
+     ["new 5", "changed 5" + tree("#2"), "changed 5" + tree("#0") + tree("#1") + tree("#2")]),
     ("spanning trees", [],
-     [link(attribute(26, attribute(6, trees(*values))), family=7) for values in ((0, 5), (0, 3, 5), (3, 0, 5))],
+     [with_trees(*values) for values in ((0, 5), (0, 3, 5), (3, 0, 5))],
      ["new 5", "changed 5 af-spec.mst.entry[msti=3]", "changed 5 state"]),
     ("mappings of priorities", [],
      [link(data(b"vlan", attribute(3, mappings((1, 4))) + attribute(4, mappings((0, 2), (1, 4))))),
@@ -287,11 +403,28 @@ MOVING = {"stats": {"rx-packets": 9}, "broadcast": "00" * 32}
 # what comes with two lists, which goes when they turn: the path, and the whole value of each row
 WHOLES = [
     ("a VLAN", [], 7, vlans(1), vlans(1, 2), [("af-spec.vlan-info[vid=2]", {"flags": [], "vid": 2})]),
+    ("a range of VLANs", [], 7, vlans(1), vlans(1, *ranged(10, 20, 0x84)),
+     [("af-spec.vlan-info[vid=10-20]", {"flags": ["untagged", 128], "vid": 10, "vid-end": 20})]),
+    ("single VLANs side by side", [], 7, vlans(1), vlans(1, (2, 2), (2, 3), (0x67, 4)),
+     [("af-spec.vlan-info[vid=2-3]", {"flags": ["pvid"], "vid": 2, "vid-end": 3}),
+      ("af-spec.vlan-info[vid=4]", {"flags": ["master", "pvid", "untagged", "brentry", "only-opts"], "vid": 4})]),
+    ("a tunnel", [], 7, b"", tunnels((2, 10, 1010)),
+     [("af-spec.vlan-tunnel-info[vid=10]", {"id": 1010, "flags": ["pvid"], "vid": 10})]),
+    ("a range of tunnels, and one whose id does not go along", [], 7, b"",
+     tunnels((8, 10, 1010), (16, 20, 1020), (0, 21, 1020)),
+     [("af-spec.vlan-tunnel-info[vid=10-20]", {"id": 1010, "flags": [], "vid": 10, "id-end": 1020, "vid-end": 20}),
+      ("af-spec.vlan-tunnel-info[vid=21]", {"id": 1020, "flags": [], "vid": 21})]),
+    ("tunnels with the least and the greatest ids", [], 7, b"",
+     tunnels((8, 65534, 0), (16, 65535, 1)), [("af-spec.vlan-tunnel-info[vid=65534-65535]", {
+         "id": 0, "flags": [], "vid": 65534, "id-end": 1, "vid-end": 65535})]),
+    ("a tunnel with the greatest id", [], 7, b"", tunnels((0, 0, (1 << 32) - 1)),
+     [("af-spec.vlan-tunnel-info[vid=0]", {"id": (1 << 32) - 1, "flags": [], "vid": 0})]),
     ("a list that was not there", [], 7, b"", attribute(26, attribute(6, trees(3, 9))),
      [(f"af-spec.mst.entry[msti={it}]", {"msti": it}) for it in (3, 9)]),
     ("a list in which all are damaged is one value", [], 7, b"", vlans(b"a", b"b"),
      [("af-spec.vlan-info", ["61", "62"])]),
-    ("a damaged value beside another one", [], 7, vlans(1), vlans(1, b"a"), [("af-spec.vlan-info[vid#0]", "61")]),
+    ("a damaged value beside another one", [], 7, attribute(26, attribute(6, trees(1))),
+     attribute(26, attribute(6, trees(1, b"a"))), [("af-spec.mst.entry[msti#0]", "61")]),
     ("a mapping", [], 0, data(b"vlan", attribute(3, mappings((1, 4)))),
      data(b"vlan", attribute(3, mappings((0, 5), (1, 4)))),
      [("linkinfo.data.egress-qos.mapping[from=0]", {"from": 0, "to": 5})]),

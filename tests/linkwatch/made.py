@@ -68,6 +68,12 @@ def vlans(*entries):
     return n.IFLA_AF_SPEC, [(2, flags.to_bytes(2, "little") + vid.to_bytes(2, "little")) for flags, vid in entries]
 
 
+def tunnels(*entries):
+    """The tunnels of a port: of each flags, the VLAN and the id."""
+    return n.IFLA_AF_SPEC, [(3, [(1, u32(it)), (2, vid.to_bytes(2, "little")), (3, flags.to_bytes(2, "little"))])
+                            for flags, vid, it in entries]
+
+
 def stream(first, *lines):
     """A dump of these lines, and others after it."""
     return [BEGIN, *first, DONE, *lines]
@@ -108,8 +114,9 @@ def chance_lines(seed, count):
         family = chance.choice((0, 0, 0, 7, 10))
         parts = [it for it in parts if chance.random() < .8]
         if family == 7:
+            last = chance.randrange(2, 5)
             parts += [port_too((1, u8(chance.choice((0, 3))))),
-                      vlans(*((0, it) for it in range(1, chance.randrange(2, 5))))]
+                      vlans(*chance.choice((((0, it) for it in range(1, last)), ((8, 1), (16, last)))))]
         it = line(chance.randrange(1, 4), *parts, what=chance.choice(("new",) * 8 + ("del", "get")), family=family,
                   host=host, flags=chance.choice((0, 1)))
         yield it if chance.random() < .98 else it[:-2] + "0500"

@@ -5,8 +5,7 @@ import unittest
 from linkwire import numbers as n
 from linkwire import u8, u32
 from made import (BEGIN, DONE, DONE_BRIDGE, altname, inside, kind, line, master, mtu, name, port, port_too, state,
-                  stream,
-                  vlans)
+                  stream, tunnels, vlans)
 
 ETH, BR = line(2, name("veth0"), mtu(1500)), line(3, name("br0"), mtu(1500))
 IN = [line(2, name("veth0"), master(3), port((1, u8(0)))), BR]
@@ -66,6 +65,21 @@ ROWS = [
      ["veth0            port of br0: vlan +10-20"]),
     ("VLANs that change", [], stream(IN, in_bridge(vlans((6, 1))), in_bridge(vlans((4, 1), (2, 30)))),
      ["veth0            port of br0: vlan -1(pvid,untagged) +1(untagged) +30(pvid)"]),
+    ("a VLAN goes out of a range, and one joins it", [],
+     stream(IN, in_bridge(vlans((8, 10), (16, 20))), in_bridge(vlans((8, 10), (16, 14), (8, 16), (16, 21)))),
+     ["veth0            port of br0: vlan -15 +21"]),
+    ("a range beside the same VLANs one by one", [],
+     stream(IN, in_bridge(vlans((8, 10), (16, 12))), in_bridge(vlans((0, 10), (0, 11), (0, 12)))), []),
+    ("all VLANs get untagged", [],
+     stream(IN, in_bridge(vlans((8, 10), (16, 20))), in_bridge(vlans((12, 10), (20, 20)))),
+     ["veth0            port of br0: vlan -10-20 +10-20(untagged)"]),
+    ("tunnels, with --details", ["--details"],
+     stream(IN, in_bridge(vlans((0, 1))), *(in_bridge(tunnels(*it)) for it in (
+         [(8, 10, 1010), (16, 20, 1020)], [(8, 10, 1010), (16, 14, 1014), (8, 16, 2016), (16, 20, 2020)]))),
+     ["veth0            af-spec.vlan-tunnel-info +vid=10-20(id 1010,flags [],id-end 1020)",
+      "veth0            port of br0: vlan -1",
+      "veth0            af-spec.vlan-tunnel-info -vid=15(id 1015,flags []), "
+      "af-spec.vlan-tunnel-info[vid=16-20].id 1016 → 2016"]),
     ("a damaged VLAN is none", [], stream(IN, in_bridge(vlans((6, 1))), in_bridge((n.IFLA_AF_SPEC, [(2, b"ab")]))),
      ["veth0            port of br0: vlan -1(pvid,untagged)"]),
     ("values of other lists that come and go", [],

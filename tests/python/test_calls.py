@@ -151,7 +151,7 @@ class Calls(unittest.TestCase):
         self.assertEqual(linkwire.show(LO, kernel="running"), linkwire.show(LO, kernel="6.1.0"))
 
     def test_lists(self):
-        """An attribute that is a list is one also of one element; changes of a VLAN have its number."""
+        """An attribute that is a list is one also of one element; changes of VLANs have their numbers."""
         spec, one, other = numbers.IFLA_AF_SPEC, (2, b"\6\0\1\0"), (2, b"\0\0\x05\0")
         alone, both = (linkwire.build([(spec, it)], index=7, family=7) for it in ([one], [one, other]))
         first = {"flags": ["pvid", "untagged"], "vid": 1}
@@ -159,9 +159,21 @@ class Calls(unittest.TestCase):
                          [[first], [first, {"flags": [], "vid": 5}]])
         self.assertEqual(linkwire.diff(alone, both),
                          [("af-spec.vlan-info[vid=5]", None, {"flags": [], "vid": 5})])
+        ranges = [linkwire.build([(spec, [(2, bytes([flags, 0, vid, 0])) for flags, vid in some])], index=7, family=7)
+                  for some in (((8, 10), (16, 20)), ((12, 10), (20, 14), (0, 16), (8, 17), (16, 21)))]
+        self.assertEqual(linkwire.diff(*ranges), [
+            ("af-spec.vlan-info[vid=10-14].flags", [], ["untagged"]),
+            ("af-spec.vlan-info[vid=15]", {"flags": [], "vid": 15}, None),
+            ("af-spec.vlan-info[vid=21]", None, {"flags": [], "vid": 21})])
+        self.assertEqual(linkwire.diff(alone, ranges[0]), [
+            ("af-spec.vlan-info[vid=1]", first, None),
+            ("af-spec.vlan-info[vid=10-20]", None, {"flags": [], "vid": 10, "vid-end": 20})])
         damaged = [linkwire.build([(spec, [one, *it])], index=7, family=7) for it in ([(2, b"ab")], [(2, b"abc")], [])]
+        placed = [(f"af-spec.vlan-info.0.{name}", it, None) for name, it in first.items()]
         self.assertEqual([linkwire.diff(*it) for it in zip(damaged, damaged[1:])],
-                         [[("af-spec.vlan-info[vid#0]", *it)] for it in (("6162", "616263"), ("616263", None))])
+                         [[("af-spec.vlan-info.1", "6162", "616263")],
+                          [*placed, ("af-spec.vlan-info.1", "616263", None),
+                           ("af-spec.vlan-info[vid=1]", None, first)]])
         macs = [(18, [(1, "macvlan"), (2, [(4, bytes(6)), (5, [(4, bytes([it] * 6)) for it in some])])])
                 for some in ((1,), (1, 2))]
         data = [linkwire.show(linkwire.build([it]))["linkinfo"]["data"] for it in macs]

@@ -224,6 +224,41 @@ class Views(unittest.TestCase):
                 settling.add(Told(Event("changed", "", 0, 2), "changed", "e", "", [it]))
             self.assertEqual([it for told in settling.release() for it in told.changes], wanted, changes)
 
+    def test_settling_of_vlans(self):
+        """VLANs that come, go and turn meanwhile are told as they are then, VLAN by VLAN, in ranges."""
+        def change(at, old, new):
+            return Change(f"af-spec.vlan-tunnel-info[vid={at}", old, new)
+
+        def tunnels(first, last=None, ahead=1000, flags=()):
+            ends = {} if last is None else {"id-end": last + ahead, "vid-end": last}
+            return {"id": first + ahead, "flags": [*flags], "vid": first, **ends}
+
+        came, went = change("10-20]", None, tunnels(10, 20)), change("15]", tunnels(15), None)
+        joins, turned = change("21]", None, tunnels(21)), change("10-12].id", 1010, 2010)
+        back, flags = change("10-12].id", 2010, 1010), change("12-20].flags", [], ["pvid"])
+        mtu_turned = Change("mtu", 1, 2)
+        halves = [change("10-14]", None, tunnels(10, 14)), change("16-20]", None, tunnels(16, 20))]
+        plain = [Change(f"af-spec.vlan-info[vid={at}]", *it) for at, *it in (
+            (1, None, {"flags": [], "vid": 1}), (2, None, {"flags": [], "vid": 2}),
+            ("1-3", None, {"flags": [], "vid": 1, "vid-end": 3}), (3, None, {"flags": [], "vid": 3}))]
+        for changes, wanted in (
+                ([came], [came]), ([came, went], halves), ([*halves, change("15]", None, tunnels(15))], [came]),
+                ([came, joins], [change("10-21]", None, tunnels(10, 21))]), ([turned], [turned]), ([turned, back], []),
+                ([came, change("10-20]", tunnels(10, 20), None)], []),
+                ([came, *(change(f"{it}]", tunnels(it), None) for it in range(10, 21))], []),
+                ([came, turned], [change("10-12]", None, tunnels(10, 12, 2000)),
+                                  change("13-20]", None, tunnels(13, 20))]),
+                ([came, flags], [change("10-11]", None, tunnels(10, 11)), change("12-20]", None, tunnels(
+                    12, 20, flags=["pvid"]))]),
+                ([turned, flags], [change("10-11].id", 1010, 2010), change("12].id", 1012, 2012), change(
+                    "12].flags", [], ["pvid"]), change("13-20].flags", [], ["pvid"])]),
+                ([went, mtu_turned, joins], [went, joins, mtu_turned]), ([plain[0], plain[1], plain[3]], [plain[2]]),
+                ([plain[3], plain[0]], [plain[0], plain[3]])):
+            settling = Settling(1e6)
+            for it in changes:
+                settling.add(Told(Event("changed", "", 7, 2), "changed", "e", "", [it]))
+            self.assertEqual([it for told in settling.release() for it in told.changes], wanted, changes)
+
     def test_vlans(self):
         for entries, wanted in (([], set()), ([(0, 5)], {(5, "")}), ([(2, 1), (4, 2)], {(1, "pvid"), (2, "untagged")}),
                                 ([(8, 3), (16, 5)], {(3, ""), (4, ""), (5, "")}), ([(16, 5)], {(5, "")}),

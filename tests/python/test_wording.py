@@ -44,8 +44,17 @@ ROWS = [
     ("data.other[number=68#1]", {"number": 68, "name": "headroom", "flags": ["nested"], "payload": ""}, None,
      'data.other -number=68#1(name headroom,flags [nested],payload "")'),
     ("other[number=70].payload", "00", "01", "other[number=70].payload 00 → 01"),
-    ("af-spec.vlan-info[vid#0]", "61", "62", "af-spec.vlan-info[vid#0] 61 → 62"),
-    ("af-spec.vlan-info[vid#0]", None, "61", "af-spec.vlan-info[vid#0] none → 61"),
+    ("af-spec.mst.entry[msti#0]", "61", "62", "af-spec.mst.entry[msti#0] 61 → 62"),
+    ("af-spec.mst.entry[msti#0]", None, "61", "af-spec.mst.entry[msti#0] none → 61"),
+    ("af-spec.vlan-info[vid=10]", None, {"flags": [], "vid": 10}, "af-spec.vlan-info +vid=10(flags [])"),
+    ("af-spec.vlan-info[vid=10-20]", None, {"flags": ["pvid"], "vid": 10, "vid-end": 20},
+     "af-spec.vlan-info +vid=10-20(flags [pvid])"),
+    ("af-spec.vlan-info[vid=10-20].flags", [], ["untagged"], "af-spec.vlan-info[vid=10-20].flags [] → [untagged]"),
+    ("af-spec.vlan-tunnel-info[vid=20]", {"id": 20, "flags": [], "vid": 20}, None,
+     "af-spec.vlan-tunnel-info -vid=20(id 20,flags [])"),
+    ("af-spec.vlan-tunnel-info[vid=10-20]", {"id": 10, "flags": [], "vid": 10, "id-end": 20, "vid-end": 20}, None,
+     "af-spec.vlan-tunnel-info -vid=10-20(id 10,flags [],id-end 20)"),
+    ("af-spec.vlan-tunnel-info[vid=10-20].id", 1010, 2010, "af-spec.vlan-tunnel-info[vid=10-20].id 1010 → 2010"),
 ]
 MTU, ALIAS = Change("mtu", 1500, 9000), Change("ifalias", None, "\x1b")
 # what is told, and how that is said

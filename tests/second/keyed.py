@@ -12,8 +12,13 @@ names, and in values of the other lists.
 
 In the other half each value of a list has a number of its own. What is told of these pairs is held to the bytes too,
 without linkshow and told.py: the numbers whose values differ are told, and no others. A number that one message alone
-has is told once, with its value. The last line is 'keyed: ok'."""
+has is told once, with its value.
+
+Lists of VLANs and tunnels say the same of VLANs in several ways: in ranges as long as can be, one by one, and cut at
+some places. What is told is held to what was to be said of each VLAN. In the first half some are lists that no kernel
+writes: without an end of a range, out of order, damaged. The last line is 'keyed: ok'."""
 import argparse
+import itertools
 import json
 import random
 import re
@@ -31,6 +36,7 @@ PATHS = {"vlans": "af-spec.vlan-info[vid", "tunnels": "af-spec.vlan-tunnel-info[
          "kept in names": "prop-list.other[number", "kept in spec": "af-spec.other[number",
          "kept in trees": "af-spec.mst.other[number", "kept in info": "linkinfo.other[number",
          "kept in data": "linkinfo.data.other[number"}
+PORT = "vlans", "tunnels"
 EVERY = "kept", "kept in names"
 BRIDGE = ("vlans", "tunnels", "trees", "kept in spec", "kept in trees", *EVERY)
 OTHERS = ("egress", "ingress", "functions", "ports", "kept in info", "kept in data", *EVERY)
@@ -45,6 +51,15 @@ class Value:
     def __init__(self, number, *pieces):
         self.number, self.payload = number, b"".join(pieces)
         self.sorted = sorted(pieces, key=lambda it: (it[2], it[3] & 63) if len(it) > 3 else ())
+
+
+class Port(list):
+    """The values of a list of VLANs or tunnels, and what they were made of: `said` has flags and id of each VLAN, in
+    order; the id is None if it is no tunnel."""
+
+    def __init__(self, said=(), values=()):
+        super().__init__(values)
+        self.said = dict(said)
 
 
 class Kept:
@@ -84,12 +99,23 @@ def members(rng, number, own, others):
 
 
 def vlan(rng, number):
-    return Value(number, struct.pack("<HH", rng.choice([0, 0, 2, 4, 6, 8, 16]), number))
+    return Value(number, struct.pack("<HH", rng.choice([0, 0, 2, 4, 6, 8, 16, 24]), number))
 
 
 def tunnel(rng, number):
-    return members(rng, number, (2, u16), [attribute(1, u32(rng.choice([100, 200]))),
+    return members(rng, number, (2, u16), [attribute(1, u32(rng.choice([100, 200, 1000 + number]))),
                                            attribute(3, u16(rng.choice([0, 8, 16])))])
+
+
+def vlan_of(rng, vid, flags, id_):
+    """The value that says this of a VLAN; a tunnel's attributes stand in any order, and may have flags of their own."""
+    if id_ is None:
+        return Value(vid, struct.pack("<HH", flags, vid))
+    found = [attribute(1, u32(id_)), attribute(2, u16(vid)), attribute(3, u16(flags))]
+    if rng.random() < 0.1:
+        rng.shuffle(found)
+        found[0] = found[0][:3] + bytes([rng.choice([0x40, 0x80, 0xc0])]) + found[0][4:]
+    return Value(vid, *found)
 
 
 def tree(rng, number):
@@ -155,6 +181,111 @@ def damaged(rng, name, number):
     if name.startswith("kept"):
         return kept(rng, number)
     return Value(None, rng.choice([b"", b"a", b"odd", b"odd", b"12345"]))
+
+
+# ** VLANs
+
+BEGIN, END = 8, 16
+NAMES = {1: "master", 2: "pvid", 4: "untagged", 32: "brentry", 64: "only-opts"}
+FLAGS = 0, 0, 0, 2, 4, 4, 6, 1, 32, 64, 128, 0x8004
+# the first VLAN of those that come, go or turn, and how many they are
+VIDS, LONG = (1, 1, 2, 3, 5, 10, 15, 20, 21, 200, 4094, 0, 65533), (1, 1, 1, 2, 3, 4, 10, 11)
+AHEAD = 0, 1000, 1000, 1001, -1, 1 << 24, (1 << 32) - 65534
+
+
+def said_next(rng, name, said):
+    """What is said of VLANs after some of them came, went or turned: ids go along with VLANs, or all are the same."""
+    out = dict(said)
+    for _ in range(rng.choice([0, 0, 1, 1, 2, 3])):
+        first, long, way = rng.choice(VIDS), rng.choice(LONG), rng.choice(["add", "add", "drop", "flags", "id", "all"])
+        some = range(first, min(first + long, 65536)) if way != "all" else sorted(out)
+        flags, ahead, is_one = rng.choice(FLAGS), rng.choice(AHEAD), rng.random() < 0.1
+        for vid in some:
+            id_ = 5000 if is_one else min(max(vid + ahead, 0), (1 << 32) - 1)
+            if way == "drop":
+                out.pop(vid, None)
+            elif way == "add":
+                out[vid] = flags, id_ if name == "tunnels" else None
+            elif vid in out:
+                was, id_was = out[vid]
+                out[vid] = (was, None if id_was is None else id_) if way == "id" else (flags, id_was)
+    return {vid: out[vid] for vid in sorted(out)}
+
+
+def written(rng, said):
+    """The VLANs, flags and ids that say this: each VLAN alone, in ranges as long as can be, or cut at some places."""
+    out, runs, cuts = [], [], rng.choice([0, 0, 0.3, 1])
+    for vid, (flags, id_) in said.items():
+        last = runs[-1] if runs else (-2, -2, None, None)
+        along = id_ is None or last[3] is not None and id_ - last[3] == vid - last[0]
+        if last[1] + 1 == vid and last[2] == flags and along and rng.random() >= cuts:
+            runs[-1] = last[0], vid, flags, last[3]
+        else:
+            runs.append((vid, vid, flags, id_))
+    for first, last, flags, id_ in runs:
+        if first == last:
+            out.append((first, flags, id_))
+        else:
+            out += [(first, flags | BEGIN, id_), (last, flags | END, None if id_ is None else id_ + last - first)]
+    return out
+
+
+def slipped(rng, found):
+    """VLANs, flags and ids of which one is not as a kernel writes it, or still is."""
+    way = rng.choice(["ends", "ends", "flags", "vid", "id", "drop", "twice", "swap", "one"])
+    out, at = list(found), rng.randrange(len(found))
+    vid, flags, id_ = out[at]
+    if way == "ends":
+        out[at] = vid, flags ^ rng.choice([BEGIN, END, BEGIN | END]), id_
+    elif way == "flags":
+        out[at] = vid, flags ^ rng.choice([2, 4, 128]), id_
+    elif way == "vid":
+        out[at] = min(max(vid + rng.choice([-9, -1, 1, 9]), 0), 65535), flags, id_
+    elif way == "id" and id_ is not None:
+        out[at] = vid, flags, id_ ^ 1
+    elif way == "drop":
+        del out[at]
+    elif way == "twice":
+        out.insert(at, out[at])
+    elif way == "swap":
+        out.insert(rng.randrange(len(out)), out.pop(at))
+    elif way == "one":                          # a range of one VLAN
+        out[at:at + 1] = [(vid, flags & ~END | BEGIN, id_), (vid, flags & ~BEGIN | END, id_)]
+    return out
+
+
+def spoilt(rng, it):
+    """A VLAN or a tunnel with more or less bytes, with an attribute more or less, or one of another size."""
+    if len(it.payload) == 4:
+        return Value(None, rng.choice([it.payload[:3], it.payload + b"\0", it.payload * 2, b""]))
+    found = [it.payload[at:at + 8] for at in range(0, len(it.payload), 8)]
+    at, way = rng.randrange(len(found)), rng.choice(["drop", "more", "twice", "size", "end"])
+    if way == "drop":
+        del found[at]
+    elif way == "more":
+        found.insert(at, attribute(rng.choice([0, 4, 99]), b""))
+    elif way == "twice":
+        found.insert(at, found[at])
+    elif way == "size":
+        found[at] = attribute(found[at][2] | found[at][3] << 8, b"odd")
+    return Value(None, *found, b"\0\0" if way == "end" else b"")
+
+
+def port_beside(rng, name, values, is_calm):
+    """A list of VLANs beside the one that was there; some that are not calm are not as a kernel writes them."""
+    said = said_next(rng, name, values.said)
+    if len(said) > 60:
+        said = {}
+    found, way = written(rng, said), rng.choice(["slip", "slip", "spoil", "alter", *[None] * 6])
+    if way == "slip" and found and not is_calm:
+        found = slipped(rng, found)
+    out = [vlan_of(rng, *it) for it in found]
+    if way == "spoil" and out and not is_calm:
+        at = rng.randrange(len(out))
+        out[at] = spoilt(rng, out[at])
+    if way == "alter" and not is_calm:
+        out = altered(rng, name, out, False)
+    return Port(said, out)
 
 
 # ** messages
@@ -227,11 +358,13 @@ class Made:
 
     def __init__(self, rng, names, is_calm, count):
         """A calm list has values with numbers of their own alone, as kernels have them."""
-        lists, self.digits, self.numbers = {name: [] for name in names}, [], []
+        lists, self.digits, self.numbers = {name: Port() if name in PORT else [] for name in names}, [], []
         for _ in range(count):
-            lists = {name: altered(rng, name, values, is_calm) for name, values in lists.items()}
+            lists = {name: (port_beside if name in PORT else altered)(rng, name, values, is_calm)
+                     for name, values in lists.items()}
             self.digits.append(spelled(rng, lists, is_calm).hex().encode())
-            self.numbers.append({name: {it.number: it.sorted for it in values} for name, values in lists.items()})
+            self.numbers.append({name: values.said if name in PORT else {it.number: it.sorted for it in values}
+                                 for name, values in lists.items()})
         at, self.order = 0, []
         for _ in range(count * EACH):
             self.order.append(at)
@@ -251,6 +384,35 @@ def are_as_said(rows, wanted, alone):
         for it, told in found.items())
 
 
+def vlan_rows(path, was, now):
+    """What is to be told of VLANs, by what was to be said of each."""
+    def said(vid, by):
+        flags, id_ = by.get(vid, (None, None))
+        return flags, None if id_ is None else id_ - vid
+
+    def value(vid, last, by):
+        flags, id_ = by[vid]
+        names = [name for bit, name in NAMES.items() if flags & bit] + [it for it in [flags & ~103] if it]
+        end = {} if last == vid else {"vid-end": last} if id_ is None else {"id-end": by[last][1], "vid-end": last}
+        return {**({} if id_ is None else {"id": id_}), "flags": names, "vid": vid, **end}
+
+    out = []
+    for side, own, others in ("old", was, now), ("new", now, was):
+        differ = [it for it in own if said(it, own) != said(it, others) and (side == "old" or it not in others)]
+        for _, run in itertools.groupby(enumerate(differ), lambda it: (
+                it[1] - it[0], said(it[1], own), said(it[1], others))):
+            run = [vid for _, vid in run]
+            at = f"{path}={run[0]}]" if len(run) == 1 else f"{path}={run[0]}-{run[-1]}]"
+            one = value(run[0], run[-1], own)
+            if run[0] not in others:
+                out.append({"path": at, side: one})
+            else:
+                other = value(run[0], run[-1], others)
+                out += [{"path": f"{at}.{name}", "old": one[name], "new": other[name]}
+                        for name in ("id", "flags") if one.get(name) != other.get(name)]
+    return out
+
+
 def hold_numbers(made, found):
     """Holds what is told of each calm pair to the bytes; returns how many values were told, and how many as a whole."""
     by_time, count, whole = {}, 0, 0
@@ -261,17 +423,26 @@ def hold_numbers(made, found):
             sys.exit(f"keyed: {it}")
     for time, (one, other) in enumerate(zip(made.order, made.order[1:]), 1):
         was, now = made.numbers[one], made.numbers[other]
-        wanted = {(PATHS[name], number) for name in was for number in {*was[name], *now[name]}
+        names, rows = [it for it in was if it not in PORT], by_time.get(time, ())
+        pair = f"{made.digits[one].decode()}\n{made.digits[other].decode()}"
+        wanted = {(PATHS[name], number) for name in names for number in {*was[name], *now[name]}
                   if was[name].get(number) != now[name].get(number)}
-        alone = {(PATHS[name], number): side for name in was for side, own, others in
+        alone = {(PATHS[name], number): side for name in names for side, own, others in
                  (("old", was[name], now[name]), ("new", now[name], was[name])) for number in {*own} - {*others}}
-        rows = by_time.get(time, ())
+        for name in PORT if "vlans" in was else ():
+            own = [it for it in rows if it["path"].startswith(PATHS[name])]
+            if own != vlan_rows(PATHS[name], was[name], now[name]):
+                sys.exit(f"keyed: of {name} is told {own}, and not {vlan_rows(PATHS[name], was[name], now[name])}:\n"
+                         + pair)
+            rows = [it for it in rows if it not in own]
+            count += len(own)
+            whole += sum(it["path"][-1] == "]" for it in own)
         # a list without values stands in an object that may be told as empty
         empty = {"state", *(it["path"] for it in rows if any(path.startswith(it["path"]) for path in PATHS.values()))}
         labels = [(LABEL.fullmatch(it["path"]), it) for it in rows if it["path"] not in empty]
         if not are_as_said(labels, wanted, alone):
             sys.exit(f"keyed: told is {rows}, and {sorted(wanted)} differ, and {sorted(alone)} are in one message:\n"
-                     f"{made.digits[one]}\n{made.digits[other]}")
+                     + pair)
         count += len(wanted)
         whole += len(alone)
     return count, whole

@@ -26,6 +26,8 @@ OPTIONS = [], ["--lenient"], ["--counters"], ["--counters", "--lenient"]
 EACH, TURN = 100, 20                            # streams a call, and calls with the same messages and options
 DUMPS, FILES = 40, 10                           # hosts a call in two dumps, and in two files
 TIME = re.compile(rb'"time":"([0-9]+)"')
+# the path of a VLAN or of a range of VLANs, up to its number, and what stands behind it
+VLANS = re.compile(r"((?:.*\.)?af-spec\.vlan-(?:tunnel-)?info\[vid)=([0-9]+)(?:-([0-9]+))?\](?:\.(id|flags))?")
 # paths that releases name differently
 ORDERED = re.compile(r"(?:.*\.)?(?:inet6|protinfo)\.(?:.*\.)?stats(?:\.|$)")
 
@@ -80,15 +82,32 @@ class Link:
 
 
 def leaves(line, is_all):
-    shown = line.message.shown[line.kernel]
-    return shown.leaves if is_all else shown.settings
+    """The leaves of a message: of a list of VLANs the flags of each, and the ids of tunnels."""
+    shown, out = line.message.shown[line.kernel], {}
+    for path, value in (shown.leaves if is_all else shown.settings).items():
+        if isinstance(value, told.Vlans):
+            for vid, said in value.items():
+                out.update({f"{path}={vid}].{name}": it for name, it in told.members(vid, said).items()})
+        else:
+            out[path] = value
+    return out
 
 
 def inside(path, value):
-    """The leaves that a change stands for: those inside a value that is told as a whole, or the one that it tells."""
+    """The leaves that a change stands for: those inside a value that is told as a whole, or the one that it tells. Of
+    VLANs these are those of each: the ids of a range go along with its VLANs."""
     out = []
-    told.under(path, value, out, {})
-    return dict(out)
+    if (it := VLANS.fullmatch(path)) is None:
+        told.under(path, value, out, {})
+        return dict(out)
+    first, last = int(it[2]), int(it[3] or it[2])
+    members = {it[4]: value} if it[4] else {name: value[name] for name in ("id", "flags") if name in value}
+    if not it[4]:
+        ends = {"vid-end": last, **({"id-end": value["id"] + last - first} if "id" in value else {})}
+        if value != {**members, "vid": first, **(ends if last > first else {})}:
+            breaks("leading there", f"{path} has the value {value}")
+    return {f"{it[1]}={vid}].{name}": one + vid - first if name == "id" else one
+            for vid in range(first, last + 1) for name, one in members.items()}
 
 
 def counts_as_message(line):
@@ -144,6 +163,7 @@ class Laws:
         for row in rows:
             old, new = (inside(row["path"], row[side]) if side in row else {} for side in ("old", "new"))
             is_whole = row["path"][-1] == "]" and len(row) == 2
+            self.counts["told of a range"] += bool((found := VLANS.fullmatch(row["path"])) and found[3])
             within = [it for it in link.leaves if is_whole and it.startswith(row["path"] + ".")]
             for path in {*old, *new, *within}:
                 was = link.leaves.pop(path, None)

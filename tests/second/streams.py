@@ -51,11 +51,25 @@ def inet6(rng):
                      attribute(5, u32(65535, rng.randrange(2), rng.randrange(2), 1))])
 
 
+def vlans(rng, is_tunnels):
+    """VLANs or tunnels of a bridge's port, alone and in ranges; one list in eight is out of order, as no kernel has
+    it."""
+    out, ends = [], sorted(rng.sample(range(10, 24), 2 * rng.choice([0, 1, 1, 2, 3])))
+    for first, last in zip(ends[::2], ends[1::2]):
+        flags, ahead = rng.randrange(2), rng.choice([0, 1000])
+        for vid, end in rng.choice([[(first, 8), (last, 16)], [(first, 8), (last, 16)], [(first, 0)], [(last, 0)]]):
+            parts = [attribute(1, u32(vid + ahead)), attribute(2, struct.pack("<H", vid)),
+                     attribute(3, struct.pack("<H", flags | end))]
+            out.append(attribute(3, b"".join(parts)) if is_tunnels else
+                       attribute(2, struct.pack("<HH", flags | end, vid)))
+    if rng.random() < 0.125:
+        rng.shuffle(out)
+    return b"".join(out)
+
+
 def af_spec(rng, family):
     if family == 7:
-        vlans = [attribute(2, struct.pack("<HH", rng.randrange(2), rng.choice([10, 10, 20, 200])))
-                 for _ in range(rng.choice([1, 1, 2, 3]))]
-        return attribute(26, b"".join(vlans))
+        return attribute(26, vlans(rng, False) + (vlans(rng, True) if rng.random() < 0.3 else b""))
     return attribute(26, attribute(10, inet6(rng)) + attribute(2, attribute(1, u32(*[rng.randrange(2)] * 3))))
 
 

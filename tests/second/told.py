@@ -18,8 +18,13 @@ IPV6 = re.compile(r"(repeated\.[0-9]+\.)?protinfo\.(repeated\.[0-9]+\.)?(icmp6-)
 PARTS = 7, 10
 # the lists whose values are told by a number that each of them says, with the name of that number
 FUNCTIONS = "vfinfo-list.info"
-KEYS = {"af-spec.vlan-info": "vid", "af-spec.vlan-tunnel-info": "vid", "mst.entry": "msti",
-        "egress-qos.mapping": "from", "ingress-qos.mapping": "from", FUNCTIONS: "vf", "vf-ports.port": "vf"}
+KEYS = {"mst.entry": "msti", "egress-qos.mapping": "from", "ingress-qos.mapping": "from", FUNCTIONS: "vf",
+        "vf-ports.port": "vf"}
+# the lists of VLANs in the settings of a bridge's port, which are told VLAN by VLAN, by their numbers there
+BRIDGE, SPEC = 7, 26
+VLANS = {2: "vlan-info", 3: "vlan-tunnel-info"}
+BEGIN, END = 8, 16
+VLAN_FLAGS = {1: "master", 2: "pvid", 4: "untagged", 32: "brentry", 64: "only-opts"}
 # the list of what is kept as it is, of any object, and the number that it is told by
 OTHER, NUMBER = "other", "number"
 # the attributes of a function of which a state clears something
@@ -115,10 +120,11 @@ class Shown:
     """What is shown of a message: the value at each path, in order; the paths that are counters, which a state passes
     over; the values at the others; and in `whole` the values of lists that have a label, whatever stands inside."""
 
-    def __init__(self, page, filled):
+    def __init__(self, text, page, filled):
         page, self.whole = json.loads(page), {}
-        self.leaves = dict(leaves_of(page, self.whole))
-        others = dict(leaves_of(json.loads(filled)))
+        self.leaves = dict(leaves_of(page, vlan_lists(page, text), self.whole))
+        filled = json.loads(filled)
+        others = dict(leaves_of(filled, vlan_lists(filled, second.filled(text)), {}))
         self.counters = {path for path, value in self.leaves.items()
                          if path not in others or others[path] != value or IPV6.match(path)}
         # a refused attribute in which a state clears some of the bytes is told, with the others
@@ -164,13 +170,13 @@ def settled(path, value):
     return {name: it for name, it in out.items() if name != "repeated" or it}
 
 
-def leaves_of(page, whole=None):
-    """Each path that holds no other, and its value; of each refused attribute the bytes. Of values with labels `whole`
-    gets all."""
+def leaves_of(page, vlans, whole):
+    """Each path that holds no other, and its value; of each refused attribute the bytes. A list of VLANs that a kernel
+    writes so is one leaf here, Vlans. Of values with labels `whole` gets all."""
     if "refused" in page:
         page["refused"] = raw([(name_of(it), it["payload"]) for it in page["refused"]])
     out = []
-    under("", page, out, {} if whole is None else whole)
+    under("", page, out, whole, vlans)
     return out
 
 
@@ -188,9 +194,12 @@ def raw(refused):
     return {**members, "repeated": earlier} if earlier else members
 
 
-def under(path, value, out, whole):
+def under(path, value, out, whole, vlans=()):
     """A list that holds an object or a list is told value by value; any other one is a value."""
     parts = []
+    if path in vlans:
+        out.append((f"{path}[vid", vlans[path]))
+        return
     if isinstance(value, dict):
         parts = [(f"{path}.{name}" if path else name, it) for name, it in value.items()]
     elif isinstance(value, list) and any(isinstance(it, (dict, list)) for it in value):
@@ -199,7 +208,7 @@ def under(path, value, out, whole):
     if not parts and path:
         out.append((path, value))
     for at, it in parts:
-        under(at, it, out, whole)
+        under(at, it, out, whole, vlans)
 
 
 def labels(path, values):
@@ -249,19 +258,134 @@ def messages(linkshow, options, texts, kernels):
                 if it.key is not None and it.word != "refused":
                     it.faults[kernel] = f'"fault":"{it.word}"}}'
             else:
-                it.shown[kernel] = Shown(page, next(answers))
+                it.shown[kernel] = Shown(it.text, page, next(answers))
     return {it.digits: it for it in found}
 
 
+# ** VLANs of a bridge's port
+
+class Vlans(dict):
+    """What a list says of its VLANs, in order: by the VLAN its flags, and of a tunnel how far its id is ahead of it."""
+
+
+def vlan(payload):
+    """The VLAN of a record, its flags, and no id."""
+    return (payload[2] | payload[3] << 8, payload[0] | payload[1] << 8, None) if len(payload) == 4 else None
+
+
+def tunnel(payload):
+    """The VLAN of a tunnel, its flags and its id: each stands once, and nothing else."""
+    try:
+        found = sorted((kind & 0x3fff, it) for _, kind, it in second.each(payload))
+    except second.Fault:
+        return None
+    if [(number, len(it)) for number, it in found] != [(1, 4), (2, 2), (3, 2)]:
+        return None
+    id_, vid, flags = (int.from_bytes(it, "little") for _, it in found)
+    return vid, flags, id_
+
+
+def vlans_in(values):
+    """What values say, each None or a VLAN with flags and an id; None where no kernel writes such a list. VLANs ascend.
+    One that begins a range is followed by its end, of which the same is said."""
+    out, above, begun = Vlans(), -1, None
+    for it in values:
+        if it is None:
+            return None
+        vid, flags, id_ = it
+        ends, said = flags & (BEGIN | END), (flags & ~(BEGIN | END), None if id_ is None else id_ - vid)
+        if vid <= above or ends != (0 if begun is None else END) and (begun is not None or ends != BEGIN):
+            return None
+        if begun is not None and said != out[above]:
+            return None
+        out.update(dict.fromkeys(range(vid if begun is None else begun, vid + 1), said))
+        above, begun = vid, vid if ends == BEGIN else None
+    return out if begun is None else None
+
+
+def vlan_lists(page, text):
+    """The lists of VLANs of a message that are as kernels write them, by their paths."""
+    if text[0] != BRIDGE:
+        return {}
+    paths = [f"repeated.{at}.af-spec" for at, it in enumerate(page.get("repeated", ())) if "af-spec" in it]
+    specs, out = [], {}
+    for _, kind, payload in second.each(text[16:]):
+        try:
+            if kind & 0x3fff == SPEC:
+                second.member(second.top(text), kind, payload)
+                specs.append(payload)
+        except second.Fault:                    # it is refused
+            pass
+    for path, spec in zip([*paths, "af-spec"], specs):
+        for which, name in VLANS.items():
+            found = vlans_in([tunnel(it) if which == 3 else vlan(it) for _, kind, it in second.each(spec)
+                              if kind & 0x3fff == which])
+            if found:
+                out[f"{path}.{name}"] = found
+    return out
+
+
+def members(vid, said):
+    """The id of a VLAN's tunnel, if it is one, and its flags."""
+    flags, ahead = said
+    names = [name for bit, name in VLAN_FLAGS.items() if flags & bit]
+    rest = flags & ~sum(VLAN_FLAGS)
+    return {**({} if ahead is None else {"id": vid + ahead}), "flags": names + [rest] * (rest > 0)}
+
+
+def vlan_value(first, last, said):
+    """VLANs of which the same is said, as one value."""
+    out = {**members(first, said), "vid": first}
+    if last > first:
+        out.update({f"{name}-end": it for name, it in members(last, said).items() if name == "id"})
+        out["vid-end"] = last
+    return out
+
+
+def pieces_of(own, others):
+    """The VLANs of a list of which another one does not say the same: the first and the last one of each piece, what is
+    said of them, and what the other list says. VLANs next to each other are one piece if that is the same."""
+    out = []
+    for vid, said in own.items():
+        beside = others.get(vid)
+        if beside != said and out and out[-1][1:] == [vid - 1, said, beside]:
+            out[-1][1] = vid
+        elif beside != said:
+            out.append([vid, vid, said, beside])
+    return out
+
+
+def vlan_rows(path, own, others, is_old):
+    """What a list tells beside another one: the old one what went and what turned, the new one what came."""
+    for first, last, said, beside in pieces_of(own, others):
+        at = f"{path}={first}]" if first == last else f"{path}={first}-{last}]"
+        if beside is None:
+            value = text_of(vlan_value(first, last, said))
+            yield (at, value, None) if is_old else (at, None, value)
+        elif is_old:
+            was, now = members(first, said), members(first, beside)
+            yield from ((f"{at}.{name}", text_of(was[name]), text_of(now[name])) for name in was
+                        if was[name] != now[name])
+
+
 # ** what changed
+
+def rows_of(own, others, is_old):
+    """What the leaves of one message tell beside those of the other one."""
+    for path, value in own.items():
+        if isinstance(value, Vlans):
+            yield from vlan_rows(path, value, others.get(path, {}), is_old)
+        elif path not in others:
+            yield (path, text_of(value), None) if is_old else (path, None, text_of(value))
+        elif is_old and others[path] != value:
+            yield path, text_of(value), text_of(others[path])
+
 
 def changes(old, new, is_all):
     """The list `changes` of two messages, each with how it is shown."""
     (was, before), (now, after) = old, new
     olds, news = before.beside(after, is_all), after.beside(before, is_all)
-    rows = [(path, text_of(value), text_of(news[path]) if path in news else None)
-            for path, value in olds.items() if path not in news or news[path] != value]
-    rows += [(path, None, text_of(value)) for path, value in news.items() if path not in olds]
+    rows = [*rows_of(olds, news, True), *rows_of(news, olds, False)]
     out = rows or [("state", f'"{was.text.hex()}"', f'"{now.text.hex()}"')]
     return "[" + ",".join(
         f'{{"path":{text_of(path)}' + ("" if one is None else f',"old":{one}')
