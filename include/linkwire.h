@@ -207,8 +207,8 @@ ptrdiff_t linkwire_show(const uint8_t *message, size_t len, uint32_t order, uint
 
 /* What changed from one message to another, as linkdiff(1) tells it under "changes": a list in JSON, in UTF-8, without
  * an end of line and without a NUL, of an object for each path whose value differs, with "path", "old" and "new", of
- * which one is left out where the path came or went. A VLAN has its number there, as
- * "af-spec.vlan-info[vid=200].flags": linkdiff(1) says how paths name the values of lists, and which of them come and
+ * which one is left out where the path came or went. VLANs have their numbers there, as
+ * "af-spec.vlan-info[vid=10-20].flags": linkdiff(1) says how paths name the values of lists, and which of them come and
  * go whole. Where no path differs, though the messages do, the one path "state" has both encodings, in hexadecimal.
  * Attributes IFLA_EVENT of four bytes, which announcements alone have, are left out of both messages first, as
  * linkdiff(1) does. The list is written, and its length returned, as `linkwire_show` does; 0, and `out` is unchanged,

@@ -44,6 +44,8 @@ ATTRIBUTES = {"name": lambda it: attribute(3, it.encode() + b"\0"),
               "ipv6": lambda it: attribute(12, attribute(3, struct.pack(f"<{it}Q", *range(int(it))))),
               "alias": lambda it: attribute(20, bytes.fromhex(it)),
               "trees": lambda it: attribute(26, attribute(6, b"".join(map(tree, it.split(","))))),
+              "vlans": lambda it: attribute(26, b"".join(vlan(*one) for one in ranges(it))),
+              "tunnels": lambda it: attribute(26, b"".join(tunnel(*one) for one in ranges(it))),
               "unknown": lambda it: b"".join(map(unknown, it.split(",")))}
 
 
@@ -58,6 +60,25 @@ def tree(it):
         return attribute(1, b"odd")
     inside = attribute(1, struct.pack("<H", int(number)))
     return attribute(1, inside + attribute(2, bytes([int(state)])) if state else inside)
+
+
+def ranges(text):
+    """The values of a list of VLANs: the number, the flag of an end of a range, what is said of the first VLAN, and how
+    far this one is behind it."""
+    for it in text.split(","):
+        numbers, _, said = it.partition("/")
+        first, *last = map(int, numbers.split("-"))
+        yield first, 8 * len(last), int(said or 0), 0
+        yield from ((it, 16, int(said or 0), it - first) for it in last)
+
+
+def vlan(number, end, flags, _):
+    return attribute(2, struct.pack("<HH", flags | end, number))
+
+
+def tunnel(number, end, it, behind):
+    parts = attribute(1, struct.pack("<I", it + behind)) + attribute(2, struct.pack("<H", number))
+    return attribute(3, parts + attribute(3, struct.pack("<H", end)))
 
 
 def fails(what):
