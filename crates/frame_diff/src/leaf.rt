@@ -473,6 +473,7 @@ pub(crate) fn put_step<D: Depth>(
 }
 
 /// Tells of a value one step further beside another one, if there is one. A path is written where something is told.
+#[inline(always)]
 #[tactic(auto, using(crate::proofs::Items::leaf_untold, crate::proofs::Items::leaf_told))]
 pub(crate) fn tell_step<D: Depth>(
     texts: &mut Texts,
