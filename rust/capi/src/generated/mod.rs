@@ -13,6 +13,7 @@ pub mod link_state;
 pub mod link_vals;
 pub mod link_vf;
 pub mod link_vfrec;
+pub mod link_vlans;
 pub mod message_diff;
 pub mod message_shown;
 pub mod nla_wire;

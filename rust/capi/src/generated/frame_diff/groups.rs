@@ -9,6 +9,7 @@ use crate::frame_diff::lists::{is_without, none_of, tell_object};
 use crate::frame_diff::named::{is_each, is_unnamed};
 use crate::frame_diff::nests::is_nest;
 use crate::frame_diff::path::{join, join_place};
+use crate::frame_diff::ranges::{runs_beside, runs_of, tell_vlans};
 use crate::frame_diff::same::is_same_list;
 use crate::frame_diff::value::tell_value;
 use crate::frame_diff::walk::{Attribute, Attributes, Pass, Walk};
@@ -17,7 +18,7 @@ use crate::frame_shown::depth::Above;
 use crate::frame_shown::form::{Form, List, Table, Way, row_in};
 use crate::nla_wire::{NlaBuffer, NlasIterator};
 use crate::shown::Page;
-use crate::rattle::alloc::AllocError;
+use crate::rattle::alloc::{AllocError, Global};
 
 /// An attribute of a list, if it has a name.
 fn named<'a>(is_state: bool, list: Attributes<'a>, frame: &NlaBuffer<'a>) -> Option<Attribute<'a>> {
@@ -548,6 +549,60 @@ fn tell_by_key<W: Walk, V: Values>(
     tell_keyed::<W, V>(texts, pass, page, path, key, own, others)
 }
 
+/// Another list; a list without values, where it is one of VLANs.
+fn labelled_beside<'a>(
+    alloc: Global,
+    own: Attributes<'a>,
+    others: Attributes<'a>,
+) -> Result<Attributes<'a>, AllocError> {
+    if runs_of(alloc, others)?.is_some() {
+        return Ok(none_of(own));
+    }
+    Ok(others)
+}
+
+/// Tells of the values of a list that is none of VLANs, by their labels or by their places.
+fn tell_labels<W: Walk, V: Values>(
+    texts: &mut Texts,
+    pass: Pass,
+    page: &mut Page,
+    path: &str,
+    own: Attributes<'_>,
+    others: Attributes<'_>,
+) -> Result<(), AllocError> {
+    let others = labelled_beside(texts.alloc, own, others)?;
+    match key_in(own) {
+        Some(key) => tell_by_key::<W, V>(texts, pass, page, path, key, own, others),
+        None => tell_by_place::<W, V>(texts, pass, page, path, own, others),
+    }
+}
+
+/// Tells of the values of a list beside those of another one.
+fn tell_inside<W: Walk, V: Values>(
+    texts: &mut Texts,
+    pass: Pass,
+    page: &mut Page,
+    path: &str,
+    own: Attributes<'_>,
+    others: Attributes<'_>,
+) -> Result<(), AllocError> {
+    match runs_of(texts.alloc, own)? {
+        Some(runs) => {
+            let theirs = runs_beside(texts.alloc, others)?;
+            tell_vlans(
+                texts,
+                own,
+                page,
+                path,
+                pass.side,
+                runs.as_slice(),
+                theirs.as_slice(),
+            )
+        }
+        None => tell_labels::<W, V>(texts, pass, page, path, own, others),
+    }
+}
+
 /// Tells of a list of values beside another one, if there is one.
 pub(crate) fn tell_values<W: Walk, V: Values>(
     texts: &mut Texts,
@@ -562,10 +617,7 @@ pub(crate) fn tell_values<W: Walk, V: Values>(
     }
     let (others, is_alike) = values_beside::<W>(pass, own, beside);
     let pass = Pass { is_alike, ..pass };
-    match key_in(own) {
-        Some(key) => tell_by_key::<W, V>(texts, pass, page, path, key, own, others),
-        None => tell_by_place::<W, V>(texts, pass, page, path, own, others),
-    }
+    tell_inside::<W, V>(texts, pass, page, path, own, others)
 }
 
 /// Whether two lists are lists of values under one name.

@@ -13,8 +13,6 @@ use crate::nla_wire::fields::u32_at;
 /// What tells the values of a list apart: a number that each of them says.
 #[derive(Clone, Copy)]
 pub enum Key {
-    /// That of a VLAN.
-    Vid,
     /// That of a spanning tree.
     Msti,
     /// The priority that is mapped to another one.
@@ -29,7 +27,6 @@ impl Key {
     /// The name of the number.
     pub(crate) fn name(self) -> &'static str {
         match self {
-            Key::Vid => "vid",
             Key::Msti => "msti",
             Key::From => "from",
             Key::Vf => "vf",
@@ -41,7 +38,6 @@ impl Key {
 /// Whether two lists have the same key.
 pub(crate) fn is_key(key: Key, other: Option<Key>) -> bool {
     match (key, other) {
-        (Key::Vid, Some(Key::Vid)) => true,
         (Key::Msti, Some(Key::Msti)) => true,
         (Key::From, Some(Key::From)) => true,
         (Key::Vf, Some(Key::Vf)) => true,
@@ -53,7 +49,6 @@ pub(crate) fn is_key(key: Key, other: Option<Key>) -> bool {
 /// What tells the values of a list apart; none where they have their places.
 pub(crate) fn key_in(list: Attributes<'_>) -> Option<Key> {
     match (list.number, list.list) {
-        (Some(_), List::Of(Place::BridgeSpec)) => Some(Key::Vid),
         (Some(_), List::Of(Place::BridgeMst)) => Some(Key::Msti),
         (Some(_), List::Of(Place::VlanQos)) => Some(Key::From),
         (None, List::Entries(Group::Info)) => Some(Key::Vf),

@@ -25,8 +25,15 @@ pub fn law_counters() {}
 /// Nothing that a state clears is in what is told of it as a whole.
 pub fn law_settled() {}
 
-/// What is written behind the text of a path is an object for each change that is told.
+/// What is written behind the text of a path is an object for each change that is told; of VLANs beside each other that
+/// changed alike it is one.
 pub fn law_items() {}
+
+/// VLAN by VLAN, what is written of two messages is what is told of them.
+pub fn law_ranges() {}
+
+/// Nothing is written of two messages exactly where nothing is told of them.
+pub fn law_written() {}
 
 /// The members of a list of attributes are what is shown of it, where no two numbers have one name; and so are those of
 /// a record.

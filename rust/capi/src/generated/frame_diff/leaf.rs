@@ -10,6 +10,7 @@ use crate::frame_shown::list::{show_one_array, show_one_list, show_way};
 use crate::frame_shown::tables::LINK_FLAGS;
 use crate::frame_shown::value::{show_field, show_spelled};
 use crate::link_info::Plain;
+use crate::link_vlans::Run;
 use crate::nla_wire::{NLA_F_NESTED, NLA_F_NET_BYTEORDER, NLA_TYPE_MASK};
 use crate::shown::{Nest, Page, Room};
 use crate::rattle::alloc::{AllocError, Global};
@@ -38,6 +39,10 @@ pub enum Value<'a> {
     Octets(&'a [u8]),
     /// The flags of a link.
     LinkFlags(u64),
+    /// The flags of a VLAN.
+    VlanFlags(u64),
+    /// VLANs of which the same is said.
+    Vlans(Run),
     /// The attributes of a list that have a name, as a list of values.
     Listed(List, &'a [u8]),
     /// The attributes of a list that are the values of the list of a number.
@@ -102,6 +107,47 @@ fn show_flags(page: &mut Page, name: &str, kind: u16) -> Result<(), AllocError> 
 /// Adds the flags of a link.
 fn show_link_flags(page: &mut Page, name: &str, bits: u64) -> Result<(), AllocError> {
     page.flags(name, bits, &LINK_FLAGS)
+}
+
+/// The names of flags of VLANs (`BRIDGE_VLAN_INFO_*`, linux/if_bridge.h), without those of the ends of a range.
+pub(crate) const VLAN_FLAGS: [(u64, &str); 5] = [
+    (1, "master"),
+    (2, "pvid"),
+    (4, "untagged"),
+    (32, "brentry"),
+    (64, "only-opts"),
+];
+
+/// Adds the flags of a VLAN.
+fn show_vlan_flags(page: &mut Page, name: &str, bits: u64) -> Result<(), AllocError> {
+    page.flags(name, bits, &VLAN_FLAGS)
+}
+
+/// Adds the id of a tunnel, if it is one.
+fn show_id(page: &mut Page, name: &str, id: Option<u64>) -> Result<(), AllocError> {
+    match id {
+        Some(id) => page.number(name, id),
+        None => Ok(()),
+    }
+}
+
+/// Adds the last VLAN of a run, where that is another one than the first.
+fn show_end(page: &mut Page, run: Run) -> Result<(), AllocError> {
+    if run.first == run.last {
+        return Ok(());
+    }
+    show_id(page, "id-end", run.said.id(run.last))?;
+    page.number("vid-end", run.last.into())
+}
+
+/// Adds VLANs of which the same is said as one value.
+fn show_run(page: &mut Page, name: &str, run: Run) -> Result<(), AllocError> {
+    page.begin(name, Nest::Object)?;
+    show_id(page, "id", run.said.id(run.first))?;
+    show_vlan_flags(page, "flags", run.said.flags.into())?;
+    page.number("vid", run.first.into())?;
+    show_end(page, run)?;
+    page.end()
 }
 
 /// Adds the attributes of a list that have a name as a list of values.
@@ -170,6 +216,8 @@ fn show_value<D: Depth>(
         Value::Field(field, bytes, place) => show_field(cx, page, name, field, bytes, place),
         Value::Octets(bytes) => page.hex(name, bytes),
         Value::LinkFlags(bits) => show_link_flags(page, name, bits),
+        Value::VlanFlags(bits) => show_vlan_flags(page, name, bits),
+        Value::Vlans(run) => show_run(page, name, run),
         Value::Listed(list, bytes) => show_listed::<D>(cx, page, name, list, bytes),
         Value::Array(list, number, bytes) => {
             show_array::<D>(cx, page, name, list, number, bytes)
@@ -201,6 +249,7 @@ fn is_plainly_same(was: Value<'_>, is: Value<'_>) -> bool {
         (Value::Unsigned(was), Value::Unsigned(is)) => was == is,
         (Value::Signed(was), Value::Signed(is)) => was == is,
         (Value::LinkFlags(was), Value::LinkFlags(is)) => was == is,
+        (Value::VlanFlags(was), Value::VlanFlags(is)) => was == is,
         (Value::Octets(was), Value::Octets(is)) => is_same(was, is),
         _ => false,
     }
@@ -339,6 +388,7 @@ pub(crate) fn put_step<D: Depth>(
 }
 
 /// Tells of a value one step further beside another one, if there is one. A path is written where something is told.
+#[inline(always)]
 pub(crate) fn tell_step<D: Depth>(
     texts: &mut Texts,
     cx: &Around<'_>,

@@ -20,6 +20,7 @@ pub mod message;
 pub mod named;
 pub mod nests;
 pub mod path;
+mod ranges;
 pub mod rows;
 mod same;
 pub mod side;

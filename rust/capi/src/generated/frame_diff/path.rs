@@ -4,6 +4,7 @@
 use crate::rattle::prelude::String;
 use crate::frame_diff::labels::Label;
 use crate::rattle::itoa::Buffer;
+use crate::link_vlans::Run;
 use crate::rattle::alloc::{AllocError, Global};
 
 /// The text of a path that goes one step on: the step stands behind a point, where it is not the first one.
@@ -59,6 +60,29 @@ pub(crate) fn join_label(
     path.push_str(name)?;
     push_number(&mut path, label.number)?;
     push_again(&mut path, label)?;
+    path.push(']')?;
+    Ok(path)
+}
+
+/// Adds the last VLAN of a run, where that is another one than the first.
+fn push_end(path: &mut String, run: Run) -> Result<(), AllocError> {
+    if run.first == run.last {
+        return Ok(());
+    }
+    let mut digits = Buffer::new();
+    path.push('-')?;
+    path.push_str(digits.format(run.last))?;
+    Ok(())
+}
+
+/// The text of a path that goes on at the VLANs of a run.
+pub(crate) fn join_vlans(alloc: Global, text: &str, run: Run) -> Result<String, AllocError> {
+    let mut digits = Buffer::new();
+    let mut path = String::with_capacity(alloc, text.len() + 32)?;
+    path.push_str(text)?;
+    path.push_str("[vid=")?;
+    path.push_str(digits.format(run.first))?;
+    push_end(&mut path, run)?;
     path.push(']')?;
     Ok(path)
 }

@@ -65,6 +65,6 @@ pub(crate) trait Walk: Depth {
         beside: Option<Attributes<'_>>,
     ) -> Result<(), AllocError>;
 
-    /// No two members of a list have one step, and none is a field.
+    /// No two members of a list have one step, none is a field, and no list is of VLANs.
     fn laws();
 }
