@@ -1,30 +1,15 @@
 """What is derived: `Drop` goes, thiserror's `Error` is written out, and a Rust user's traits come."""
 import re
 
+from rules import WORDS
 from source import DOC, PAIR, letters
 
-# Of these no value is stored: they are borrowed, are rows of tables, or say why something was refused.
-NOT_STORED = {"CanonError", "Cause", "DecodeError", "Element", "Field", "Fields", "Info", "InfoError", "Kind",
-              "KindRow", "Level", "Member", "Place", "Plain", "RoomError", "Row", "Size", "Style", "Value"}
 # `Debug` of these is written by hand: it names the flags.
 FLAG_SETS = {"LinkFlags", "Inet6IfaceFlags"}
-# A new kernel adds to these: attributes and members, names of numbers, fields of records; so they are in
-# netlink-packet-route, and a user writes a `_` arm and begins with a default or `new`.
-GROWS = set("""
-    AddressFamily AfSpecBridge AfSpecInet AfSpecInet6 AfSpecMctp AfSpecUnspec DevlinkPort DpllPin Icmp6Stats
-    In6AddrGenMode Inet6CacheInfo Inet6DevConf Inet6Stats InetDevConf LinkAttribute LinkEvent LinkExtentMask LinkInfo
-    LinkLayerType LinkMessage LinkMode LinkPhysId LinkProtoInfoBridge LinkProtoInfoInet6 LinkProtocolDownReason LinkXdp
-    Map MctpPhysBinding Prop State Stats Stats64 VfInfo VfInfoBroadcast VfInfoGuid VfInfoLinkState VfInfoMac VfInfoRate
-    VfInfoRssQueryEn VfInfoSpoofCheck VfInfoTrust VfInfoTxRate VfInfoVlan VfLinkState VfPort VfStats VfVlan VfVlanInfo
-    VlanProtocol WirelessEvent WirelessEventView XdpAttached
-""".split())
 SERDE = '#[cfg_attr(feature = "serde", derive(serde::Serialize, serde::Deserialize))]'
 ORDER = ["Clone", "Copy", "Debug", "Default", "PartialEq", "Eq", "PartialOrd", "Ord", "Hash"]
 # These are empty lists by default, as in netlink-packet-route.
 EMPTY = {"LinkVfInfo", "LinkVfPort"}
-# Equality of these is written out, for their models, or they are not compared in the sources.
-COMPARED = {"DefaultNla", "Element", "Field", "Info", "KindRow", "Member", "NlaBuffer", "Place", "Plain", "Row",
-            "Size", "Style", "Value", "WirelessEventView"}
 
 ATTRIBUTES = rf"(?:\s*(?:#\[(?P<%s>{PAIR}).*?\](?P=%s)|{DOC}))*\s*"
 BODY = rf"(?:\{{(?P<p>{PAIR})(?P<named>.*?)\}}(?P=p)|\((?P<q>{PAIR})(?P<listed>.*?)\)(?P=q))?"
@@ -55,16 +40,17 @@ def derives(s, is_crate):
 def stored(s, found, kept):
     """A value of a message can be stored, by the feature `serde`, if it does not borrow."""
     name = found["type"]
-    is_stored = "Eq" in kept and name not in NOT_STORED and not found["front"].startswith("<")
+    is_stored = "Eq" in kept and name not in WORDS["NOT_STORED"] and not found["front"].startswith("<")
     keeps_others = found["kind"] == "enum" and re.search(r"\bOther\b", found["named"])
-    if is_stored and keeps_others and name not in GROWS:
-        s.fail(found.start("type"), f"{name} keeps others, and is not in GROWS of derives.py")
-    return f"\n{SERDE}" * is_stored + "\n#[non_exhaustive]" * (name in GROWS)
+    if is_stored and keeps_others and name not in WORDS["GROWS"]:
+        s.fail(found.start("type"), f"{name} keeps others, and is not in GROWS of rules.txt")
+    return f"\n{SERDE}" * is_stored + "\n#[non_exhaustive]" * (name in WORDS["GROWS"])
 
 
 def wanted(s, name, had, kept):
     """What a Rust user expects: each type is `Clone`, and one with `Eq` has `Hash`."""
-    kept = {*kept, *["Clone"] * (not any(s.find(f"Clone for {name}"))), *["PartialEq", "Eq"] * (name in COMPARED)}
+    kept = {*kept, *["Clone"] * (not any(s.find(f"Clone for {name}")))}
+    kept |= {*["PartialEq", "Eq"] * (name in WORDS["COMPARED"])}
     kept |= {one for one, is_kept in (("Hash", "Eq" in kept), ("Default", name in EMPTY)) if is_kept}
     kept -= {"Debug"} if name in FLAG_SETS else set()
     return [one for one in ORDER if one in kept] + [one for one in had if one in kept and one not in ORDER]

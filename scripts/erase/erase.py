@@ -93,38 +93,38 @@ def erase(path, text, crate, mode):
     for mark, comment in list(s.held.items()):
         if comment.startswith(("// for the proof", "// SAFETY")):
             s.put(f"/{mark}/")
-    rules.apply(s, rules.STATES)
+    rules.apply(s, "states")
     paths.drop_names(s, lambda name, _: name in ("Model", "Error"))
     if mode.is_crate:
         surface.other_names(s)
         if crate in TOPS:
             surface.hide_names(s)
-        rules.apply(s, rules.CRATE)
+        rules.apply(s, "crate")
         mode.conditions += [f"{name}: where {where}" for name, rows in found.items() for where, _ in rows]
     before = paths.spoken(s)
-    rules.apply(s, rules.RUNTIME)
+    rules.apply(s, "runtime")
     if not mode.is_crate:
-        rules.apply(s, rules.TO_VECS)
+        rules.apply(s, "to_vecs")
     if not mode.is_tests:
-        rules.apply(s, rules.HOST)
+        rules.apply(s, "host")
     if mode.is_crate:
-        rules.apply(s, rules.NARROWING + rules.STORES + rules.RESERVED)
+        rules.apply(s, "narrowing", "stores", "reserved")
         memory.memory(s, mode.memory_names)
     paths.paths(s, crate, mode.libraries, is_program, mode.is_crate)
     derives.derives(s, mode.is_crate)
-    rules.apply(s, rules.BOUNDS)
+    rules.apply(s, "bounds")
     unused = before - paths.spoken(s)
     paths.drop_names(s, lambda name, pub: not pub and name in unused)
     imported = [*paths.ours(s, is_program, mode.is_crate)]
     if mode.is_crate:
-        rules.apply(s, rules.NEVER)
+        rules.apply(s, "never")
         owed.check(s, found, mode.public)
         words.docs(s, lambda name, call: owed.told(
             call, found.get(name, []), mode.memory_names, mode.examples.pop(name, None)), mode.public)
         surface.must_use(s, mode.public)
         imported += paths.of_alloc(s)
     if not mode.is_tests:
-        rules.apply(s, rules.OLDER)
+        rules.apply(s, "older")
     text = s.rust()
     # behind the comments and attributes of the whole file
     front = re.match(r"(?:(?://!|#!\[).*\n)*\n?", text).end()

@@ -5,6 +5,7 @@ import paths
 import rules
 from source import PAIR
 
+TYPES = {"List": "Vec", "Text": "String", "Bytes": "Vec<u8>"}
 GROWS = "append|extend_from_slice|push|push_str|reserve|resize"
 # A function that fails for memory alone, and its body.
 FAILS = (r"/(?P<call>\bfn (?P<name>\w+)/ (..) /)/ - > Result < /(?P<type>[^{};]*?)/ , AllocError > "
@@ -15,7 +16,7 @@ def unwrap_functions(s):
     """Those functions return their values, `Ok(value)` is the value."""
     def put(found):
         body = found["body"]
-        for what, new in rules.VALUES:
+        for what, new in rules.TABLES["values"]:
             body = s.replaced(body, what, new)
         wrong = re.search(rf"\bErr\(({PAIR})(?!.*?\)\1\s*=)", body, re.S)
         if wrong:
@@ -38,15 +39,15 @@ def asked_calls(s, names):
 
 def memory(s, names):
     """All of it. `names` are the functions of the whole package that fail for memory alone."""
-    paths.drop_names(s, lambda name, _: name in rules.GONE)
-    rules.apply(s, rules.MEMORY)
+    paths.drop_names(s, lambda name, _: name in rules.WORDS["GONE"])
+    rules.apply(s, "memory")
     unwrap_functions(s)
-    rules.apply(s, rules.MAKERS)
+    rules.apply(s, "makers")
     asked_calls(s, names)
-    rules.apply(s, rules.OWN_TYPES)
+    rules.apply(s, "own_types")
     enums = [range(*it.span("x")) for it in s.find("enum /\\w+/ {$x..}")]
     # but for variants of their names
-    s.put(rf"/(?<!::){rules.LISTS[1:-1]}(?!\s*\()/",
+    s.put(r"/(?<!::)\b(?P<type>List|Text|Bytes)\b(?!\s*\()/",
           lambda it: None if any(it.start() in enum for enum in enums) and s.outer(it.start()) == "{"
-          else rules.TYPES[it["type"]])
-    rules.apply(s, rules.ALLOCATORS)
+          else TYPES[it["type"]])
+    rules.apply(s, "allocators")

@@ -2,23 +2,9 @@
 import re
 
 from paths import drop_names
+from rules import WORDS
 from source import PAIR
 
-# Names that a top crate gives again and the crate has otherwise, or not, as those that begin with Borrowed: they serve
-# the crates below.
-HIDDEN_NAMES = set("""
-    Entry Kind Level Nla NlaBuffer NlaRead NlasIterator Sought WirelessEventView borrow_entry borrow_frame
-    canonical_into canonical_lenient_into check_string clear emit_i32 emit_nlas emit_u16 emit_u32 emit_u64 entries_in
-    fill frame_of last_each last_in list_measure next_entry nlas_buffer_len nlas_fill nlas_fit nlas_measure nlas_write
-    same_refusal same_room_refusal state_into state_lenient_into thin_families thin_inet6 write_list
-""".split())
-# Calls that serve the crates alone, of each type or of one, or that the trait `Emitable` has, as in
-# netlink-packet-route.
-HIDDEN_CALLS = set("""
-    buffer_len canon canon_list_with_param canon_with_param check_list_with_param check_with_param emit fill list_from
-    measure parse_list_with_param parse_with_param sum sum_fits write write_list FlatView::len LinkView::find
-    LinkView::found LinkView::found_value LinkView::frames LinkView::last LinkView::last_value LinkView::values
-""".split())
 # Calls for which the crate has one by hand, which calls them: the names that they have then.
 BY_HAND = {"Info::set": "set_value"}
 # Calls with the names of those of the crate's traits `Emitable`, `Parseable` and `ParseableParametrized`: as these are
@@ -32,7 +18,7 @@ TRAITS = "|".join(OF_TRAITS)
 
 def hide_names(s):
     """The names that serve the crates below are not given again, and those that are need no path."""
-    drop_names(s, lambda name, pub: pub == "pub" and (name.startswith("Borrowed") or name in HIDDEN_NAMES))
+    drop_names(s, lambda name, pub: pub == "pub" and (name.startswith("Borrowed") or name in WORDS["HIDDEN_NAMES"]))
     s.put("pub mod", "pub(crate) mod")
 
 
@@ -49,8 +35,8 @@ def hide_calls(s):
     def hidden(found):
         type_, name = s.owner(found.start()), found["name"]
         of_type = f"{type_}::{name}"
-        is_hidden = HIDDEN_CALLS & {name, of_type} or of_type in BY_HAND or "NlaBuffer" in found["given"]
-        return f"pub(crate) fn {BY_HAND.get(of_type, name)}" if type_ and is_hidden else None
+        serves = {name, of_type}.intersection([*WORDS["HIDDEN_CALLS"], *BY_HAND]) or "NlaBuffer" in found["given"]
+        return f"pub(crate) fn {BY_HAND.get(of_type, name)}" if type_ and serves else None
     s.put(CALL, hidden)
 
 

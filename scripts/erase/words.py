@@ -3,33 +3,13 @@ import re
 import textwrap
 from pathlib import Path
 
+from rules import TABLES
 from source import PAIR, letters
 from surface import CALL, public_name
 
 WIDTH = 120
-ORDER = "Nor are those of machines with different byte orders, which `BYTE_ORDER` names: numbers are in host order."
-# Sentences about what only Rattle has, as the joined text of a paragraph has them, and what the crate says there.
-SAID = [(re.compile(pattern), text) for pattern, text in [
-    (r"(It takes no memory), and (?:so )?never returns `OutOfMemory`\.", r"\1."),
-    (r" The cause is never `OutOfMemory`\.", ""),
-    (r"[,;]* (or|and)( never| with| out of memory with)? `OutOfMemory`(, which says nothing of the \w+)?", ""),
-    (r"^It fails only for lack of memory\.", ""),
-    (r", or out of memory\.", "."),
-    (r"[;,] or there is no memory", ""),
-    (r"; the error says that there was too little\.", "."),
-    (r" `memory` where none was left;", ""),
-    (r"(returns) with ample memory", r"\1"),
-    (r"1 to 9 in the order", "1 to 8 in the order"),
-    (r"1 to 4 in the order", "1 to 3 in the order"),
-    (r"; for the proof: [^.]*\.", "."),
-    (r" It does nothing\.", ""),
-    (r"(in host order), lowest byte first", r"\1"),
-    (r"(with the )?lowest byte first", "in host order"),
-    (r"(so a store keeps the number beside its keys\.)", r"\1 " + ORDER),
-    (r"the length of (?:the|their) encoding is a `usize`", "the encoding is no longer than memory can be"),
-    (r"`growth_per_byte`", "79"),
-    (r"`small_enough`", "839"),
-]]
+# Sentences about what only Rattle has.
+SAID = [(re.compile(pattern), text) for pattern, text in TABLES["said"]]
 LEFT = re.compile(r"OutOfMemory|for the proof|\bclause\b|growth_per_byte|small_enough")
 DOCS = "|".join(rf"[{marks}](?:[^\S\n]*\n[^\S\n]*[{marks}])*" for marks in map(letters, ("doc", "innerdoc")))
 # The lines of docs, and the call that stands behind them and its attributes.
