@@ -22,6 +22,7 @@ with another that number is passed over, which the last line says.
 import argparse
 import concurrent.futures
 import glob
+import itertools
 import os
 import pathlib
 import platform
@@ -32,30 +33,16 @@ import sys
 import tempfile
 
 import cost_lines
-from shared import TOP
+from shared import TOP, read, table
 
 ARCH = "x86_64"
 HERE, ROWS, TEXTS = f"{TOP}/scripts/measure/costs", f"{TOP}/tests/costs.txt", f"{TOP}/dist/{ARCH}"
 CC = os.environ.get("CC", "cc").split()
-PROGRAMS = ["linkwire", "linkshow", "linkstate", "linkdiff"]
-OPTIONS = {"linkshow--lenient": ["--lenient"], "linkshow--kernel": ["--kernel", "6.16.0"],
-           "linkstate--lenient": ["--lenient"], "linkdiff--lenient": ["--lenient"],
-           "linkdiff--counters": ["--counters"], "linkdiff--changes-only": ["--changes-only"],
-           # the lines of a workload before the middle, and those after it
-           "linkdiff--files": ["{}.before", "{}.after"]}
-OF_OPTIONS = ["dumps", "repeats", "events", "damaged", "settings-64", "swapped-64", "all-refused", "refused-turning",
-              "refused-64", "refused-256"]
-LIBRARY, CRATE, DUMP = "link_c", "rust", "linkdump--read"
-CALLS = re.findall(r'^    \{"(\w+)", \1\},$', pathlib.Path(f"{HERE}/calls.c").read_text("ascii"), re.M)
-OF_CALLS = ["dumps", "requests", "functions-300", "damaged", "names-of-three", "all-refused"]
-OF_CRATE = [f"{CRATE}_{call}" for call in ("check", "parse", "to_vec", "attributes", "view", "unchecked_view")]
-# What is counted: the text it stands in, or what else is built for it, and how it is run, `{}` its workload. The name
-# of a program is as long in each folder: it copies that name.
-COUNTED = {what: (what.partition("--")[0], [f"./{what.partition('--')[0]}", *words])
-           for what, words in [*((program, []) for program in PROGRAMS), *OPTIONS.items()]}
-COUNTED |= {f"linkwire_{call}": (LIBRARY, ["./calls", call]) for call in CALLS}
-COUNTED |= {what: (CRATE, ["./crate", what.partition("_")[2]]) for what in OF_CRATE}
-COUNTED[DUMP] = DUMP, ["./linkdump", "--read", "{}.pcap"]
+LIBRARY, CRATE, DUMP = "link_c", "rust", "linkdump"
+CALLS = re.findall(r'^    \{"(\w+)", \1\},$', read("scripts/measure/costs/calls.c"), re.M)
+RUNS = [(listed, *(word.replace("*", call) for word in row)) for listed, row in table("scripts/measure/costs/runs.txt")
+        for call in (CALLS if "*" in row[0] else [""])]
+COUNTED = {what: (of, words.split()) for _, what, of, words in RUNS}
 # what count.c counts, and what else the texts may call: where they call more, a cost may stand there that is not seen
 WRAPPED = {"malloc", "calloc", "realloc", "free", "memcpy", "memmove", "memset", "memcmp", "bcmp"}
 CALLED = WRAPPED | {"read", "write", "open", "close", "__sysv_signal"}
@@ -68,14 +55,6 @@ OF_A_LINE, OF_SYSTEM = 3, 3
 WRAP = [f"-Wl,--wrap={name}" for name in sorted(WRAPPED)]
 # a number is stored with two digits behind the point
 MOST, LEAST, ROUNDED = 1.002, 0.998, 0.005
-TITLE = """\
-# What may be taken at most, on x86-64. scripts/measure/costs.py compares, and `scripts/measure/costs.py --make` prints
-# the rows as they are. The columns: a program with its options, a call of the library or of the crate; a workload of
-# scripts/measure/cost_lines.py; of one line: instructions, requests for memory, and steps of what the C library copies,
-# clears or compares, eight a call and one for each 32 bytes; of the whole run: bytes that the C library asked of the
-# system for these requests, and the most bytes that were held at a time. Behind `#:` stands what these rows were made
-# by.
-"""
 
 
 def stop(why):
@@ -114,10 +93,7 @@ def link_crate(folder):
     """Builds rust.rs by the crate, with what counts, as `crate`."""
     manifest = pathlib.Path(f"{folder}/{CRATE}/Cargo.toml")
     manifest.parent.mkdir()
-    manifest.write_text(f'[package]\nname = "crate"\nversion = "0.0.0"\nedition = "2021"\n'
-                        f'[dependencies]\nlinkwire = {{ path = "{TOP}/rust" }}\n'
-                        f'[[bin]]\nname = "crate"\npath = "{HERE}/rust.rs"\n'
-                        f'[profile.release]\nlto = "fat"\ncodegen-units = 1\n', "utf-8")
+    manifest.write_text(read("scripts/measure/costs/crate.toml").replace("TOP", TOP), "utf-8")
     wraps = "\x1f".join(f"-Clink-arg={it}" for it in [*WRAP, f"{folder}/count.o"])
     subprocess.run(["cargo", "build", "-q", "--release", "--offline", "--target-dir", "target"], check=True,
                    cwd=manifest.parent, env={**os.environ, "CARGO_ENCODED_RUSTFLAGS": wraps})
@@ -144,7 +120,8 @@ def count(folder, what, workload, own):
     """What a run takes, by UNITS. These are the functions of its text."""
     of, runs = f"{folder}/{what}.{workload}", [word.format(workload) for word in COUNTED[what][1]]
     valgrind = ["valgrind", "--tool=callgrind", f"--callgrind-out-file={of}.out", "--error-exitcode=99",
-                "--compress-strings=no", "--compress-pos=no", *["--toggle-collect=counted"] * (what in OF_CRATE)]
+                "--compress-strings=no", "--compress-pos=no"]
+    valgrind += ["--toggle-collect=counted"] * (COUNTED[what][0] == CRATE)
     with open(f"{folder}/{workload}.lines", "rb") as lines:
         ran = subprocess.run([*valgrind, *runs], stdin=lines, stdout=subprocess.DEVNULL, stderr=subprocess.PIPE,
                              check=False, cwd=folder, env={**os.environ, "COSTS": f"{of}.txt"})
@@ -159,10 +136,9 @@ def count(folder, what, workload, own):
 
 def all_rows(workloads):
     """What is counted, each with its workload."""
-    rows = [(program, workload) for workload in workloads for program in PROGRAMS]
-    rows += [(program, workload) for workload in OF_OPTIONS for program in OPTIONS]
-    rows += [(f"linkwire_{call}", workload) for workload in OF_CALLS for call in CALLS]
-    return rows + [(call, workload) for workload in OF_CALLS for call in OF_CRATE] + [(DUMP, "events")]
+    groups = itertools.groupby(RUNS, lambda it: (it[0], it[2] == CRATE))
+    return [(what, workload) for (listed, _), group in groups for names in [[what for _, what, *_ in group]]
+            for workload in (workloads if listed == "all" else listed.split()) for what in names]
 
 
 def counted(texts, workloads, rows):
@@ -204,9 +180,9 @@ def stored(path):
 
 def passed_over(was, now):
     """What is not compared here: rows by their program, and columns."""
-    rows = {DUMP} if was["cc"] != now["cc"] or now["libpcap"] == "none" else set()
-    rows |= set(OF_CRATE) if was["rustc"] != now["rustc"] else set()
-    return rows, {OF_SYSTEM} if was["libc"] != now["libc"] else set()
+    left = [DUMP] * (was["cc"] != now["cc"] or now["libpcap"] == "none") + [CRATE] * (was["rustc"] != now["rustc"])
+    columns = {OF_SYSTEM} if was["libc"] != now["libc"] else set()
+    return {what for what, (of, _) in COUNTED.items() if of in left}, columns
 
 
 def remarks(at_most, now, columns):
@@ -235,8 +211,9 @@ def main():
     if machine.partition("-")[0] not in (ARCH, "amd64"):
         return print(f"costs: skipped: the rows are for x86-64, and {CC[0]} compiles for {machine}")
     if asked.texts is None:
-        words = ["bash", f"{TOP}/scripts/make/sums.sh", "unfit", ARCH, *PROGRAMS, LIBRARY]
-        unfit = subprocess.run(words, check=True, capture_output=True, text=True).stdout.split()
+        texts = {of for of, _ in COUNTED.values()} - {CRATE, DUMP}
+        unfit = subprocess.run(["bash", f"{TOP}/scripts/make/sums.sh", "unfit", ARCH, *sorted(texts)], check=True,
+                               capture_output=True, text=True).stdout.split()
         if unfit:
             stop(f"dist/ has other texts than those of the sources ({' '.join(unfit)}): make dist makes them anew")
     workloads = cost_lines.workloads()
@@ -249,10 +226,9 @@ def main():
     over, columns = (set(), set()) if asked.make else passed_over(was, here)
     now = counted(os.path.abspath(asked.texts or TEXTS), workloads, [row for row in rows if row[0] not in over])
     if asked.make:
-        print(TITLE, *(f"#: {name}={version}\n" for name, version in here.items()), sep="", end="")
-        for row, numbers in now.items():
-            print(*row, *numbers)
-        return None
+        versions_ = [f"#: {name}={version}" for name, version in here.items()]
+        rows = [" ".join(map(str, (*row, *numbers))) for row, numbers in now.items()]
+        return print(read("scripts/measure/costs/head.txt") + "\n".join(versions_ + rows))
     at_most = {row: numbers for row, numbers in most.items() if (not wanted or row in wanted) and row[0] not in over}
     found = list(remarks(at_most, now, columns))
     if found:

@@ -22,17 +22,12 @@ names() {
     echo "test_costs: named: ${line#costs: }"
 }
 
-# slips CALLED MORE: in the text of linkwire all calls of CALLED go to a function that calls it and then does more; what
-# it was given is in %rdi and %rsi, and what came in %rax. Without a size callgrind would not know it.
+# slips CALLED PART: in the text of linkwire all calls of CALLED go to a function that also does that part of slips.s
 slips() {
     cp dist/x86_64/*.s "$texts"
     sed -i "s/\b$1@PLT/slipped/" "$texts/linkwire.s"
-    {
-        printf '\t.text\n\t.type\tslipped,@function\nslipped:\n'
-        printf '\t%s\n' 'pushq %rdi' 'pushq %rsi' 'subq $8, %rsp' "callq $1@PLT" 'addq $8, %rsp' 'popq %rsi' \
-            'popq %rdi' "$2" retq
-        printf '\t.size\tslipped, .-slipped\n'
-    } >>"$texts/linkwire.s"
+    sed -n "/^# begins/,/^#/p; /^# $2/,/^#/p; /^# ends/,\$p" scripts/measure/costs/slips.s |
+        sed "s/CALLED/$1/" >>"$texts/linkwire.s"
 }
 
 mkdir "$texts"
@@ -44,35 +39,20 @@ case $said in
 *) fails "$said" ;;
 esac
 
-slips read '
-    pushq %rax
-    testq %rax, %rax
-    jle .Lended
-    movq %rax, %rdx
-    leaq room(%rip), %rdi
-    callq memcpy@PLT
-.Lended:
-    popq %rax
-    .local room
-    .comm room, 1048576'
+slips read copies
 names ' steps of the C library a line, and at most ' linkwire/dumps
 
-slips read '
-    movq %rax, %rcx
-.Lagain:
-    nop
-    decq %rcx
-    jg .Lagain'
+slips read 'goes over it'
 names ' instructions a line, and at most ' linkwire/dumps
 
-slips rattle_alloc 'jmp rattle_alloc@PLT'
+slips rattle_alloc 'asks twice'
 names ' requests for memory a line, and at most ' linkwire/dumps
 
 cp dist/x86_64/*.s "$texts"
 sed -i 's/^linkwire_check:/&\n\tmovl $100, %eax\n.Lwaits:\n\tdecl %eax\n\tjnz .Lwaits/' "$texts/link_c.s"
 names 'linkwire_check/dumps: ' linkwire_check/dumps linkwire_next/dumps
 
-slips write 'jmp writev@PLT'
+slips write 'writes by another call'
 names 'linkwire.s calls what nothing counts: writev' linkwire/dumps
 
 cp dist/x86_64/*.s "$texts"
