@@ -12,20 +12,11 @@ import functools
 import re
 
 import keys
+from rules import TABLES
 
 VIEW = keys.CRATES / "link_view"
-# How the value of an attribute is read that is no list: what the arm of a variant does with its payload.
-READ = {"Bytes": "Ok({}(payload))", "DefaultNla": "Ok({}(frame))",
-        "bool": "borrow!({}, n => n != 0, parse_u8(payload))"}
-READ |= {named: f"borrow!({{}}, n => {named}::from(n), parse_u8(payload))" for named in ("State", "LinkMode")}
-READ |= {number: f"borrow!({{}}, parse_{number}(payload))" for number in keys.NUMBERS}
-READ |= {held: f"borrow!({{}}, {call}(payload))" for held, call in (
-    ("Text", "borrow_string"), ("WirelessEvent", "event_of"), ("List<LinkExtentMask>", "parse_u32"),
-    ("Ipv6Addr", "parse_ipv6_addr"), ("XdpAttached", "attached_of"), ("Inet6IfaceFlags", "flags_of"),
-    ("In6AddrGenMode", "mode_of"), ("MctpPhysBinding", "binding_of"))}
-# What a variant holds over borrowed bytes, where it is something else, and what that stands for.
-HELD = {"Bytes": ("&'a [u8]", "v.now"), "Text": ("&'a str", "v.now"), "DefaultNla": ("NlaBuffer<'a>", "v"),
-        "WirelessEvent": ("WirelessEventView<'a>", "(owned_event v)"), "List<LinkExtentMask>": ("u32", "(ext_list v)")}
+READ = dict(TABLES["arms"])
+HELD = {held: new.split("  ") for held, new in TABLES["borrowed"]}
 
 
 @functools.lru_cache(maxsize=None)

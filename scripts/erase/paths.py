@@ -1,25 +1,11 @@
 """Crates become modules of one package, and parts of Rattle's std are ours."""
 import re
 
+from rules import TABLES, WORDS
 from source import PAIR
 
 PACKAGE = "linkwire"
-STD_OF_OURS = {"alloc", "str", "test"}              # modules of std of which a file of ours stands
-OF_CRATE = {"net"}                                  # and those of which one stands for the crate alone,
-OF_TESTS = {"collections", "env", "fs", "simd"}     # or for the tests alone
-CRATES_OF_OURS = {"bitflags", "hex", "memchr", "itoa"}
-ITEMS_OF_OURS = {"process::Abort", "fmt::InlineText"}
-IN_CORE = {"fmt", "marker", "ops", "slice", "str"}
-# What stands where something of `rattle` is needed: the module, the name, and what stands there.
-OURS = [("vec", "ToVecBy", r"\.to_vec_by\b"), ("number", "Signed as _", r"\.to_unsigned\b"),
-        ("number", "Unsigned as _", r"\.to_signed\b"), ("number", "lowest", r"\blowest\("),
-        ("number", "MOST_LEN", r"\bMOST_LEN\b")]
-OF_CRATE_ALONE = [("number", "narrow", r"\bnarrow\("), ("number", "narrow_signed", r"\bnarrow_signed::"),
-                  ("number", "room", r"(?<!fn )\broom\("), ("list", "vacant", r"(?<!::)\bvacant\(")]
-# Names and macros of Rattle's prelude that Rust's has otherwise or not; and names that the crate has of Rust's alloc.
-PRELUDE = [("prelude", name, rf"(?<!::)\b{name}\b") for name in ("Box", "HostRuntime", "Print")]
-PRELUDE += [("prelude", name, rf"\b{name}\s*!") for name in (
-    "assert", "assert_eq", "assert_ne", "eprintln", "format", "panic", "print", "println", "vec")]
+# Names that the crate has of Rust's alloc.
 OF_ALLOC = {"String": "string::String", "Vec": "vec::Vec"}
 USE = "@ use /(?P<tree>[^;]*)/ ;"
 # The names that an import brings.
@@ -55,7 +41,7 @@ def paths(s, crate, crates, is_program, is_crate):
     root = PACKAGE if is_program else "crate"
     # a module of its own has the name first
     crates = set(crates) - {found["x"] for found in s.find("mod $x")}
-    ours = STD_OF_OURS | (OF_CRATE if is_crate else OF_TESTS)
+    ours = {*WORDS["STD_OF_OURS"], *WORDS["OF_CRATE" if is_crate else "OF_TESTS"]}
     s.refuse("( in crate", "pub(in ..)")
 
     def put(found):
@@ -64,16 +50,16 @@ def paths(s, crate, crates, is_program, is_crate):
             return None if is_program or part == "rattle" else f"crate::{crate}"
         if head in crates:
             return f"{root}::{head}"
-        if head in CRATES_OF_OURS:
+        if head in WORDS["CRATES_OF_OURS"]:
             return f"{root}::rattle::{head}"
         if head != "std":
             return None
         if found["group"] and not ours.issuperset(re.split(r",\s*", found["group"].strip())):
             s.fail(found.start(), "a group of parts of std: write one `use` for each")
         is_method = part == "str" and found["more"]
-        if found["group"] or found["item"] in ITEMS_OF_OURS or part in ours and not is_method:
+        if found["group"] or found["item"] in WORDS["ITEMS_OF_OURS"] or part in ours and not is_method:
             return f"{root}::rattle"
-        if is_crate and part not in IN_CORE:
+        if is_crate and part not in WORDS["IN_CORE"]:
             s.fail(found.start(), "a part of std that core has not")
         return "core" if is_crate else None
     s.put(HEAD, put)
@@ -81,10 +67,9 @@ def paths(s, crate, crates, is_program, is_crate):
 
 def ours(s, is_program, is_crate):
     """The imports of what is ours."""
-    rows = OURS + OF_CRATE_ALONE if is_crate else OURS + [
-        ("prelude", name, rf"(?<!::)\b{name}\b") for name in OF_ALLOC]
     found = {}
-    for module, name, there in rows + PRELUDE:
+    for what, there in TABLES["ours"] + TABLES["ours_of_crate" if is_crate else "ours_of_tests"]:
+        module, _, name = what.partition(" ")
         if any(s.find(f"/{there}/")):
             found.setdefault(module, []).append(name)
     for module, names in found.items():
