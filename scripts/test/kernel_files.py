@@ -14,24 +14,18 @@ try:
 except ImportError:
     yaml = None
 
-from kernel_names import LEFT_OUT, PLACES, VALUES, VALUES_LEFT_OUT
+from kernel_names import LEFT_OUT, PLACES, ROWS, VALUES, VALUES_LEFT_OUT
 from kernel_ours import Field, width
 
 INCLUDE = "/usr/include"
 YAML_FILES = ["Documentation/netlink/specs/rt_link.yaml", "Documentation/netlink/specs/rt-link.yaml"]
-# the last five are not installed with the others
-HEADERS = ["include/uapi/linux/%s.h" % name for name in
-           "if_link if_bridge if if_arp if_ether rtnetlink devlink dpll snmp ip ipv6 wireless netlink "
-           "if_bonding if_tunnel if_tun if_vlan amt wwan veth can/netlink can/vxcan".split()]
-HEADERS += ["include/net/%s.h" % name for name in "if_inet6 bonding bond_3ad".split()]
-HEADERS += ["include/linux/socket.h", "include/linux/netdevice.h"]
+HEADERS = [f"include/{folder}{name}.h" for folder, *names in ROWS["headers"] for it in names for name in it.split()]
 CODE = {name for place in PLACES.values() for name in place.files.split()}
 CODE |= {known.header for known in VALUES.values() if known.header.endswith(".c")}
 
-TYPES = {"char": "u8", "__u8": "u8", "__u16": "u16", "__u32": "u32", "__u64": "u64",
-         "__s8": "s8", "__s16": "s16", "__s32": "s32", "__s64": "s64", "__be16": "be16", "__be32": "be32",
-         "unsigned char": "u8", "unsigned short": "u16",
-         "unsigned": "u32", "unsigned int": "u32", "int": "s32"}
+TYPES, PUTS = dict(ROWS["types"]), dict(ROWS["puts"])
+LENGTHS = {name: int(size) for name, size in ROWS["lengths"]}
+POLICY = re.compile(r"\[([A-Z]\w+)\]\s*=\s*(\{[^{}]*\}|NLA_POLICY_\w+\((?:[^()]|\([^()]*\))*\))")
 
 
 class Headers:
@@ -192,12 +186,6 @@ class Kernel:
 
 
 # ** code
-
-PUTS = {"u64_64bit": "u64", "in_addr": "ipv4", "in6_addr": "ipv6", "sci": "be64"}
-LENGTHS = {"ETH_ALEN": 6, "structin6_addr": 16, "structin_addr": 4, "u8": 1, "u16": 2, "u32": 4, "__be16": 2,
-           "__be32": 4, "__u32": 4, "sci_t": 8, "u64": 8, "__be64": 8}
-POLICY = re.compile(r"\[([A-Z]\w+)\]\s*=\s*(\{[^{}]*\}|NLA_POLICY_\w+\((?:[^()]|\([^()]*\))*\))")
-
 
 class Code:
     """What files of the kernel put into attributes, and what their policies take."""
