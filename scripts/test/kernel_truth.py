@@ -33,14 +33,11 @@ PARTS = {"data": ("linkinfo.info_data.", "info_kind", "linkinfo.data."),
          "slave-data": ("linkinfo.info_slave_data.", "info_slave_kind", "linkinfo.slave-data."),
          "xstats": ("linkinfo.info_xstats.", "info_kind", "linkinfo.xstats.")}
 MISSING = type("Missing", (), {"__repr__": lambda _: "none"})()
-Row = namedtuple("Row", "field ours how args")
+Row = namedtuple("Row", "ours how args")
 # our messages of two dumps by the numbers of their links, each as its nodes, and the names of these
 Links = namedtuple("Links", "first last names")
 # what is around a value: our first message, the names of links, the nodes of ip's object, and the value's path there
 World = namedtuple("World", "first names said path", defaults=({}, ""))
-
-# ** the table
-
 
 def read_table(path):
     """Rows by where they are, as ("ip", None) or ("data", "vlan"), and by field."""
@@ -49,11 +46,11 @@ def read_table(path):
         where, *kinds = section.split()
         words = [" ".join(rest)] if ours == "-" else " ".join(rest).split() or ["same"]
         if ours != "-" and words[0] not in (*HOW, *SETS, *ABSENT, "timer"):
-            sys.exit("%s: %s: no translation %s" % (path, field, words[0]))
+            sys.exit(f"{path}: {field}: no translation {words[0]}")
         for place in [(where, kind) for kind in kinds or [None]]:
             if field in rows[place]:
-                sys.exit("%s: a second row of %s" % (path, field))
-            rows[place][field] = Row(field, ours, words[0], words[1:])
+                sys.exit(f"{path}: a second row of {field}")
+            rows[place][field] = Row(ours, words[0], words[1:])
     return rows
 
 
@@ -76,18 +73,12 @@ def named(theirs, ours, _, args):
     return theirs, {int(number, 0): name for number, name in mapping(args).items()}.get(ours, ours)
 
 
-def call_sign(octets):
-    """The call sign of seven bytes of AX.25, as ip has it."""
-    name = "".join(chr(it >> 1) for it in octets[:6]).strip()
-    number = octets[6] >> 1 & 15
-    return "*" if not any(octets) else "%s-%d" % (name, number)
-
-
 def address(theirs, ours, world, _):
-    """A hardware address by the link's type, as ip writes it."""
+    """A hardware address by the link's type, as ip writes it; seven bytes of AX.25 are a call sign."""
     octets, kind = bytes.fromhex(ours.replace(":", "")), world.first.get("ifi-type")
     if kind in (3, 0) and len(octets) == 7:
-        return theirs, call_sign(octets)
+        sign = "".join(chr(it >> 1) for it in octets[:6]).strip()
+        return theirs, f"{sign}-{octets[6] >> 1 & 15}" if any(octets) else "*"
     if kind == 270:
         return theirs, octets.hex()
     if len(octets) in (4, 16) and kind in (768, 769, 776, 778, 823):
@@ -119,7 +110,7 @@ def nanoseconds(theirs, ours, *_):
     """ip takes the hundredths of seconds of these timers for nanoseconds, and writes three digits."""
     number, unit = re.fullmatch(r"([\d.e+-]+)(ns|us|ms|s)?", str(theirs)).groups()
     value = float(number) * {None: 1, "ns": 1, "us": 1e3, "ms": 1e6, "s": 1e9}[unit]
-    return value, float("%.3g" % ours)
+    return value, float(f"{ours:.3g}")
 
 
 def is_set(name, ours):
@@ -181,19 +172,13 @@ def flags(ours, args):
     return {theirs.get(it, str(it)) for it in (ours if isinstance(ours, list) else [])}
 
 
-def link_flags(ours, args):
-    """ip names what runs only where it does not."""
-    stopped = {"no-carrier"} if "up" in ours and "running" not in ours else set()
-    return flags(ours, args) - {"running"} | stopped
-
-
 SETS = {
-    "link-flags": link_flags, "flags": flags,
+    "flags": flags,
+    # ip names what runs only where it does not
+    "link-flags": lambda ours, args: flags(ours, args) - {"running"} | {
+        it for it in ["no-carrier"] if "up" in ours and "running" not in ours},
     "bits": lambda ours, names: {it for n, it in enumerate(names or map(str, range(32))) if ours >> n & 1},
 }
-
-
-# ** paths
 
 
 def nodes(it, path=""):
@@ -211,9 +196,6 @@ def numbered(path, places=()):
     """The path of our member, where each list takes the next of the places."""
     left = iter(places)
     return re.sub(r"\[\]", lambda _: f"[{next(left, 0)}]", path)
-
-
-# ** comparison
 
 
 class Report:
@@ -249,22 +231,17 @@ class Report:
                                   for outcome in ("right", "wrong", "left"))
             count = (right + wrong + left).total()
             if count:
-                print("%s: %s: %d values of %d right (%.2f %%), %d wrong; %d kinds of fields of %d"
-                      % (name, source, right.total(), count, 100 * right.total() / count, wrong.total(), len(right),
-                         len(right + wrong + left)))
+                print(f"{name}: {source}: {right.total()} values of {count} right "
+                      f"({100 * right.total() / count:.2f} %), {wrong.total()} wrong; "
+                      f"{len(right)} kinds of fields of {len(right + wrong + left)}")
 
     def finish(self):
         """Prints what is not covered, by its reason, and what is wrong, of all."""
         for (source, why), kinds in sorted(self.left.items()):
-            print("not covered: %s: %s:" % (source, why))
-            print("    %d values of %d kinds: %s" % (sum(kinds.values()), len(kinds), " ".join(sorted(kinds))))
+            print(f"not covered: {source}: {why}:\n    {kinds.total()} values of {len(kinds)} kinds:", *sorted(kinds))
         for where, found in sorted(self.wrong.items()):
-            print("kernel_truth: wrong: %s, %d times: %s" % (where, len(found), " ".join(map(repr, found[:3]))),
-                  file=sys.stderr)
-        if self.wrong:
-            return 1
-        print("kernel_truth: ok")
-        return 0
+            print(f"kernel_truth: wrong: {where}, {len(found)} times:", *map(repr, found[:3]), file=sys.stderr)
+        return 1 if self.wrong else print("kernel_truth: ok")
 
 
 def between(it, first, last):
@@ -295,7 +272,7 @@ def parts_of(link):
 
 
 def label(place, field):
-    return field if place[1] is None else "%s<%s>.%s" % (*place, field)
+    return field if place[1] is None else f"{place[0]}<{place[1]}>.{field}"
 
 
 def compare_link(rows, link, links, who, report):
@@ -315,7 +292,7 @@ def compare_link(rows, link, links, who, report):
         if row:
             row = row._replace(ours=numbered(prefix + row.ours, re.findall(r"\[(\d+)\]", path)))
             if "fault" in first and row.ours not in first:
-                report.not_covered("ip", kind, "the message is refused: %s at %s" % (first["fault"], first.get("at")))
+                report.not_covered("ip", kind, f"the message is refused: {first['fault']} at {first.get('at')}")
             else:
                 compare_value(row, kind, theirs, (first, last), World(first, links.names, said, path), who, report)
     for place, _, prefix in parts if "fault" not in first and report.strict else ():
@@ -336,7 +313,7 @@ def compare_value(row, kind, theirs, messages, world, who, report):
     elif found[0] is MISSING and row.how not in ABSENT:
         report.says(False, "ip", kind, who, theirs, MISSING)
     elif place.startswith("0]") and list_here and sizes[0] != sizes[1]:
-        report.says(False, "ip", kind, who, "%d members" % sizes[0], sizes[1])
+        report.says(False, "ip", kind, who, f"{sizes[0]} members", sizes[1])
     else:
         report.says(agrees(row, [theirs], found, world), "ip", kind, who, theirs, *found)
 
@@ -353,9 +330,6 @@ def unsaid(rows, place, prefix, seen, first, who, report):
             ours = first.get(numbered(prefix + row.ours), MISSING)
             if HOW[row.how](True, ours, None, row.args)[1]:
                 report.says(False, "ip", label(place, field), who, "not named", ours)
-
-
-# ** sysfs and /proc
 
 
 def text_of(path):
@@ -399,7 +373,7 @@ def compare_files(rows, source, files, links, who, report):
     before, after = files
     named = {it.get("ifname"): n for n, it in links.first.items() if "fault" not in it}
     for (name, field), theirs in before.items():
-        whose = "%s %s" % (who, name)
+        whose = f"{who} {name}"
         if name not in named or theirs == "" and source == "sysfs":
             continue
         row = report.row(rows, (source, None), field, source, field, whose, theirs)
@@ -418,9 +392,6 @@ def compare_files(rows, source, files, links, who, report):
             report.says(agrees(row, both, ours, world), source, field, whose, both, ours)
 
 
-# ** what is compared
-
-
 def shown(program, lines, release):
     return [json.loads(it) for it in answers(program, lines, "--kernel", release)]
 
@@ -432,7 +403,7 @@ def compare(rows, dumps, said, files, who, report):
                    for dump in dumps)
     links = Links(first, last, {n: it.get("ifname") for n, it in first.items()})
     for link in said:
-        compare_link(rows, link, links, "%s %s" % (who, link["ifname"]), report)
+        compare_link(rows, link, links, f"{who} {link['ifname']}", report)
     for source, both in files.items():
         compare_files(rows, source, both, links, who, report)
     return links
@@ -456,8 +427,6 @@ def of_folder(folder, program, rows):
     return report.finish()
 
 
-# ** the kernel at hand
-
 def ran(*words):
     return subprocess.run(words, stdin=subprocess.DEVNULL, capture_output=True, check=False)
 
@@ -472,8 +441,8 @@ def live(program, linkdump, rows):
         return subprocess.run([*mounts, *again], check=False).returncode
     commands = [it for it in read("tests/live/links.txt").splitlines() if it[0] != "#"]
     refused = [it for it in commands if ran("ip", *shlex.split(it)).returncode]
-    kinds = sorted({found.group(1) for it in refused for found in [re.search(r" (?:type|mode) (\w+)", it)] if found})
-    print("kernel_truth: skipped: live: this kernel or its ip makes none of: %s" % (" ".join(kinds) or "none"))
+    kinds = sorted(set(re.findall(r"^.*? (?:type|mode) (\w+)", "\n".join(refused), re.M)))
+    print("kernel_truth: skipped: live: this kernel or its ip makes none of:", *kinds or ["none"])
     before, report, release = of_machine(rows), Report(False), os.uname().release
     first = shown(program, ran(linkdump, "--plain").stdout.decode().split(), release)
     said = json.loads(ran("ip", "-s", "-s", "-j", "-d", "link", "show").stdout.decode(), strict=False)
@@ -484,7 +453,7 @@ def live(program, linkdump, rows):
     if not said or len(said) != len(links.first):
         report.says(False, "ip", "links", "a namespace", len(said), len(links.first))
     found = sorted({it["linkinfo.kind"] for it in links.first.values() if "linkinfo.kind" in it})
-    print("kernel_truth: live: %d links, of the kinds: %s" % (len(said), " ".join(found)))
+    print(f"kernel_truth: live: {len(said)} links, of the kinds:", *found)
     report.show("live", ["live"])
     return report.finish()
 
