@@ -51,14 +51,14 @@ class Report:
         if why is None and same:
             return "equal"
         if ours not in ("*", str(here)):
-            self.faults.append("%s: %s %s, in the kernel's files %s" % (where, what, here, there))
+            self.faults.append(f"{where}: {what} {here}, in the kernel's files {there}")
             return "fault"
         self.reasoned.setdefault((why, what, here, plain(str(there))), (there, []))[1].append(where)
         return "reason"
 
     def same_names(self, word, here, known):
-        self.faults += ["%s: no %s that this script knows" % (name, word) for name in here if name not in known]
-        self.faults += ["%s: no such %s is here" % (name, word) for name in known if name not in here]
+        self.faults += [f"{name}: no {word} that this script knows" for name in here if name not in known]
+        self.faults += [f"{name}: no such {word} is here" for name in known if name not in here]
 
     def has(self, kind, name, listed):
         """Whether the kernel's files have a list at all."""
@@ -80,30 +80,26 @@ def reason(where, what, there):
 def compare_numbers(category, kind, numbers, theirs, report, has_all=True):
     """Named numbers against named numbers. A number may have several names there, and some may have no name here."""
     for variant, n in numbers.items():
-        where = kind + "." + variant
+        where = f"{kind}.{variant}"
         named = [m for name, m in theirs.items() if plain(name) == plain(variant)]
         names = [name for name, m in theirs.items() if m == n]
         if names and not named:
             report.compare(category, where, ("name", variant, names[0]))
         elif has_all and not named and n > max(theirs.values(), default=-1):
-            report.is_newer(category, "%s = %d" % (where, n))
+            report.is_newer(category, f"{where} = {n}")
         else:
             report.compare(category, where, ("number", n, n if n in named else next(iter(named), "none")))
     for name, n in theirs.items():
         if has_all and n not in numbers.values():
-            report.compare(category, kind + "." + name, ("value", "none", n))
-
-
-# ** records
+            report.compare(category, f"{kind}.{name}", ("value", "none", n))
 
 
 def compare_records(ours, kernel, report):
     report.same_names("record", ours.records, RECORDS)
-    here = {kind + "." + field.name for kind, (fields, _) in ours.records.items() for field in fields}
-    report.faults += ["%s: no such field is here" % name for name in OWN_FIELDS if name not in here]
+    here = {f"{kind}.{field.name}" for kind, (fields, _) in ours.records.items() for field in fields}
+    report.faults += [f"{name}: no such field is here" for name in OWN_FIELDS if name not in here]
     for kind in filter(RECORDS.get, ours.records):
-        fields, size = ours.records[kind]
-        known, headers = RECORDS[kind], kernel.headers
+        (fields, size), known, headers = ours.records[kind], RECORDS[kind], kernel.headers
         if known.struct and report.has(kind, known.struct, kernel.structs):
             in_yaml(kind, fields, kernel.structs[known.struct], report)
         if known.header.endswith("_"):
@@ -116,7 +112,7 @@ def in_yaml(kind, fields, listed, report):
     """Names and types in their order. Those after the last there are newer."""
     listed = list(listed)
     for field in fields:
-        where = kind + "." + field.name
+        where = f"{kind}.{field.name}"
         if reason(where, "field", "none")[0] == field.name:
             report.compare("fields, yaml", where, ("field", field.name, "none"))
         elif listed:
@@ -131,7 +127,7 @@ def in_header(kind, fields, size, structure, report):
     """Names, types and offsets, and the size with all padding."""
     theirs = [f for f in structure[0] if "pad" not in f.name]
     for field, there in zip(fields, theirs):
-        report.compare("fields, headers", kind + "." + field.name, ("name", field.name, there.name),
+        report.compare("fields, headers", f"{kind}.{field.name}", ("name", field.name, there.name),
                        ("type", field.type, there.type), ("offset", field.offset, there.offset))
     report.compare("records, headers", kind, ("size", size, structure[1]), ("fields", len(fields), len(theirs)))
 
@@ -139,16 +135,13 @@ def in_header(kind, fields, size, structure, report):
 def by_number(kind, fields, size, numbers, prefix, report):
     """Fields of one width by the numbers that an enum gives them, of which the first is that of the first field."""
     first, wide = min(numbers.values(), default=0), width(fields[0].type)
-    own = [field.name for field in fields if kind + "." + field.name in OWN_FIELDS]
+    own = [field.name for field in fields if f"{kind}.{field.name}" in OWN_FIELDS]
     for name in own:
-        report.compare("fields, headers", kind + "." + name, ("field", name, "none"))
+        report.compare("fields, headers", f"{kind}.{name}", ("field", name, "none"))
     here = {field.name: first + field.offset // wide for field in fields if field.name not in own}
     if report.has(kind, prefix, numbers and {prefix}):
         compare_numbers("fields, headers", kind, here, numbers, report)
     report.compare("records, headers", kind, ("size", size, wide * len(here)))
-
-
-# ** values
 
 
 def compare_values(ours, kernel, report):
@@ -172,16 +165,13 @@ def compare_values(ours, kernel, report):
             compare_numbers(word, kind, ours.values[kind], kernel.lists[known.list], report, known.all)
 
 
-# ** constants
-
-
 def compare_constants(ours, kernel, report):
     """The numbers of attributes by the kernel's names for them, and those that stand alone."""
     for (_, name), n in ours.constants.items():
         there = kernel.headers.number(name)
         places = sorted((it.prefix, it.beside or "") for it in PLACES.values() if name.startswith(it.prefix))
         if there is None and places and n > max(kernel.headers.group(*places[-1]).values(), default=-1):
-            report.is_newer("constants, headers", "%s = %d" % (name, n))
+            report.is_newer("constants, headers", f"{name} = {n}")
         else:
             report.compare("constants, headers", name, ("number", n, there))
     for file, around, name in ALONE:
@@ -192,7 +182,7 @@ def compare_constants(ours, kernel, report):
         elif found and there is not None:
             report.compare("constants, headers", name, ("number", int(found.group(1), 0), there & 0xffff))
         elif not found:
-            report.faults.append("%s: not found in %s" % (name, file))
+            report.faults.append(f"{name}: not found in {file}")
 
 
 def compare_names(ours, report):
@@ -201,17 +191,13 @@ def compare_names(ours, report):
         code = ours.code(crate + "/src/*.rt")
         rows = re.findall(r'\b([A-Z]\w+) => "(\w+)",', code)
         rows += re.findall(r'const NUMBER: u16 = (\w+);\s*const NAME: &\'static str = "(\w+)";', code)
-        lists = re.findall(r'\bkind_names!\(\w+;([\w\s,]*)\)', code)
-        names = re.findall(r'\w+', " ".join(lists))
-        lists = re.findall(r'\brows! \{ \(\$\(\$call\)\*\)([^}]*)\}', code)
-        names += re.findall(r'\w+ \w+\(\w+, (\w+)', " ".join(lists))
+        names = re.findall(r"\w+", " ".join(re.findall(r"\bkind_names!\(\w+;([\w\s,]*)\)", code)))
+        lists = " ".join(re.findall(r"\brows! \{ \(\$\(\$call\)\*\)([^}]*)\}", code))
+        names += re.findall(r"\w+ \w+\(\w+, (\w+)", lists)
         for constant, name in rows + list(zip(names, names)):
             report.compare("names of faults", constant, ("constant", constant, name))
-        report.faults += ["%s has no name for faults" % it for of, it in ours.constants
+        report.faults += [f"{it} has no name for faults" for of, it in ours.constants
                           if of == crate and (it, it) not in rows and it not in names and not it.startswith("IWEV")]
-
-
-# ** places
 
 
 def compare_places(ours, kernel, report):
@@ -221,28 +207,24 @@ def compare_places(ours, kernel, report):
         group = kernel.headers.group(known.prefix, known.beside)
         listed, code = kernel.sets.get(known.set, {}), kernel.of_code(known.files)
         for row in rows:
-            where, attribute = "%s.%s" % (kind, row.name), listed.get(row.number, {})
+            where, attribute = f"{kind}.{row.name}", listed.get(row.number, {})
             named = sorted((name for name, n in group.items() if n == row.number),
                            key=lambda name: plain(name) != plain(row.name))
             if not named and row.number > max(group.values(), default=-1):
-                report.is_newer("rows, headers", "%s = %d" % (where, row.number))
+                report.is_newer("rows, headers", f"{where} = {row.number}")
             else:
                 fact = ("name", row.name, named[0]) if named else ("number", row.number, "none")
                 report.compare("rows, headers", where, fact)
             is_list = attribute.get("multi-attr", False)
-            report.compare("lists, yaml", where, ("list", yes_or_no(row.is_list), yes_or_no(is_list)))
+            report.compare("lists, yaml", where, ("list", *(("no", "yes")[it] for it in (row.is_list, is_list))))
             compare_form(where, row, named, (known, attribute, code, ours), report)
         numbers = {row.number for row in rows}
         for name, n in group.items() if known.whole else ():
             if n not in numbers:
-                report.compare("rows, headers", "%s.%s" % (kind, known.prefix + name), ("row", "none", n))
+                report.compare("rows, headers", f"{kind}.{known.prefix}{name}", ("row", "none", n))
         for n, attribute in () if known.whole else listed.items():
             if attribute["type"] != "pad" and n not in numbers:
                 report.compare("rows, yaml", kind, ("line", "none", attribute["name"]))
-
-
-def yes_or_no(it):
-    return "yes" if it else "no"
 
 
 def compare_form(where, row, named, beside, report):
@@ -267,8 +249,8 @@ def compare_form(where, row, named, beside, report):
 def in_words(form):
     """A form as rt_link.yaml describes one."""
     if form.word == "nest":
-        return "nest " + (PLACES[form.place].set or form.place)
-    return "struct " + (RECORDS[form.record].struct or form.record) if form.word == "struct" else form.word
+        return f"nest {PLACES[form.place].set or form.place}"
+    return f"struct {RECORDS[form.record].struct or form.record}" if form.word == "struct" else form.word
 
 
 def described(attribute, has_hints):
@@ -302,18 +284,17 @@ def compare_kinds(ours, kernel, report):
         for kind, there in kernel.messages.get(message, {}).items():
             place = ours.kinds.get((call, kind))
             here = PLACES[place].set if place in PLACES else "none"
-            report.compare("row kinds, yaml", "%s.%s" % (call, kind), ("set", here, there))
+            report.compare("row kinds, yaml", f"{call}.{kind}", ("set", here, there))
     theirs = defaultdict(list)
     for place, known in PLACES.items():
         for kind in kernel.of_code(known.files).kinds:
             theirs[kind].append(place)
     for (call, kind), place in ours.kinds.items():
-        there = theirs[kind]
-        if there:
+        if there := theirs[kind]:
             here = place if place not in there else there[0]
-            report.compare("row kinds, code", "%s.%s" % (call, kind), ("place", here, there[0]))
+            report.compare("row kinds, code", f"{call}.{kind}", ("place", here, there[0]))
         else:
-            report.left["kinds"].append("%s.%s" % (call, kind))
+            report.left["kinds"].append(f"{call}.{kind}")
 
 
 # what a name of the kernel has where its value counts, or runs down
@@ -331,18 +312,13 @@ def compare_levels(ours, kernel, report):
         for n, action in rows:
             name = next((place.prefix + it for it, m in group.items() if m == n), str(n))
             facts = [("row", n, n if name != str(n) else "none")]
-            part = re.fullmatch(r"ClearPart (\d+) (\d+)", action)
-            if part:
+            if part := re.fullmatch(r"ClearPart (\d+ \d+)", action):
                 fields = {field.name: field.offset for field in kernel.headers.structs["ifla_cacheinfo"][0]}
-                facts.append(("part", " ".join(part.groups()), "%(tstamp)d %(retrans_time)d" % fields))
-            report.compare("states, headers", "%s.%s" % (level, name), *facts)
-        for name, n in group.items():
-            if COUNTS.search(place.prefix + name) and n not in numbers:
-                name = place.prefix + name
-                report.compare("states, headers", "%s.%s" % (level, name), ("row", "none", name))
-
-
-# ** what is printed
+                facts.append(("part", part[1], f"{fields['tstamp']} {fields['retrans_time']}"))
+            report.compare("states, headers", f"{level}.{name}", *facts)
+        for name in (place.prefix + it for it, n in group.items() if n not in numbers):
+            if COUNTS.search(name):
+                report.compare("states, headers", f"{level}.{name}", ("row", "none", name))
 
 
 def as_json(ours):
@@ -360,29 +336,28 @@ def as_json(ours):
 def show(report):
     for category in sorted({category for category, outcome in report.counts}):
         counts = [report.counts[category, outcome] for outcome in ("equal", "newer", "reason", "fault")]
-        print("%-22s %3d: %3d equal, %2d newer, %3d otherwise with a reason, %d without"
-              % (category, sum(counts), *counts))
-    print("newer than the kernel's files: " + (", ".join(dict.fromkeys(report.newer)) or "none"))
+        print("{:22} {:3}: {:3} equal, {:2} newer, {:3} otherwise with a reason, {} without".format(
+            category, sum(counts), *counts))
+    print("newer than the kernel's files:", ", ".join(dict.fromkeys(report.newer)) or "none")
     for why in dict.fromkeys(key[0] for key in report.reasoned):
-        print("otherwise, since: " + why)
+        print("otherwise, since:", why)
         for (other, what, here, _), (there, places) in report.reasoned.items():
             if other == why:
-                print("    %s %s, there %s: %s" % (what, here, there, ", ".join(shortened(places))))
+                print(f"    {what} {here}, there {there}: {', '.join(shortened(places))}")
     for what, where in report.left.items():
-        print("%s that are compared with none of the files: %s" % (what, ", ".join(where)))
+        print(f"{what} that are compared with none of the files: {', '.join(where)}")
     for fault in report.faults:
-        print("kernel_tables: " + fault, file=sys.stderr)
+        print(f"kernel_tables: {fault}", file=sys.stderr)
     faults = len(report.faults)
-    print("kernel_tables: %s" % ("%d differences without a reason" % faults if faults else "ok"))
-    return 1 if faults else 0
+    print("kernel_tables:", f"{faults} differences without a reason" if faults else "ok")
+    return int(faults > 0)
 
 
 def shortened(places):
     """Many fields of one record are one word."""
     records = Counter(place.split(".")[0] for place in set(places))
-    many = {record for record, count in records.items() if count > 6}
-    return list(dict.fromkeys("%s.* (%d)" % (r, records[r]) if r in many else place
-                              for place in places for r in [place.split(".")[0]]))
+    return dict.fromkeys(f"{record}.* ({records[record]})" if records[record] > 6 else place
+                         for place in places for record in [place.split(".")[0]])
 
 
 def main():
@@ -397,12 +372,12 @@ def main():
     try:
         ours = Repository(given.tree)
     except Unread as fault:
-        sys.exit("kernel_tables: %s" % fault)
+        sys.exit(f"kernel_tables: {fault}")
     if given.json:
         return print(as_json(ours))
     kernel, report = Kernel(given.kernel) if os.path.exists(given.kernel) else None, Report()
     if not kernel or not kernel.yaml:
-        print("kernel_tables: skipped: no rt_link.yaml in %s" % given.kernel)
+        print(f"kernel_tables: skipped: no rt_link.yaml in {given.kernel}")
         kernel = None
     kernel_shown.compare_shown(ours, kernel and kernel.headers, report)
     compare_names(ours, report)
