@@ -7,6 +7,7 @@ import re
 import sys
 from collections import namedtuple
 
+from kernel_names import ROWS
 from shared import TOP
 
 sys.path += [f"{TOP}/scripts/erase", f"{TOP}/tests/second"]
@@ -20,16 +21,8 @@ Row = namedtuple("Row", "number name form is_list", defaults=(False,))
 # a field of a record: the type is u8 to u64, s8 to s64, be16, or as 32 bytes
 Field = namedtuple("Field", "name offset type")
 
-FORMS = {"u8": Form("u8"), "u16": Form("u16"), "u32": Form("u32"), "u64": Form("u64"), "i32": Form("s32"),
-         "text": Form("string"), "bytes": Form("binary"), "address": Form("binary"),
-         "ext_mask": Form("u32", value="LinkExtentMask"), "phys_id": Form("binary", value="LinkPhysId"),
-         "event": Form("binary", value="WirelessEvent")}
-# how fields of records are read
-ORDERS = {"number": "u", "be_number": "be", "signed": "s"}
-# forms of link_info
-LETTERS = {"Unsigned": "u", "BigEndian": "be", "Signed": "s", "Named": "u", "BigEndianNamed": "be", "Flags": "u",
-           "BigEndianFlags": "be"}
-WORDS = {"Bytes": "binary", "Flag": "flag", "Text": "string", "Mac": "mac", "Ipv4": "ipv4", "Ipv6": "ipv6"}
+FORMS = {name: Form(word, value="".join(value) or None) for name, word, *value in ROWS["forms of specs"]}
+WORDS, ORDERS = dict(ROWS["forms of link_info"]), dict(ROWS["orders"])
 BYTES = {"mac": 6, "ipv4": 4, "ipv6": 16}
 # the crates whose constants are the kernel's
 CRATES = "link_nest", "link_vf", "link_afspec", "link_msg", "link_state"
@@ -42,9 +35,7 @@ class Unread(Exception):
 def width(word):
     """The bytes of a word as u32, be16, mac or 32 bytes; others stand for themselves."""
     found = re.fullmatch(r"(?:u|be|s)(\d+)|(\d+) bytes", word)
-    if not found:
-        return BYTES.get(word, word)
-    return int(found.group(1)) // 8 if found.group(1) else int(found.group(2))
+    return BYTES.get(word, word) if not found else int(found[1]) // 8 if found[1] else int(found[2])
 
 
 class Repository:
@@ -84,8 +75,6 @@ class Repository:
                     self.flags.add(kind)
                     self.values[kind] = {flag: int(bits, 0) for flag, bits in rows if flag}
 
-    # ** records of messages
-
     def read_records(self):
         self.prefixes = {}
         for text in [*self.second.RECORDS, *self.texts("link_msg/specs/Header.antt")]:
@@ -115,8 +104,6 @@ class Repository:
                 yield Field(name, int(at or after or 0), count + " bytes" if count else "u8")
             else:
                 raise Unread(f"{kind}.{name}: how it is read: {it}")
-
-    # ** places of messages
 
     def read_places(self):
         second = self.second
@@ -156,8 +143,6 @@ class Repository:
         nests = {row.form.place for rows in self.places.values() for row in rows if row.name.lower() in names}
         for place in nests & self.places.keys():
             self.places[place] = [row._replace(is_list=True) for row in self.places[place]]
-
-    # ** the rows of link_info
 
     def read_link_info(self):
         folder = os.path.join(self.crates, "link_info", "src")
@@ -206,7 +191,7 @@ class Repository:
             return Form(WORDS[kind])
         if kind == "Octets":
             return Form("%d bytes" % plain[1])
-        return Form("%s%d" % (LETTERS[kind], 8 * plain[1]), self.keys[id(plain[2])] if len(plain) > 2 else None)
+        return Form("%s%d" % (ORDERS[kind], 8 * plain[1]), self.keys[id(plain[2])] if len(plain) > 2 else None)
 
     def size(self, form):
         """How many bytes a form has, or its word."""

@@ -10,17 +10,7 @@ from kernel_names import OWN_FIELDS, PLACES, REASONS, ROWS
 
 NAMES = "frame_shown/src/tables.rt"
 SPELLED = re.compile(r"\b(?:Form|Field)::\w+(?:\((?:[^()]|\([^()]*\))*\))?")
-SIZES = {"Size::One": "u8", "Size::Two": "u16", "Size::Four": "u32", "Size::Eight": "u64"}
-# forms, by the types of rt_link.yaml or of values; what has none of these has code of its own
-FORMS = {"Form::%s(%s)" % (form, size): word for form in ("Number", "Exact") for size, word in SIZES.items()}
-FORMS |= {"Form::Truth": "u8", "Form::Signed": "s32", "Form::Text": "string", "Form::Address": "binary",
-          "Form::Ipv6": "binary"}
-CHOICES = {"OperState": "State", "LinkMode": "LinkMode", "GenMode": "In6AddrGenMode", "Attached": "XdpAttached",
-           "Event": "LinkEvent", "Binding": "MctpPhysBinding"}
-FORMS |= {"Form::Choice(Choice::%s)" % choice: word for choice, word in CHOICES.items()}
-# what stands in a record
-FIELDS = {"Field::Number(%s)" % size: word for size, word in SIZES.items()}
-FIELDS |= {"Field::Setting": "u32", "Field::LinkState": "u32", "Field::Protocol": "be16", "Field::Address": "32 bytes"}
+FORMS, FIELDS = dict(ROWS["forms shown"]), dict(ROWS["fields shown"])
 
 
 def tables(code):
