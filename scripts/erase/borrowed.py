@@ -61,8 +61,6 @@ def between(text, expression, lines):
     return text[:found.start(1)] + "\n".join(lines) + text[found.end(1):]
 
 
-# ** the attributes of a message
-
 def attributes(text):
     rows, families, arms, other = list(keys.rows()), {}, [], "_ => Ok(BorrowedAttribute::Other(frame)),"
     for row in rows:
@@ -95,8 +93,6 @@ def attribute_specs(text):
              for row in [*keys.rows(), OTHER]]
     return between(text, r"^abbrev pub owned : .*\n([\s\S]*?)\n\Z", lines)
 
-
-# ** the members of inner lists
 
 def inner(crate):
     """The enums of a crate: its name, what is said of it, and its rows."""

@@ -58,8 +58,6 @@ def snake(name):
     return re.sub(r"(?<=[a-z0-9])(?=[A-Z])|(?<=[A-Z])(?=[A-Z][a-z])", "_", name).lower()
 
 
-# ** the attributes of a message
-
 def rows():
     source = ROWS.read_text("utf-8")
     number_of = dict(re.findall(r"^ +(?:held|plain|mask) (\w+)\(\w+ => (IFLA_\w+)", source, re.M))
@@ -74,8 +72,6 @@ def keyed(rows_):
     return [line for row in rows_ for line in
             [*doc(row.said), f"    {row.name}({row.value}) {row.number} {row.how};"]]
 
-
-# ** the attributes of inner lists
 
 def inner_rows(source, enum):
     some = re.findall(r"^ +some (\w+)\(", source, re.M)
@@ -115,8 +111,6 @@ def lists():
         for found in re.findall(r"^pub struct (\w+)\(pub List<(\w+)>\);[\s\S]*?const NUMBER: u16 = ", source, re.M):
             yield f"entries!({' '.join(found)});\n"
 
-
-# ** the data of kinds
 
 class Borrowed(typed.Maker):
     """The places of link data, with their values over borrowed bytes."""

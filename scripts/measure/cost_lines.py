@@ -139,8 +139,6 @@ def with_words(words):
     return [words + message.hex() for message in turning(b"")]
 
 
-# ** the workloads
-
 def workloads():
     """The bytes of each workload, a line for each message, by name."""
     of = stored()

@@ -61,8 +61,6 @@ def stop(why):
     sys.exit(f"costs: {why}")
 
 
-# ** building
-
 def link(texts, folder, names):
     """Builds these programs, and `calls` of the library, with what counts, and returns the functions of each text.
 
@@ -99,8 +97,6 @@ def link_crate(folder):
                    cwd=manifest.parent, env={**os.environ, "CARGO_ENCODED_RUSTFLAGS": wraps})
     os.rename(f"{folder}/{CRATE}/target/release/crate", f"{folder}/crate")
 
-
-# ** counting
 
 def instructions(path, own, program):
     """How many of callgrind's file are in these functions themselves; with none, in the program's own."""
@@ -156,8 +152,6 @@ def counted(texts, workloads, rows):
             runs = {row: pool.submit(count, folder, *row, own.get(COUNTED[row[0]][0], set())) for row in rows}
             return {row: run.result() for row, run in runs.items()}
 
-
-# ** comparing
 
 def versions():
     """What the numbers of some columns and rows depend on: the C library, and the compilers of what has no text."""

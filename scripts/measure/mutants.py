@@ -26,6 +26,9 @@ import tempfile
 from pathlib import Path
 
 TOP = Path(__file__).resolve().parents[2]
+sys.path.append(f"{TOP}/scripts/test")
+from shared import table
+
 ROUND = {"e": "ne", "b": "ae", "a": "be", "l": "ge", "g": "le", "s": "ns"}
 ROUND |= {other: one for one, other in ROUND.items()}
 # a jump, a set or a move on a condition, and the letter of a size that may stand at the end of a move
@@ -37,7 +40,6 @@ WRAPS = [f"-Wl,--wrap={name}" for name in ("main", "read", "write")]
 # and whether it calls the library, which it then preloads.
 Run = collections.namedtuple("Run", "words reads writes preloads", defaults=[("TO",), "/dev/null", "", False])
 
-# ** mutants
 
 def turned(word):
     """The opposite of a jump, a set or a move on a condition."""
@@ -91,8 +93,6 @@ def alike():
     return re.compile("|".join(re.sub(r"\\{(.*?)\\}", lambda it: f"(?:{it[1].replace(',', '|')})", it) for it in found))
 
 
-# ** what is built, and run
-
 def compiles(*command):
     return subprocess.run(["cc", *map(str, command)], capture_output=True, check=False).returncode == 0
 
@@ -145,19 +145,11 @@ def runs(name, folder):
             if line.startswith(f"$ {name} ")]
     short = [Run(reads=str(TOP / f"crates/{name}/stdin")), Run(("TO", "--version")),
              Run(reads=f"{folder}/digits", writes="/dev/full")]
-    parts = ["more", "digits", "mixed", *(f"all.{it:02}" for it in range(PARTS))]
-    each = "", "--lenient", "--counters", "--counters --lenient"
-    long = {"linkwire": [("", it) for it in parts],
-            "linkstate": [(given, it) for given in ("", "--lenient") for it in parts],
-            "linkshow": [("", "worded"), ("--lenient --kernel 6.17", "worded"), *(("", it) for it in parts),
-                         *(("--lenient --kernel 6.12.0", it) for it in parts if it != "digits")],
-            "linkdiff": [*((it + files, "streams") for files in ("", f" {folder}/old {folder}/new") for it in each),
-                         ("--changes-only", "streams"), ("--changes-only --lenient", "streams"), ("", "worded"),
-                         ("--changes-only", "hosts"), (f"--lenient {folder}/first -", "hosts"),
-                         *((given, it) for given in ("", "--counters --lenient")
-                           for it in ("hosts", "turns", "changes", "news")), ("--changes-only", "news")]}
-    return [*short, *(Run(("TO", *it), str(TOP)) for it in said),
-            *(Run(("TO", *given.split()), f"{folder}/{made}") for given, made in long[name]),
+    parts = {"all": [f"all.{it:02}" for it in range(PARTS)]}
+    long = [Run(("TO", *" ".join(given).replace("{}", folder).split()), f"{folder}/{part}")
+            for program, (sets, *given) in table("scripts/measure/mutants.txt") if program == name
+            for it in sets.split() for part in parts.get(it, [it])]
+    return [*short, *(Run(("TO", *it), str(TOP)) for it in said), *long,
             Run(("sh", "tests/second/watched.sh", name, "TO", folder, f"{folder}/watch.so"))]
 
 

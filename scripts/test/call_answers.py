@@ -39,8 +39,6 @@ def options(flags):
     return [option for flag, option in FLAGS.items() if flags & flag]
 
 
-# ** what a message says
-
 def compare_shown(call, program, lines):
     for order, release in ORDERS.items():
         for flags in (0, 1):
@@ -48,8 +46,6 @@ def compare_shown(call, program, lines):
             compare(f"linkwire_show, flags {flags}", lines, answers(call, lines, "show", str(order), str(flags)), shown)
     return len(lines) * len(ORDERS) * 2
 
-
-# ** what changed
 
 def unannounced(digits):
     """The message without IFLA_WIRELESS."""

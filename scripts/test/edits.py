@@ -125,8 +125,6 @@ def apply(edit, crate):
     return why and f"{edit}: {why}"
 
 
-# ** the table of edits/README.md
-
 def owner(text, at):
     """Returns the function, the named type or the macro of a file in which a place of it stands, as `Type::name` or
     `name`."""
@@ -155,8 +153,6 @@ def page_as_made():
                     f"{goals.get((where, headline), NO_GOAL)} | `{where}` |\n"
     return page, MADE.sub(lambda _: table, page)
 
-
-# ** what fits
 
 def fit():
     """Prints in what the page of edits is not as it is made, and which edits do not fit; returns whether there are."""

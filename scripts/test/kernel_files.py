@@ -185,8 +185,6 @@ class Kernel:
         self.sets[it["name"]] = numbers
 
 
-# ** code
-
 class Code:
     """What files of the kernel put into attributes, and what their policies take."""
 

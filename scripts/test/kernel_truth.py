@@ -39,6 +39,7 @@ Links = namedtuple("Links", "first last names")
 # what is around a value: our first message, the names of links, the nodes of ip's object, and the value's path there
 World = namedtuple("World", "first names said path", defaults=({}, ""))
 
+
 def read_table(path):
     """Rows by where they are, as ("ip", None) or ("data", "vlan"), and by field."""
     rows = defaultdict(dict)
