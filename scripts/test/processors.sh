@@ -59,7 +59,6 @@ answers() {
     echo "$self: $name: $(wc -l <"$folder/${order}canonical.asked") lines: the same answers"
 }
 
-# the processor as Debian names it, rustc's target, the triplet of its C, and qemu's name
 while read -r name target triplet qemu; do
     emulator=$(command -v "qemu-$qemu" || command -v "qemu-$qemu-static" || true)
     rustc=$(rust_of "$target")
@@ -87,12 +86,5 @@ while read -r name target triplet qemu; do
         echo "$self: $name: tests/c on the library of rust/capi, its laws on $((count / 10)) messages: ok"
     fi
     tested=$((tested + 1))
-done <<'END'
-armhf armv7-unknown-linux-gnueabihf arm-linux-gnueabihf arm
-i386 i686-unknown-linux-gnu i686-linux-gnu i386
-ppc64el powerpc64le-unknown-linux-gnu powerpc64le-linux-gnu ppc64le
-s390x s390x-unknown-linux-gnu s390x-linux-gnu s390x
-mips64el mips64el-unknown-linux-gnuabi64 mips64el-linux-gnuabi64 mips64el
-riscv64 riscv64gc-unknown-linux-gnu riscv64-linux-gnu riscv64
-END
+done < <(grep -v '^#' "$top/scripts/test/processors.txt")
 echo "$self: $tested processors tested"
