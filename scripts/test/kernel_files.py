@@ -32,8 +32,7 @@ class Headers:
     """Constants and structures. Conditions of the preprocessor are not looked at: all lines are read."""
 
     def __init__(self, texts):
-        self.values, self.defines, self.structs = {}, {}, {}
-        self.block, self.names = {}, {}
+        self.values, self.defines, self.structs, self.block, self.names = {}, {}, {}, {}, {}
         for name, text in texts.items():
             self.read(name, text)
 
@@ -66,14 +65,12 @@ class Headers:
         fields, end, align = [], 0, 1
         for item in filter(None, (part.strip() for part in body.split(";"))):
             found = re.fullmatch(r"([\w ]+?)\s+(\w+)(?:\[(\w+)\])?", item)
-            kind = found and TYPES.get(found.group(1))
-            count = self.evaluate(found.group(3) or "1") if found else None
+            kind, count = found and TYPES.get(found[1]), found and self.evaluate(found[3] or "1")
             if not kind or not count:
                 return
             size = width(kind)
-            align = max(align, size)
-            end += -end % size
-            fields.append(Field(found.group(2), end, "%d bytes" % (count * size) if found.group(3) else kind))
+            align, end = max(align, size), end + -end % size
+            fields.append(Field(found[2], end, f"{count * size} bytes" if found[3] else kind))
             end += count * size
         self.structs[name] = (fields, end + -end % align)
 
@@ -105,16 +102,15 @@ class Headers:
 
 def unpack(archive, folder):
     """Unpacks what is read of a packed tree. What it does not have is not there."""
-    options = ["--strip-components=1", "--wildcards", "--no-wildcards-match-slash"]
-    files = YAML_FILES + HEADERS + sorted(CODE)
-    subprocess.run(["tar", "-xf", archive, "-C", folder] + options + ["*/" + name for name in files],
-                   stderr=subprocess.DEVNULL)
+    files = [f"*/{name}" for name in YAML_FILES + HEADERS + sorted(CODE)]
+    subprocess.run(["tar", "-xf", archive, "-C", folder, "--strip-components=1", "--wildcards",
+                    "--no-wildcards-match-slash", *files], stderr=subprocess.DEVNULL, check=False)
 
 
 def type_of(it):
     """The type of a field or an attribute of rt_link.yaml, as 32 bytes, u16, or be16 where its order is said."""
     if "len" in it:
-        return "%d bytes" % it["len"]
+        return f"{it['len']} bytes"
     return it["type"].replace("u", "be") if it.get("byte-order") == "big-endian" else it["type"]
 
 
@@ -132,8 +128,7 @@ class Kernel:
                 sys.exit("kernel_tables: the kernel's files are there, and no python3-yaml to read rt_link.yaml")
             spec = yaml.safe_load(Path(self.yaml).read_text("utf-8")) if self.yaml else {}
             self.headers = Headers(self.header_texts(path))
-            self.code = {name: Path(path, name).read_text("utf-8") for name in sorted(CODE)
-                         if Path(path, name).is_file()}
+            self.code = {it: Path(path, it).read_text("utf-8") for it in sorted(CODE) if Path(path, it).is_file()}
         self.lists, self.structs, self.sets = {}, {}, {}
         for it in spec.get("definitions", []):
             self.define(it)
@@ -208,13 +203,9 @@ class Code:
     def length(text):
         """The size of a type as a number, or a structure by its name."""
         text = re.sub(r"\s", "", text)
-        inside = re.fullmatch(r"sizeof\((.*)\)", text)
-        name = inside.group(1) if inside else text
-        if re.fullmatch(r"sizeof_field\(structiphdr,[sd]addr\)", text):
-            return 4
-        if name in LENGTHS:
-            return LENGTHS[name]
-        return "struct " + name[len("struct"):] if inside and name.startswith("struct") else None
+        name = re.sub(r"^sizeof\((.*)\)$", r"\1", text)
+        of_struct = f"struct {name[len('struct'):]}" if name.startswith("struct") and name != text else None
+        return LENGTHS.get(name, of_struct)
 
     def policy(self, text):
         kind = re.search(r"\bNLA_(?:[USBE]+(\d+)|(?:NUL_)?(FLAG|STRING|NESTED))\b", text)
@@ -224,12 +215,12 @@ class Code:
         if "NLA_POLICY_NESTED" in text:
             return "nest"
         if kind:
-            return int(kind.group(1)) // 8 if kind.group(1) else kind.group(2).lower().replace("nested", "nest")
-        text = size.group(1) if size else ""
+            return int(kind[1]) // 8 if kind[1] else kind[2].lower().replace("nested", "nest")
+        text = size[1] if size else ""
         return self.length(text + ")" * (text.count("(") - text.count(")"))) if size else None
 
     def table(self, name):
         """The names and numbers of a table of values."""
-        table = re.search(r"\b%s\[\]\s*=\s*\{(.*?)\n\};" % name, self.text, flags=re.S)
-        pairs = re.findall(r'\{\s*"([^"]+)",\s*(\w+)', table.group(1)) if table else []
+        table = re.search(rf"\b{name}\[\]\s*=\s*\{{(.*?)\n\}};", self.text, flags=re.S)
+        pairs = re.findall(r'\{\s*"([^"]+)",\s*(\w+)', table[1]) if table else []
         return [(name, number) for name, number in pairs if name not in ("default", "maxval")]
