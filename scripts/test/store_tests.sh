@@ -42,25 +42,19 @@ stands() {
 }
 
 polls_sqlite() {
-    local index
+    local index it steps command column link wanted what
     waits 120 stands || fails 'the states of the links do not come to stand'
     rm -f "$folder/links.db"
     sqlite 100 0.05
     wants 'rows of a hundred idle polls, one a link' "$(rows 'count(*)')" "$(rows 'sum(is_open)')"
     index=$(cat /sys/class/net/veth0/ifindex)
-    after ip link set veth0 mtu 1400
-    wants 'rows of a link that was changed' "$(rows 'count(*)' "$index")" 2
-    after ip link set veth0 mtu 1500
-    wants 'rows of a link that was changed back' "$(rows 'count(*)' "$index")" 3
-    wants 'its encodings' "$(rows 'count(DISTINCT key)' "$index")" 2
-    after makes_again
-    after ip link del again0
-    wants 'open rows of a link that was deleted' "$(rows 'sum(is_open)' 4242)" 0
-    after makes_again
-    wants 'rows of an index that is used again' "$(rows 'count(*)' 4242)" 2
-    wants 'open ones' "$(rows 'sum(is_open)' 4242)" 1
-    wants 'its encodings' "$(rows 'count(DISTINCT key)' 4242)" 1
-    ip link del again0
+    reads steps live/store_steps.txt
+    for it in "${steps[@]}"; do
+        IFS=, read -r command column link wanted what <<<"$it"
+        # shellcheck disable=SC2086 # a command and its words
+        [ -z "$command" ] || after $command
+        [ -z "$what" ] || wants "$what" "$(rows "$column" "${link/veth0/$index}")" "$wanted"
+    done
 }
 
 # polls [FOLDER [STATUS]]: one poll; a program in FOLDER stands for another of its name
