@@ -13,12 +13,9 @@ the file; further pairs, and further files, may follow. A text goes on in lines 
 one blank in it. Each edit is written to FOLDER/NAME.edit, where NAME is its headline with _ between the words. With
 WORDS only those files stay in FOLDER whose name has these words, next to each other.
 
---fit says which edits of the lists and of the gate's, in must-fail/, do not fit their crate's files any more; also
-whether the table of edits/README.md is as --table makes it, and which edit has no goal there.
---table makes the table of edits/README.md anew: a row for each edit of must-fail/ and tests/edits/ and of the groups
-'== the first to try', with the function in which its text stands. The goal of an edit is written into its row by hand,
-and stays there.
---apply makes one edit in the files of a crate's folder.
+--fit says which edits of the lists and of the gate's, in must-fail/, no longer fit their crate's files, and whether the
+table of edits/README.md is as --table makes it; that page says what is in it. --apply makes one edit in the files of a
+crate's folder.
 """
 
 import re
@@ -157,9 +154,8 @@ def page_as_made():
 def fit():
     """Prints in what the page of edits is not as it is made, and which edits do not fit; returns whether there are."""
     page, made = page_as_made()
-    wrong = [f"no goal: {row}" for row in made.split("\n") if f" | {NO_GOAL} | " in row]
-    wrong += ["it is not as 'python3 scripts/test/edits.py --table' makes it"] * (page != made)
-    told = [f"{PAGE.relative_to(TOP)}: {it}" for it in wrong]
+    told = [f"edits/README.md: no goal: {row}" for row in made.split("\n") if f" | {NO_GOAL} | " in row]
+    told += ["edits/README.md: it is not as 'python3 scripts/test/edits.py --table' makes it"] * (page != made)
     count = len(told)
     for path, crate, edits in lists():
         bad = [f"{crate.name}: {headline}: {why}" for _, headline, lines in edits if (why := edited(lines, crate)[1])]

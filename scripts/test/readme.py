@@ -49,14 +49,6 @@ WRITES = re.compile(r" >>?\w")
 SPAN = re.compile(r"`([^`]+)`")
 MAN_SPAN = re.compile(r'(?:^\.B (?=[^"])|^\.BR? "|\\fB)(.+?)(?:"|\\f|$)', re.M)
 SYNOPSIS = re.compile(r"^\.SH SYNOPSIS\n[\s\S]*?(?=^\.SH )", re.M)
-PART = """#include <linkwire.h>
-#include <linux/if_link.h>
-#include <stdio.h>
-void part(const uint8_t *message, size_t len);
-void part(const uint8_t *message, size_t len)
-{
-%s}
-"""
 
 
 class Page:
@@ -125,7 +117,7 @@ class Page:
                 (command, wanted), = COMMAND.findall(following)
                 self.compiles(shown, command, wanted)
             elif mark == "compiles: c":
-                self.compiles(PART % shown)
+                self.compiles(read("scripts/test/part.c.in") % shown)
             elif mark in ("runs: shell", "runs: namespace"):
                 (self.shell if rest == "shell" else self.namespace)(commands)
             elif kind == "stands in":

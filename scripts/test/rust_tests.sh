@@ -86,8 +86,6 @@ echo "rust: $calls calls of traits that are not named: rustc names the trait"
 
 runs cargo build --locked --release --example lines
 example=$CARGO_TARGET_DIR/release/examples/lines
-"$example" <"$top/crates/linkwire/stdin" | cmp - "$top/crates/linkwire/stdout"
-echo "rust: the program's stored input: the same bytes"
 makes_lines -DLINES_ALONE
 export PLACES=$top/tests/second/places.txt
 for set in all digits; do
