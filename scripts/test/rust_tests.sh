@@ -71,13 +71,7 @@ package untold --lib
     printf '%s\n' DefaultNla LinkAttribute Prop VfInfo
 } | while read -r name; do
     echo "pub fn of_$name(it: &linkwire::$name) { it.buffer_len(); it.emit(&mut []); }"
-done >"$folder/untold/src/lib.rs"
-cat >>"$folder/untold/src/lib.rs" <<END
-pub fn frame(it: &linkwire::NlaBuffer<&[u8]>) {
-    let _ = linkwire::DefaultNla::parse(it);
-    let _ = linkwire::LinkAttribute::parse_with_param(it, linkwire::AddressFamily::Unspec);
-}
-END
+done | cat - "$top/tests/rust_untold.rs" >"$folder/untold/src/lib.rs"
 calls=$(grep -oE '\.(buffer_len|emit)\(|::parse(_with_param)?\(' "$folder/untold/src/lib.rs" | wc -l)
 (cd "$folder/untold" && ! cargo check >/dev/null 2>"$folder/log")
 [ "$(grep -c '^error\[E0599\]' "$folder/log") $(grep -c '^error\[' "$folder/log")" = "$calls $calls" ]
