@@ -122,7 +122,8 @@ def erase(path, text, crate, mode):
         words.docs(s, lambda name, call: owed.told(
             call, found.get(name, []), mode.memory_names, mode.examples.pop(name, None)), mode.public)
         surface.must_use(s, mode.public)
-        imported += paths.of_alloc(s)
+        text = s.plain(s.text)
+        imported += [f"alloc::{path}" for name, path in paths.OF_ALLOC.items() if re.search(rf"\b{name}\b", text)]
     if not mode.is_tests:
         rules.apply(s, "older")
     text = s.rust()
@@ -139,7 +140,8 @@ def look(mode):
         s = Source(path, read(path))
         mode.memory_names |= {found["name"] for found in s.find(memory.FAILS)}
         if crate in TOPS and base == "lib":
-            mode.public |= surface.given_again(s)
+            surface.hide_names(s)
+            paths.drop_names(s, lambda name, pub: pub == "pub" and mode.public.add(name))       # drops none
     for path in BY_HAND.glob("*.rs"):
         mode.conditions += owed.written(Source(path, read(path)))
     named = re.findall(r'^#\[path = "generated/(\w+)/mod.rs"\]', read(BY_HAND / "lib.rs"), re.M)

@@ -5,7 +5,7 @@ from rules import TABLES, WORDS
 from source import PAIR
 
 PACKAGE = "linkwire"
-# Names that the crate has of Rust's alloc.
+# Names that the crate has of Rust's alloc, as core has them not, where a file or its docs speak of them.
 OF_ALLOC = {"String": "string::String", "Vec": "vec::Vec"}
 USE = "@ use /(?P<tree>[^;]*)/ ;"
 # The names that an import brings.
@@ -76,9 +76,3 @@ def ours(s, is_program, is_crate):
         names = sorted(names) if module == "prelude" else names
         group = names[0] if len(names) == 1 else "{" + ", ".join(names) + "}"
         yield f"{PACKAGE if is_program else 'crate'}::rattle::{module}::{group}"
-
-
-def of_alloc(s):
-    """The imports of what Rust's core has not, where a file or its docs speak of it."""
-    text = s.plain(s.text)
-    yield from (f"alloc::{path}" for name, path in OF_ALLOC.items() if re.search(rf"\b{name}\b", text))

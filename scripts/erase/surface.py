@@ -22,14 +22,6 @@ def hide_names(s):
     s.put("pub mod", "pub(crate) mod")
 
 
-def given_again(s):
-    """The names that a top crate gives again."""
-    found = set()
-    hide_names(s)
-    drop_names(s, lambda name, pub: pub == "pub" and found.add(name))       # drops none
-    return found
-
-
 def hide_calls(s):
     """`pub fn` of those calls is `pub(crate) fn`."""
     def hidden(found):

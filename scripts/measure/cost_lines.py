@@ -104,12 +104,6 @@ def swapped(count):
                                          + frame(3, u32(number) + u32(100)) * (number % 2 == is_on)))
 
 
-def reversed_names(count):
-    """So many alternative names, and in the next line the same from last to first."""
-    listed = [frame(IFLA_ALT_IFNAME, b"name%d\0" % number) for number in range(count)]
-    return turns(lambda is_on: frame(IFLA_PROP_LIST, b"".join(listed[::-1 if is_on else 1])))
-
-
 def repeated(kind, payload, count):
     """An attribute so many times, beside a queue length that turns."""
     return turns(lambda is_on: frame(kind, payload) * count + frame(IFLA_TXQLEN, u32(1000 + is_on)))
@@ -144,6 +138,7 @@ def workloads():
     of = stored()
     dumps, first, again = of["dump"], of["first"], of["again"]
     kept = names(b"a name of twenty\0", 320)
+    listed = [frame(IFLA_ALT_IFNAME, b"name%d\0" % number) for number in range(256)]
     # numbers that no kernel sends
     unknown = [frame(1000 + number, b"kept") for number in range(2048)]
     # of messages alone; those that the calls of the library take are among them
@@ -166,7 +161,8 @@ def workloads():
         "settings-256": settings(256),
         "swapped-64": swapped(64),
         "swapped-256": swapped(256),
-        "names-reversed": reversed_names(256),
+        # in the next line from last to first
+        "names-reversed": turns(lambda is_on: frame(IFLA_PROP_LIST, b"".join(listed[::-1 if is_on else 1]))),
         "stats-repeated": repeated(IFLA_STATS64, bytes(range(200)), 64),
         "mtus-repeated": repeated(IFLA_MTU, u32(1500), 256),
         "refused-turning": refused(256, 1),

@@ -83,19 +83,13 @@ def link(texts, folder, names):
         words = ["-std=gnu11", "-D_GNU_SOURCE", "-DLINKDUMP_PCAP", "-O2", f"-I{TOP}/include", *WRAP, *sources]
         subprocess.run([*CC, *words, "count.o", "-lpcap", "-o", "linkdump"], check=True, cwd=folder)
     if CRATE in names:
-        link_crate(folder)
+        manifest = read("scripts/measure/costs/crate.toml").replace("TOP", TOP)
+        pathlib.Path(f"{folder}/Cargo.toml").write_text(manifest, "utf-8")
+        wraps = "\x1f".join(f"-Clink-arg={it}" for it in [*WRAP, f"{folder}/count.o"])
+        subprocess.run(["cargo", "build", "-q", "--release", "--offline", "--target-dir", "target"], check=True,
+                       cwd=folder, env={**os.environ, "CARGO_ENCODED_RUSTFLAGS": wraps})
+        os.rename(f"{folder}/target/release/crate", f"{folder}/crate")
     return own
-
-
-def link_crate(folder):
-    """Builds rust.rs by the crate, with what counts, as `crate`."""
-    manifest = pathlib.Path(f"{folder}/{CRATE}/Cargo.toml")
-    manifest.parent.mkdir()
-    manifest.write_text(read("scripts/measure/costs/crate.toml").replace("TOP", TOP), "utf-8")
-    wraps = "\x1f".join(f"-Clink-arg={it}" for it in [*WRAP, f"{folder}/count.o"])
-    subprocess.run(["cargo", "build", "-q", "--release", "--offline", "--target-dir", "target"], check=True,
-                   cwd=manifest.parent, env={**os.environ, "CARGO_ENCODED_RUSTFLAGS": wraps})
-    os.rename(f"{folder}/{CRATE}/target/release/crate", f"{folder}/crate")
 
 
 def instructions(path, own, program):

@@ -310,18 +310,15 @@ def compare_value(row, kind, theirs, messages, world, who, report):
         there = world.said[re.sub(r"\[\d+\]$", "", world.path)]
         there = there if isinstance(there, list) else [there]
         sets = [SETS[row.how](it, row.args) for it in found if it is not MISSING]
-        report.says(any(same_set(row.how, there, it) for it in sets), "ip", kind, who, there, *sets)
+        # whether a master is down ip looks up
+        names = {it.lower().replace("_", "-") if "flags" in row.how else it for it in there} - {"m-down"}
+        report.says(names in sets, "ip", kind, who, there, *sets)
     elif found[0] is MISSING and row.how not in ABSENT:
         report.says(False, "ip", kind, who, theirs, MISSING)
     elif place.startswith("0]") and list_here and sizes[0] != sizes[1]:
         report.says(False, "ip", kind, who, f"{sizes[0]} members", sizes[1])
     else:
         report.says(agrees(row, [theirs], found, world), "ip", kind, who, theirs, *found)
-
-
-def same_set(how, theirs, ours):
-    """Whether ip's list has the members of ours. Whether a master is down ip looks up."""
-    return {it.lower().replace("_", "-") if "flags" in how else it for it in theirs} - {"m-down"} == ours
 
 
 def unsaid(rows, place, prefix, seen, first, who, report):
