@@ -20,7 +20,6 @@ refuses() {
     [ "$status $(wc -l <"$folder/err") $(cat "$folder/out")" = '2 1 ' ] || fails "status $status"
 }
 
-# shellcheck disable=SC2016
 looks 'a closed output' leaves 1 '' "$name: write failed" sh -c 'echo 0 | "$0" >&-' "$program"
 looks -h leaves 0 "$("$program" --help)" '' "$program" -h </dev/null
 
@@ -31,7 +30,6 @@ link() {
 
 # holds WHAT ANSWERS: the lines of $folder/lines have so many answers, and want no more memory than a few of them
 holds() {
-    # shellcheck disable=SC2016
     tries bash -c 'ulimit -v 16000; exec "$0"' "$program" <"$folder/lines"
     [ "$status $(wc -l <"$folder/out") $(cat "$folder/err")" = "0 $2 " ] ||
         fails "$1: status $status, $(wc -l <"$folder/out") answers"

@@ -24,12 +24,10 @@ if packed netlink-packet-core netlink-proto netlink-sys tokio tokio-macros futur
     echo 'rust: netlink: the examples are built'
     if has_namespace 'the examples of rust/netlink'; then
         for example in manage moved; do # an alias in Latin-1 hides no link
-            # shellcheck disable=SC2016
             runs unshare -rn sh -c 'ip link set lo alias "$(printf "caf\351")"; exec "$0"' \
                 "$CARGO_TARGET_DIR/debug/examples/$example"
             [ "$(tail -n 1 "$folder/log")" = 'links left: 1' ]
         done
-        # shellcheck disable=SC2016
         runs unshare -rn sh -c '"$0" & sleep 0.7; ip link add v0 type veth peer name v1; ip link del v0; wait' \
             "$CARGO_TARGET_DIR/debug/examples/watch"
         [ "$(grep -c '^new ' "$folder/log") $(grep -c '^gone ' "$folder/log")" = '2 2' ]

@@ -54,7 +54,6 @@ echo "rust: the page's program: ok"
 # the three programs of the first page of the docs, on the kernel
 runs cargo build --locked --example list --example watch --example change
 if has_namespace 'list, watch and change'; then
-    # shellcheck disable=SC2016
     runs unshare -rn sh -ec 'cd "$0"; timeout 30 ./watch 2 & sleep 2
         ip link add v0 type veth peer name v1; ./change v0 1400; wait; ./list
         ! ./change v9 1400; ! ./change' "$CARGO_TARGET_DIR/debug/examples"

@@ -57,7 +57,6 @@ tells() {
 }
 
 # has_all NAME: whether linkdiff has written each link of the families that linkdump --monitor has
-# shellcheck disable=SC2317 # waits calls it
 has_all() {
     "$folder/states" | awk '$1 != 10 { print $1, $2 }' | sort >"$folder/links"
     sed -n 's/.*"change":"new","ifi-family":\([0-9]*\),"ifi-index":\([0-9]*\),.*/\1 \2/p' "$folder/$1" | sort |
@@ -122,7 +121,6 @@ stays() {
 }
 
 # moved INDEX STATE: whether it has another
-# shellcheck disable=SC2317 # waits calls it
 moved() { [ "$(state "$1")" != "$2" ]; }
 
 # a new state after each change, and a line of linkdiff

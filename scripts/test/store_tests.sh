@@ -11,7 +11,6 @@ wants() {
 }
 
 # a link that is the same each time that it is made
-# shellcheck disable=SC2317 # the words of `after` call it
 makes_again() {
     ip link add index 4242 name again0 address 02:00:00:00:00:07 type veth peer index 4243 name again1 \
         address 02:00:00:00:00:08
@@ -34,7 +33,6 @@ rows() {
 }
 
 # stands: whether no state moves for five seconds
-# shellcheck disable=SC2317 # waits calls it
 stands() {
     rm -f "$folder/links.db"
     sqlite 50 0.1
@@ -104,7 +102,6 @@ polls_folder() {
 }
 
 # last_has PATTERN: whether the last line of the store of news of the index 4242 has it
-# shellcheck disable=SC2317 # waits calls it
 last_has() {
     tail -n 1 "$folder/news/0092100000" 2>/dev/null | grep -q "$1"
 }

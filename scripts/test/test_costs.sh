@@ -1,7 +1,6 @@
 #!/usr/bin/env bash
 # Looks that scripts/measure/costs.py names what got dearer, over texts with a slip in each, a row that may be lowered,
 # and one that is missing.
-# shellcheck disable=SC2016
 . "$(dirname "$0")/../common.sh"
 shopt -s inherit_errexit
 cd "$top"

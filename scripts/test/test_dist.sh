@@ -2,7 +2,6 @@
 # Looks that what does not fit is told, and not built: a text, a sum, a source, a line of crates.txt or a file written
 # by hand that changed, and a file, a compiler, a text or a command that is missing. A stand-in takes the place of rt.
 # The texts in out/texts, of `dist.sh --compare`, are compared where there are any.
-# shellcheck disable=SC2016
 . "$(dirname "$0")/../common.sh"
 mkdir -p "$folder/bin" "$folder/rt" "$folder/c" "$folder/headers"
 copies_tree "$folder/tree"

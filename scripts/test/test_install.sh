@@ -31,7 +31,6 @@ for page in "$prefix"/share/man/man[13]/link*.[13]; do
 done
 
 for name in linkwire linkshow linkstate linkdiff linkdump linkwatch; do
-    # shellcheck disable=SC2016
     bash -c '. "$1" && complete -p "$2"' bash "$prefix/share/bash-completion/completions/$name" "$name" >completed
     grep -qx "complete -F _linkwire $name" completed || fails "bash does not complete $name"
 done

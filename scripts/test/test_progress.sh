@@ -5,7 +5,6 @@ self=progress
 mkdir -p "$folder/bin" "$folder/crates/"{low,mid,top}
 cp -r "$top/scripts" "$folder"
 printf 'low: std\nmid: low\nmid_not: low\ntop staticlib: mid low\n' >"$folder/crates.txt"
-# shellcheck disable=SC2016
 script "$folder/bin/rt" 'echo "said by $PWD $*"' 'case $PWD/$STAND_IN in' \
     '*/mid/waits) echo "$$" >pid && exec sleep 60 ;;' '*/top/fails) exit 1 ;;' 'esac' \
     '[ "$1" != lib ] || { mkdir -p out/rlib && touch out/rlib/stamp; }'
@@ -36,7 +35,6 @@ STAND_IN=waits PATH="$folder/bin:$PATH" "$folder/scripts/make/progress.sh" top "
 waits 10 test -s "$folder/crates/mid/pid" || fails 'the second crate is not reached'
 kill $!
 wait $! && fails 'its end is no failure'
-# shellcheck disable=SC2317 # waits calls it
 ended() {
     ! kill -0 "$(cat "$folder/crates/mid/pid")" 2>/dev/null
 }

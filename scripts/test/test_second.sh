@@ -2,7 +2,6 @@
 # Looks that what holds the programs without `rt` tells of slips: of a row that is changed in the second reader's
 # tables, of answers and stored sums that are changed, and of wrong programs: test_second.sh FOLDER, where the programs
 # are.
-# shellcheck disable=SC2016
 . "$(dirname "$0")/../common.sh"
 cd "$top"
 programs=$(realpath "$1")

@@ -437,7 +437,6 @@ overfills() {
 }
 
 # whether a whole dump of both families stands behind the line that says that messages are lost
-# shellcheck disable=SC2317 # waits calls it
 is_followed() {
     sed '1,/ type=lost /d' "$folder/news" >"$folder/out"
     grep -q ' family=7 ' "$folder/out"

@@ -13,7 +13,6 @@ fails() {
 }
 
 mount -t sysfs sysfs /sys
-# shellcheck disable=SC2016
 odd=('x$(id>pwn)' 'x`id>pwn`' 'x;id>pwn' "x'y" 'x"y' 'x*' 'x\y' 'x&id' '-x' 'x${IFS}')
 for it in "${odd[@]}"; do
     ip link add name "$it" type bridge
@@ -99,7 +98,6 @@ END
     done
     zsh -f tries.zsh "$top/completions" >/dev/null 2>&1 || true
     [ ! -e pwn ] || fails 'zsh ran a name'
-    # shellcheck disable=SC2016
     for it in 'x$(id>pwn)' 'x`id>pwn`' 'x;id>pwn' 'x*' 'x&id' --time; do
         grep -qxF -- "$it" words || fails "zsh does not complete $it: $(cat words)"
     done
