@@ -15,7 +15,7 @@ make() {
 if [ -z "$inside" ]; then
     file=$1
     dumps >"$folder/lines"
-    unshare --user --map-root-user --net "$0" --inside "$folder" || unshare --net "$0" --inside "$folder"
+    unshare --user --map-root-user --net "$itself" --inside "$folder" || unshare --net "$itself" --inside "$folder"
     cat "$folder/lines" "$folder/made" >"$file"
     exit
 fi

@@ -1,9 +1,11 @@
 # shellcheck shell=bash disable=SC2034
 # What the scripts share, `. "$(dirname "$0")/../common.sh"`: `self` stands in front of what a script says, by default
-# its name without `_tests`; `top` is the repository, and `folder` is one for the script alone, which goes at its end.
+# its name without `_tests`; `itself` is its path, and `folder` is one for the script alone, which goes at its end.
+# `top` is the repository, where each script runs: paths that it is given are those from there.
 set -euo pipefail
 self=${self:-$(basename "${0%_tests.sh}" .sh)}
-top=$(cd "$(dirname "${BASH_SOURCE[0]}")/.." && pwd)
+itself=$(realpath "$0") top=$(cd "$(dirname "${BASH_SOURCE[0]}")/.." && pwd)
+cd "$top"
 
 # lacks WHAT..: says that it is skipped, and goes on; `skips` ends there
 lacks() {
@@ -73,7 +75,7 @@ goes_inside() {
     command -v ip >/dev/null || skips 'a namespace: no command ip'
     for flags in -mn -rmn; do
         if unshare "$flags" sh -c "$mounts" 2>/dev/null; then
-            unshare "$flags" sh -c "$mounts && ip link set lo up && exec \"\$@\"" sh "$0" --inside "$folder" "$@"
+            unshare "$flags" sh -c "$mounts && ip link set lo up && exec \"\$@\"" sh "$itself" --inside "$folder" "$@"
             exit 0
         fi
     done

@@ -4,7 +4,6 @@
 #     dist.sh --against FOLDER NAME   compares with the one that was made
 #     dist.sh --by-rattle NAME    has the toolchain's own compiler make a library
 . "$(dirname "$0")/../common.sh"
-cd "$top"
 read -ra names <<<"link_c $(sed -n 's/^PROGRAMS = //p' dist/Makefile)"
 mapfile -t archs < <(awk '!/^#/ { print $1 }' scripts/make/targets.txt)
 

@@ -12,7 +12,6 @@ self=dist
 . "$(dirname "$0")/../common.sh"
 shopt -s inherit_errexit nullglob globstar
 export LC_ALL=C
-cd "$top"
 sums=dist/SUMS
 read -ra names <<<"link_c $(sed -n 's/^PROGRAMS = //p' dist/Makefile)"
 mapfile -t archs < <(awk '!/^#/ { print $1 }' scripts/make/targets.txt)

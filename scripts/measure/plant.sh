@@ -3,7 +3,6 @@
 # with the commit: plant.sh [--minutes N] [CRATE..]. Without names it takes every crate with contracts. Bodies that the
 # time did not reach are counted there as not run.
 . "$(dirname "$0")/../common.sh"
-cd "$top"
 minutes=10
 if [ "${1:-}" = --minutes ]; then
     minutes=$2

@@ -3,7 +3,6 @@
 # what builds and tests them, the pages and the crate in rust/, and no crates of Rattle. It has the same bytes each
 # time, and says the date of the newest version.
 . "$(dirname "$0")/../common.sh"
-cd "$top"
 scripts/make/sums.sh check >/dev/null
 version=$(sed -n 's/^#define LINKWIRE_VERSION "\(.*\)"$/\1/p' include/linkwire.h)
 date=${SOURCE_DATE_EPOCH:-$(date -ud "$(sed -n 's/^## \[[0-9.]*\] - //p' CHANGELOG.md | head -n 1)" +%s)}

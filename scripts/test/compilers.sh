@@ -3,7 +3,6 @@
 # LLVM's answer: compilers.sh [--library]. crates/NAME/out has NAME.by-rattle of the toolchain's own compiler, where the
 # gate and `dist.sh --by-rattle` left it. rustc makes the library that rust/capi has, and erased_tests.sh the programs.
 . "$(dirname "$0")/../common.sh"
-cd "$top"
 own="the toolchain's compiler"
 
 # same WHO SET NAME FILE: what is read is what FILE has of this name

@@ -11,7 +11,7 @@ if [ -z "$inside" ]; then
     elif [ -n "$rt" ]; then
         lacks 'the toolchain hidden by a mount: it is not allowed here'
     fi
-    "${hiding[@]}" "$0" --inside "$folder"
+    "${hiding[@]}" "$itself" --inside "$folder"
     exit
 fi
 copies_tree "$folder/tree"

@@ -4,7 +4,6 @@
 # meet their contracts is said by the gate alone.
 self='test'
 . "$(dirname "$0")/../common.sh"
-cd "$top"
 needs cargo
 mkdir -p out
 python3 scripts/erase/erase.py tests out/erased

@@ -3,7 +3,6 @@
 # sanitizers, each for so many seconds: fuzz.sh SECONDS. The seeds are the messages of tests/kernels and what
 # tests/fuzz/corpus.txt has. What fails is left in out/fuzz, and its bytes are told.
 . "$(dirname "$0")/../common.sh"
-cd "$top"
 seconds=$1
 needs afl-fuzz afl-gcc python3
 [ "$(uname -m)" = x86_64 ] || skips "the library's text is instrumented on x86_64 alone"

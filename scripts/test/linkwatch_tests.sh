@@ -2,7 +2,6 @@
 # Tests the command linkwatch: linkwatch_tests.sh [FOLDER], where the shared library and the programs are, else out/.
 # What lacks is 'skipped'. The last line is 'linkwatch passed'.
 . "$(dirname "$0")/../common.sh"
-cd "$top"
 programs=$(realpath "${1:-out}")
 export PYTHONPATH=$top/python LINKWIRE=$programs/liblinkwire.so.0 LINKDIFF=$programs/linkdiff PYTHONDONTWRITEBYTECODE=1
 

@@ -1,7 +1,6 @@
 #!/usr/bin/env bash
 # What can be said of the sources without a proof. All is run, and whatever finds something makes the status 1.
 . "$(dirname "$0")/../common.sh"
-cd "$top"
 mapfile -t shell < <(git ls-files '*.sh' .ci/run)
 mapfile -t python < <(git ls-files '*.py')
 status=0

@@ -4,7 +4,6 @@
 #     scripts/test/more_edits.sh [CRATE ..] [--headline WORDS]
 # Libraries that stand in the out/ of the crates are not proved again.
 . "$(dirname "$0")/../common.sh"
-cd "$top"
 crates=() words=''
 while [ $# != 0 ]; do
     case $1 in

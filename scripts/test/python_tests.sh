@@ -2,7 +2,6 @@
 # Tests the package in python/: python_tests.sh [FOLDER], where the shared library and the programs are, else out/.
 # What lacks is 'skipped'. The last line is 'python passed'.
 . "$(dirname "$0")/../common.sh"
-cd "$top"
 programs=$(realpath "${1:-out}")
 unset LINKWIRE PYTHONPATH CC
 export PYTHONDONTWRITEBYTECODE=1 PIP_DISABLE_PIP_VERSION_CHECK=1 PIP_ROOT_USER_ACTION=ignore

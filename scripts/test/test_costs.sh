@@ -3,7 +3,6 @@
 # and one that is missing.
 . "$(dirname "$0")/../common.sh"
 shopt -s inherit_errexit
-cd "$top"
 texts=$folder/texts
 
 # costs ROW WORD..: compares one row over the texts

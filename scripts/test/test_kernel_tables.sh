@@ -2,7 +2,6 @@
 # Puts the slips of tests/kernel_slips.txt into a copy of the crates, one at a time: kernel_tables.py has to refuse
 # each, and not the crates as they are. KERNEL names the kernel's files, as there.
 . "$(dirname "$0")/../common.sh"
-cd "$top"
 kernel=${KERNEL:-/usr/src/linux-source-6.12.tar.xz}
 if [ -f "$kernel" ] && [ "${kernel%.yaml}" = "$kernel" ]; then
     mkdir "$folder/kernel"

@@ -3,7 +3,6 @@
 # tables, of answers and stored sums that are changed, and of wrong programs: test_second.sh FOLDER, where the programs
 # are.
 . "$(dirname "$0")/../common.sh"
-cd "$top"
 programs=$(realpath "$1")
 makes_lines -DLINES_ALONE
 "$folder/lines" all >"$folder/all"

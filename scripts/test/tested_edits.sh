@@ -2,7 +2,6 @@
 # Tries the edits of the lists tests/edits/CRATE.txt, which the contracts let through, in a copy of the crates with the
 # contracts erased: a test has to refuse each. With WORDS those whose headlines have them: tested_edits.sh [WORDS]
 . "$(dirname "$0")/../common.sh"
-cd "$top"
 needs cargo
 shopt -s nullglob
 cp -r --parents crates.txt scripts crates/*/{src,args,stdin,stdout} "$folder"
