@@ -83,22 +83,20 @@ makes_lines -DLINES_ALONE
 export PLACES=$top/tests/second/places.txt
 for set in all digits; do
     "$folder/lines" "$set" >"$folder/set"
-    for it in linkwire: linkstate:state; do
-        # shellcheck disable=SC2086
-        "$example" ${it#*:} <"$folder/set" |
-            runs "$folder/lines" "$set" compare "${it%:*}" "$top/tests/second/stored.txt"
+    for kind in '' state; do
+        "$example" ${kind:+"$kind"} <"$folder/set" |
+            runs "$folder/lines" "$set" compare "link${kind:-wire}" "$top/tests/second/stored.txt"
         echo "rust: $(cat "$log")"
     done
 done
 python3 "$top/scripts/test/damaged.py" --write "$folder/set" 100000
-for it in linkwire: linkstate:state; do
-    program=$(program "${it%:*}")
-    [ -n "$program" ] || { lacks "lines as ${it%:*} answers them: it is not built" && continue; }
+for kind in '' state; do
+    name=link${kind:-wire} program=$(program "link${kind:-wire}")
+    [ -n "$program" ] || { lacks "lines as $name answers them: it is not built" && continue; }
     "$program" <"$folder/set" >"$folder/wanted"
-    # shellcheck disable=SC2086
-    "$example" ${it#*:} <"$folder/set" | cmp - "$folder/wanted"
+    "$example" ${kind:+"$kind"} <"$folder/set" | cmp - "$folder/wanted"
     answers=$(cut -c 1-7 "$folder/wanted" | cut -d ' ' -f 1 | sort | uniq -c | awk '{ printf ", %s %s", $1, $2 }')
-    echo "rust: $(wc -l <"$folder/set") lines, as ${it%:*} answers them: the same bytes$answers"
+    echo "rust: $(wc -l <"$folder/set") lines, as $name answers them: the same bytes$answers"
 done
 LINKWIRE_LINES=$folder/set runs cargo test --locked --release --test stored lines -- --nocapture
 echo "rust: the calls agree on $(sed -nE 's/^(test .* [.]{3} )?([0-9]+ messages).*/\2/p' "$folder/log")"
