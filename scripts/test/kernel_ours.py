@@ -176,22 +176,20 @@ class Repository:
     def style(self, style):
         """The form of a row."""
         kind = style[0]
-        if kind in WORDS:
-            return Form(WORDS[kind])
         if kind == "Record":
             return Form("struct", record=self.keys[id(style[1])])
         if kind == "Nest":
             return Form("nest", place=style[1])
-        form = self.plain(style[1])
-        return form if kind == "Plain" else form._replace(word=f"{kind.lower()} {form.word}")
+        form = self.plain(style if kind in WORDS else style[1])
+        return form._replace(word=f"{kind.lower()} {form.word}") if kind in ("Array", "List") else form
 
     def plain(self, plain):
         kind = plain[0]
         if kind in WORDS:
             return Form(WORDS[kind])
         if kind == "Octets":
-            return Form("%d bytes" % plain[1])
-        return Form("%s%d" % (ORDERS[kind], 8 * plain[1]), self.keys[id(plain[2])] if len(plain) > 2 else None)
+            return Form(f"{plain[1]} bytes")
+        return Form(f"{ORDERS[kind]}{8 * plain[1]}", self.keys[id(plain[2])] if len(plain) > 2 else None)
 
     def size(self, form):
         """How many bytes a form has, or its word."""
