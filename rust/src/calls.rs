@@ -21,7 +21,8 @@ pub fn check(message: &[u8]) -> Result<(), DecodeError> {
 }
 
 /// The first fault, and the offset from the start of the message of the innermost attribute at fault, or of the bytes
-/// where one should start; `None` where the bytes are a message. Takes no memory.
+/// where one should start; `None` where the bytes are a message. Takes no memory. [`LinkMessage::fault_path`] has the
+/// numbers of the attributes that lead there too, and [`LinkMessage::fault_at`] the offset alone.
 ///
 /// ```
 /// use linkwire::{fault_at, Cause};

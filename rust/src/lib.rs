@@ -128,6 +128,9 @@
 //!
 //! # A fault, and where it is
 //!
+//! A [`DecodeError`] has a cause and the name of the attribute. The offset comes of the bytes, by [`fault_at`], and the
+//! numbers of the attributes that lead there by [`LinkMessage::fault_path`].
+//!
 //! ```
 //! use linkwire::{fault_at, Cause, LinkMessage};
 //!
@@ -136,6 +139,8 @@
 //! let (fault, at) = fault_at(bytes).unwrap();
 //! assert_eq!(at, 24);
 //! assert_eq!(fault.cause, Cause::WrongLength { got: 3, want: 4 });
+//! assert_eq!(fault.place, "IFLA_MTU");
+//! assert_eq!(LinkMessage::fault_path(bytes).unwrap().numbers(), [4]);
 //! assert_eq!(LinkMessage::parse(bytes), Err(fault));
 //! println!("{fault}, {at} bytes into the message");
 //! ```
@@ -245,7 +250,7 @@ pub use writer::Writer;
 /// ```
 pub const BYTE_ORDER: &str = if cfg!(target_endian = "little") { "little" } else { "big" };
 
-/// The names of netlink-packet-route's module `link`.
+/// The names of netlink-packet-route's module `link`. Each that the root of the crate has too is the same type.
 pub mod link {
     #[doc(no_inline)]
     pub use crate::link_msg::*;

@@ -9,9 +9,9 @@ use crate::nla_wire::{
 use crate::rattle::number::MOST_LEN;
 use alloc::vec::Vec;
 
-/// What has a text of bytes.
+/// A value that can be written as bytes.
 pub trait Emitable {
-    /// The length of the text.
+    /// How many bytes [`emit`](Emitable::emit) writes.
     ///
     /// # Panics
     ///
@@ -26,7 +26,8 @@ pub trait Emitable {
     /// ```
     fn buffer_len(&self) -> usize;
 
-    /// Writes the text to the front of the buffer.
+    /// Writes the value to the front of the buffer, and keeps the rest. [`LinkMessage::fits`] tells before whether a
+    /// message fits, and [`LinkMessage::to_vec`] returns an error where it does not.
     ///
     /// [`buffer_len`](Emitable::buffer_len) has an example.
     ///
@@ -36,7 +37,7 @@ pub trait Emitable {
     fn emit(&self, buffer: &mut [u8]);
 }
 
-/// What is read from bytes, or from a frame.
+/// A value that is read from bytes, or from a frame.
 pub trait Parseable<T: ?Sized>: Sized {
     /// Reads a value.
     ///
@@ -53,7 +54,7 @@ pub trait Parseable<T: ?Sized>: Sized {
     fn parse(buf: &T) -> Result<Self, DecodeError>;
 }
 
-/// What is read from bytes, or from a frame, under a parameter: the family of a message's header.
+/// A value that is read from bytes, or from a frame, under a parameter: the family of a message's header.
 pub trait ParseableParametrized<T: ?Sized, P>: Sized {
     /// Reads a value.
     ///
@@ -206,8 +207,8 @@ impl Emitable for LinkMessage {
         self.encoded_len()
     }
 
-    /// A message is not measured for it: where it does not fit, or the buffer is too short, the attributes in front of
-    /// the one that is at fault are written.
+    /// The message is not measured before it is written. Where it does not fit, or the buffer is too short, the
+    /// attributes in front of the one at fault are written, and then it panics.
     #[inline]
     fn emit(&self, buffer: &mut [u8]) {
         self.encode_into(buffer);
