@@ -1,6 +1,5 @@
 pub mod Steps
 pub mod Labelled
-pub mod EachTold
 pub mod Unnamed
 pub mod Values
 pub mod ListRows
@@ -20,7 +19,6 @@ pub mod Texts
 pub mod Walked
 pub mod There
 pub mod Entries
-pub mod FieldsTold
 pub mod Parts
 pub mod Repeated
 pub mod Inside
@@ -29,8 +27,6 @@ pub mod Nested
 pub mod Grouped
 pub mod ArraysTold
 pub mod KeyedTold
-pub mod Moved
-pub mod Slots
 pub mod Sorts
 pub mod Told
 pub mod Names
