@@ -40,7 +40,7 @@ extern "C" {
 #endif
 
 /* The version of this header and of the library that it came with. */
-#define LINKWIRE_VERSION "0.3.0"
+#define LINKWIRE_VERSION "0.4.0"
 
 /* The number of the canonical form: a change of any message's canonical encoding raises it. Encodings of different
  * numbers are not to be compared, so a store keeps the number beside its keys. `linkwire_canonical_form` returns that
@@ -209,13 +209,15 @@ ptrdiff_t linkwire_show(const uint8_t *message, size_t len, uint32_t order, uint
  * an end of line and without a NUL, of an object for each path whose value differs, with "path", "old" and "new", of
  * which one is left out where the path came or went. VLANs have their numbers there, as
  * "af-spec.vlan-info[vid=10-20].flags": linkdiff(1) says how paths name the values of lists, and which of them come and
- * go whole. Where no path differs, though the messages do, the one path "state" has both encodings, in hexadecimal.
- * Attributes IFLA_EVENT of four bytes, which announcements alone have, are left out of both messages first, as
- * linkdiff(1) does. The list is written, and its length returned, as `linkwire_show` does; 0, and `out` is unchanged,
- * exactly where the state encodings of what is left are equal. With LINKWIRE_COUNTERS the canonical encodings are
- * compared, and counters are told too; with LINKWIRE_LENIENT the lenient ones of either. Both messages are shown in one
- * order. Or -20; or the refusal, -1 to -7, -16, -17 or -18, of the first that is refused, and `out` is unchanged. Takes
- * memory. */
+ * go whole. A text of a list, as an alternative name, has the path of the list with "[]" behind it,
+ * "prop-list.alt-ifname[]": this path comes as often as texts came or went. Where nothing differs but the order of a
+ * list, the list is told whole: its path, and both arrays. Where no path differs, though the messages do, the one path
+ * "state" has both encodings, in hexadecimal. Attributes IFLA_EVENT of four bytes, which announcements alone have, are
+ * left out of both messages first, as linkdiff(1) does. The list is written, and its length returned, as
+ * `linkwire_show` does; 0, and `out` is unchanged, exactly where the state encodings of what is left are equal. With
+ * LINKWIRE_COUNTERS the canonical encodings are compared, and counters are told too; with LINKWIRE_LENIENT the lenient
+ * ones of either. Both messages are shown in one order. Or -20; or the refusal, -1 to -7, -16, -17 or -18, of the first
+ * that is refused, and `out` is unchanged. Takes memory. */
 ptrdiff_t linkwire_diff(const uint8_t *old_message, size_t old_len, const uint8_t *new_message, size_t new_len,
                         uint32_t order, uint32_t flags, char *out, size_t cap);
 

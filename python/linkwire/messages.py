@@ -67,7 +67,8 @@ class Change(NamedTuple):
     """A member that differs: its path in what `show` returns. `old` is None where it came, `new` where it went. A value
     of a list that paths name by a number comes and goes whole: the path ends with its label, `other[number=70]`, and
     the value is the dict that `show` has. VLANs that come or go together are one change, with the path
-    `af-spec.vlan-info[vid=10-20]`, the dict of the first one, and its `vid-end`."""
+    `af-spec.vlan-info[vid=10-20]`, the dict of the first one, and its `vid-end`. Of a list of texts each that comes or
+    goes is a change, `prop-list.alt-ifname[]`: such a path comes as often as texts do."""
 
     path: str
     old: Any
@@ -331,7 +332,8 @@ def diff(old: Bytes, new: Bytes, kernel: Optional[str] = None, counters: bool = 
          lenient: bool = False) -> List[Change]:
     """What changed from one message to another, as linkdiff(1) tells it; an empty list where the states are equal.
     IFLA_EVENT, which announcements alone have, is left out of both first. VLANs have their numbers in the path,
-    `af-spec.vlan-info[vid=10-20].flags`; linkdiff(1) says how paths name the values of lists.
+    `af-spec.vlan-info[vid=10-20].flags`; linkdiff(1) says how paths name the values of lists. Where nothing else
+    differs, lists in another order are told whole.
 
     kernel, lenient: as for `show`, of both messages.
     counters: compares the canonical encodings, so that what moves by itself is there too.

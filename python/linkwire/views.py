@@ -1,6 +1,7 @@
 """What events say to people: names in the place of indices, each change once, of the links that are asked for."""
 
 import fnmatch
+import json
 import re
 import time
 from typing import Any, Dict, FrozenSet, Iterable, Iterator, List, Mapping, NamedTuple, Optional, Sequence, Tuple
@@ -20,6 +21,8 @@ _KNOWN = "ifname", "prop-list", "master", "link-netnsid", "linkinfo", "protinfo"
 _FIRST = "linkinfo.kind", "mtu", "operstate", "address", "master"
 # how paths begin in events, and here
 _PLACES = ("linkinfo.slave-data.", "port."), ("linkinfo.data.", "data."), ("protinfo.", "port.")
+# lists of texts, of which each that comes or goes is a change, whose path is that of the list and []
+_TEXTS = re.compile(r"(?:.*\.)?(?:prop-list\.alt-ifname|macaddr-data\.macaddr|arp-ip-target|ns-ip6-target)")
 # VLANs of a bridge's port: their list, the first and the last one, and which member is told of them
 _VLANS = re.compile(r"((?:.*\.)?af-spec\.vlan-(?:tunnel-)?info)\[vid=([0-9]+)(?:-([0-9]+))?\](?:\.(id|flags))?")
 
@@ -43,6 +46,20 @@ class Told(NamedTuple):
 def is_whole(it: Change) -> bool:
     """Whether a change is that of a value of a list that came or went, whose label the other message has not."""
     return it.path.endswith("]") and isinstance(it.new if it.old is None else it.old, dict) and None in (it.old, it.new)
+
+
+def list_of(it: Change) -> str:
+    """The path of the list, where a change is that of a text that came to a list or went; else empty."""
+    return it.path[:-2] if it.path.endswith("[]") else ""
+
+
+def _is_order(it: Change) -> bool:
+    """Whether a list is told whole, of which nothing but the order of its values differs, or how it is written."""
+    if not isinstance(it.old, list) or not isinstance(it.new, list):
+        return False
+    if _TEXTS.fullmatch(it.path):
+        return sorted(map(json.dumps, it.old)) == sorted(map(json.dumps, it.new))
+    return any(isinstance(one, dict) for one in it.old)
 
 
 def vlans(message: Bytes) -> FrozenSet[Tuple[int, str]]:
@@ -217,9 +234,15 @@ class View:
                 continue  # the message of family 0 tells it, or the VLANs do
             for start, place in _PLACES:
                 path = path.replace(start, place)
+            if path.endswith("[]"):
+                texts = it[path[:-2]] = [*(it.get(path[:-2]) or ()), *([] if new is None else [new])]
+                if old in texts:
+                    texts.remove(old)
+                items.append(Change(path, old, new))
+                continue
             if is_new:
                 old = it.setdefault(path, new)
-            elif path.startswith("port.") and "[" in path:  # at first these are one list
+            elif path.startswith("port.") and ("[" in path or _is_order(Change(path, old, new))):  # at first one list
                 old = new if it.get(path, old) == new else old
             elif path.startswith("port."):
                 old = it.get(path)
@@ -237,7 +260,8 @@ class View:
         for path, old, new in items:
             if path == "ifi-flags" and not self._details:
                 old, new = ([one for one in flags or () if one not in _HIDDEN_FLAGS] for flags in (old, new))
-            if not self._details and (old == new or f"{path}$".startswith(_HIDDEN)):
+            if not self._details and (old == new or f"{path}$".startswith(_HIDDEN)
+                                      or _is_order(Change(path, old, new))):
                 continue
             if path in _INDICES:
                 old, new = (it or None if not it or not isinstance(it, int) else f"if{it}" if is_far and path == "link"
@@ -313,18 +337,59 @@ def _joined(changes: Iterable[Change]) -> List[Change]:
     return [it for some in found for it in some]
 
 
+def _of_either(gone: Sequence[Any], value: Any) -> Any:
+    """A value on the side where these texts were: their list, where it is no other value."""
+    return [*gone] or value if value is None or isinstance(value, list) else value
+
+
 class _Held:
     """The changes of a link that are held: `told` is the first of them, `moved` has the values of lists that came or
-    went, and whether each was there at first, and now."""
+    went, and whether each was there at first, and now; `texts` how many more of each text a list has now than at first;
+    and `orders` the lists that were told whole."""
 
     def __init__(self, told: Told) -> None:
         self.told = told
         self.changes: Dict[str, Change] = {}
         self.moved: Dict[str, Tuple[bool, bool]] = {}
+        self.texts: Dict[str, Dict[Any, int]] = {}
+        self.orders: Dict[str, Change] = {}
 
     def add(self, change: Change) -> None:
-        for it in _each(change):
-            self._add(it)
+        path, old, new = change
+        if _is_order(change):
+            self.orders[path] = Change(path, self.orders.get(path, change).old, new)
+        elif path.endswith("[]"):
+            self._text(path[:-2], [] if old is None else [old], [] if new is None else [new])
+        elif _TEXTS.fullmatch(path) and (isinstance(old, list) or isinstance(new, list)):
+            self._add(Change(path, *([] if isinstance(it, list) else it for it in (old, new))))
+            self._text(path, *(it if isinstance(it, list) else [] for it in (old, new)))
+        else:
+            for it in _each(change):
+                self._add(it)
+
+    def _text(self, path: str, old: Sequence[Any], new: Sequence[Any]) -> None:
+        """Texts of a list go, and come."""
+        counts = self.texts.setdefault(path, {})
+        for some, way in (old, -1), (new, 1):
+            for it in some:
+                counts[it] = counts.get(it, 0) + way
+        self.changes.setdefault(path, Change(path, None, None))
+
+    def _of_texts(self, it: Change) -> List[Change]:
+        """What is told of a list of texts."""
+        counts = self.texts[it.path].items()
+        gone, came = ([text for text, count in counts for _ in range(way * count)] for way in (-1, 1))
+        found = [Change(f"{it.path}[]", text, None) for text in gone]
+        found += [Change(f"{it.path}[]", None, text) for text in came]
+        if any(one is not None and not isinstance(one, list) for one in it[1:]):  # at first or now it is no list
+            found = [Change(it.path, _of_either(gone, it.old), _of_either(came, it.new))]
+        return [one for one in found or [it] if one.old != one.new]
+
+    def _in_order(self) -> List[Change]:
+        """The lists whose order changed, and nothing else meanwhile."""
+        moved = *self.changes, *self.texts
+        return [it for path, it in self.orders.items() if it.old != it.new and not any(
+            one == path or one.startswith((f"{path}[", f"{path}.")) for one in moved)]
 
     def _add(self, it: Change) -> None:
         if is_whole(it):
@@ -338,10 +403,14 @@ class _Held:
             self.changes[one.path] = Change(one.path, self.changes.get(one.path, one).old, one.new)
 
     def release(self) -> Told:
-        """All of it, as one: a value of a list that came or went meanwhile is whole, and VLANs are in ranges."""
+        """All of it, as one: a value of a list that came or went meanwhile is whole, and VLANs are in ranges. Lists in
+        another order are told where there is nothing else."""
         changes: List[Change] = []
         inside: Dict[str, Tuple[int, Dict[str, Any]]] = {}  # of each value its place, and its leaves
         for it in self.changes.values():
+            if it.path in self.texts:
+                changes += self._of_texts(it)
+                continue
             path = next((one for one in _labelled(it.path) if len({*self.moved.get(one, ())}) == 2), "")
             was = self.moved.get(path, (True, True))[0]
             if it.old == it.new:
@@ -355,12 +424,12 @@ class _Held:
         for path, (place, leaves) in inside.items():
             value = _whole(path, leaves)
             changes[place] = Change(path, value, None) if self.moved[path][0] else Change(path, None, value)
-        return self.told._replace(changes=_joined(changes))
+        return self.told._replace(changes=_joined(changes) or self._in_order())
 
 
 class Settling:
     """Holds what changes of links for so many seconds, so that the changes of a link become one. What is as it was by
-    then is not told, and with 0 seconds nothing is held."""
+    then is not told, such as a name of a list that came and went, and with 0 seconds nothing is held."""
 
     def __init__(self, seconds: float) -> None:
         self._seconds, self._end = seconds, 0.0

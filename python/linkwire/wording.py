@@ -6,11 +6,12 @@ import unicodedata
 from typing import Any, Callable, Iterable, Iterator, List, Mapping, Tuple
 
 from .messages import Change
-from .views import Told, flat, is_whole
+from .views import Told, flat, is_whole, list_of
 
 _SHORT = {"ifi-flags": "flags", "operstate": "state", "ifname": "name", "ifalias": "alias", "txqlen": "qlen",
           "prop-list.alt-ifname": "altname"}
-_SETS = {"ifi-flags", "prop-list.alt-ifname", "port.vlan"}
+_LISTS = {"prop-list.alt-ifname"}  # of one in another order all is told
+_SETS = {"ifi-flags", "port.vlan", *_LISTS}
 _TEXTS = {"lost": "messages of the kernel: all links are asked for again",
           "again": "all is known: what changed meanwhile is told above"}
 _QUOTED = set(' ",()[]→;')
@@ -78,7 +79,11 @@ class Words:
         return "(" + ",".join(f"{escaped(name, self._encoding)} {self.value(it)}" for name, it in members.items()) + ")"
 
     def _moved(self, it: Change) -> Tuple[str, str]:
-        """Of a value of a list that came or went the list, and its label, with what it says beside that."""
+        """Of a value of a list that came or went the list, and its label, with what it says beside that; a text of a
+        list has no label."""
+        if list_of(it):
+            value = self.value(it.new if it.old is None else it.old)
+            return self._member(list_of(it)), ("+" if it.old is None else "-") + value
         found = _LABEL.fullmatch(it.path)
         if found is None:
             return "", ""
@@ -92,14 +97,14 @@ class Words:
         return escaped(_SHORT.get(path, path[5:] if path.startswith("port.") else path), self._encoding)
 
     def change(self, it: Change, is_new: bool = False) -> str:
-        """`member old → new`; of a set what came and went, as `flags +up`, and of a value of a list its label, as
-        `data.egress-qos.mapping +from=3(to 4)`; where the link is new `member value`."""
+        """`member old → new`; of a set or a list of texts what came and went, as `flags +up` or `altname +name`; of a
+        value of a list its label, as `data.egress-qos.mapping +from=3(to 4)`; where the link is new `member value`."""
         member = self._member(it.path)
-        if is_whole(it):
+        if is_whole(it) or list_of(it):
             return " ".join(self._moved(it))
         if is_new:
             return f"{member} {self.value(it.new)}"
-        if it.path not in _SETS:
+        if it.path not in _SETS or it.path in _LISTS and sorted(it.old or ()) == sorted(it.new or ()):
             return f"{member} {self.value(it.old)} {self._arrow} {self._mark(self.value(it.new))}"
         parts, old, new = [member], it.old or (), it.new or ()
         for sign, some, others in ("-", old, new), ("+", new, old):
@@ -114,7 +119,7 @@ class Words:
         parts: List[str] = []
         before = ""
         for it in told.changes:
-            of, element = self._moved(it) if is_whole(it) else ("", "")
+            of, element = self._moved(it) if is_whole(it) or list_of(it) else ("", "")
             if of and of == before:  # of one list its name stands once
                 parts[-1] += f" {element}"
             else:

@@ -46,6 +46,9 @@ ATTRIBUTES = {"name": lambda it: attribute(3, it.encode() + b"\0"),
               "trees": lambda it: attribute(26, attribute(6, b"".join(map(tree, it.split(","))))),
               "vlans": lambda it: attribute(26, b"".join(vlan(*one) for one in ranges(it))),
               "tunnels": lambda it: attribute(26, b"".join(tunnel(*one) for one in ranges(it))),
+              "names": lambda it: attribute(52, b"".join(attribute(53, one.encode()) for one in it.split(","))),
+              "targets": lambda it: attribute(18, attribute(1, b"bond") + attribute(2, attribute(8, b"".join(
+                  attribute(at, bytes([10, 0, 0, int(one)])) for at, one in enumerate(it.split(",")))))),
               "unknown": lambda it: b"".join(map(unknown, it.split(",")))}
 
 

@@ -146,7 +146,23 @@ def ports(*numbers):
                     for it in numbers)
 
 
+def names(*texts, more=b""):
+    """Alternative names."""
+    return attribute(52, b"".join(attribute(53, it.encode() + b"\0") for it in texts) + more)
+
+
+def targets(*values, n=8):
+    """Targets of a bond, by the last number of their addresses; bytes are all of a damaged one."""
+    found = [it if isinstance(it, bytes) else bytes([10, 0, 0, it]) for it in values]
+    return attribute(n, b"".join(attribute(at, it) for at, it in enumerate(found)))
+
+
 NAME = attribute(3, b"e5\0")
+NAMES, ADDRESS = " prop-list.alt-ifname[]", " linkinfo.data.macaddr-data.macaddr[]"
+EARLIER, TARGETS = " repeated.0.prop-list.alt-ifname[]", " linkinfo.data.arp-ip-target[]"
+# a function with counters, which moved in the other one
+COUNTED_7, COUNTED_9 = (attribute(1, attribute(4, struct.pack("<II", 7, 1)) +
+                                  attribute(8, attribute(0, struct.pack("<Q", it)))) for it in (7, 9))
 # the attributes of tunnel 7 of VLAN 10
 FIELDS = [attribute(1, b"\7\0\0\0"), attribute(2, b"\x0a\0"), attribute(3, b"\0\0")]
 # counters of IPv6 and of ICMPv6: of an older kernel, and none
@@ -239,7 +255,12 @@ STREAMS = [
     ("a range beside the same VLANs one by one", [],
      [link(vlans(*ranged(10, 13)), family=7), link(vlans(10, 11, 12, 13), family=7),
       link(vlans(10, *ranged(11, 13)), family=7), link(vlans(10, *ranged(12, 13)), family=7)],
-     ["new 5", *["changed 5 state"] * 2, "changed 5" + vlan(11)]),
+     ["new 5", *["changed 5 af-spec.vlan-info"] * 2, "changed 5" + vlan(11)]),
+    ("and beside the same VLANs with a name: the name alone is told", [],
+     [link(vlans(*ranged(10, 13)), family=7), link(NAME, vlans(10, 11, 12, 13), family=7),
+      link(vlans(10, *ranged(11, 13)), vlans(10), family=7)],
+     ["new 5", "changed 5 ifname",
+      "changed 5 ifname" + vlan("11-13") + " repeated.0.af-spec.vlan-info[vid=10-13]"]),
     ("an event that is compressed, beside a dump that is not", [],
      [link(vlans(1, 10, 11, 12, 13, (4, 14)), family=7), link(vlans(1, *ranged(10, 13), (4, 15)), family=7),
       link(vlans(1, 10, 11, 12, (2, 13), (4, 15)), family=7)],
@@ -324,7 +345,7 @@ STREAMS = [
      [link(tunnels(b"".join(it)), family=7) for it in (
          FIELDS, FIELDS[::-1], [attribute(0x8001, b"\7\0\0\0"), *FIELDS[1:]], [FIELDS[0], *FIELDS], FIELDS[:2],
          FIELDS)],
-     ["new 5", *["changed 5 state"] * 2, "changed 5" + tunnel(10) + "".join(
+     ["new 5", *["changed 5 af-spec.vlan-tunnel-info"] * 2, "changed 5" + tunnel(10) + "".join(
          f" af-spec.vlan-tunnel-info.0.{name}" for name in ("id", "vid", "flags", "repeated.0.id")),
       "changed 5 af-spec.vlan-tunnel-info.0.flags af-spec.vlan-tunnel-info.0.repeated.0.id",
       "changed 5 af-spec.vlan-tunnel-info.0.id af-spec.vlan-tunnel-info.0.vid" + tunnel(10)]),
@@ -340,7 +361,7 @@ STREAMS = [
      ["new 5", "changed 5" + tree("#2"), "changed 5" + tree("#0") + tree("#1") + tree("#2")]),
     ("spanning trees", [],
      [with_trees(*values) for values in ((0, 5), (0, 3, 5), (3, 0, 5))],
-     ["new 5", "changed 5 af-spec.mst.entry[msti=3]", "changed 5 state"]),
+     ["new 5", "changed 5 af-spec.mst.entry[msti=3]", "changed 5 af-spec.mst.entry"]),
     ("mappings of priorities", [],
      [link(data(b"vlan", attribute(3, mappings((1, 4))) + attribute(4, mappings((0, 2), (1, 4))))),
       link(data(b"vlan", attribute(3, mappings((1, 5))) + attribute(4, mappings((1, 4)))))],
@@ -358,15 +379,52 @@ STREAMS = [
     ("ports of functions", [],
      [link(attribute(24, ports(*values))) for values in ((2, 4), (4,), (4, None))],
      ["new 5", "changed 5 vf-ports.port[vf=2]", "changed 5 vf-ports.port[vf#0]"]),
-    ("addresses are told as one list", [],
-     [link(data(b"macvlan", attribute(5, attribute(4, bytes(6))))),
-      link(data(b"macvlan", attribute(5, attribute(4, bytes(6)) * 2)))],
-     ["new 5", "changed 5 linkinfo.data.macaddr-data.macaddr"]),
+    ("addresses are told one by one, those that are damaged as digits", [],
+     [link(data(b"macvlan", attribute(5, b"".join(attribute(4, one) for one in it))))
+      for it in ((bytes(6),), (bytes(6), b"odd", bytes(6)), (b"odd", bytes(6), bytes(6)), (b"odd",))],
+     ["new 5", "changed 5" + 2 * ADDRESS, "changed 5" + ADDRESS[:-2], "changed 5" + 2 * ADDRESS]),
+    ("alternative names come, go and turn", [],
+     [link(names(*it)) for it in ("", "a", "ab", "bc", "cb", "c", "")],
+     ["new 5", "changed 5" + NAMES, *["changed 5" + it * NAMES for it in (1, 2)], "changed 5" + NAMES[:-2],
+      *["changed 5" + NAMES] * 2]),
+    ("of equal names as many as come or go", [],
+     [link(names(*it)) for it in ("a", "aaab", "abaa", "ba", "bb")],
+     ["new 5", "changed 5" + 3 * NAMES, "changed 5" + NAMES[:-2], "changed 5" + 2 * NAMES, "changed 5" + 2 * NAMES]),
+    ("names with the object around them, or without", [],
+     [link(*it) for it in ((), (names("a", "b"),), (names(),), (names(more=kept(99)),), (), (names(),), (names("a"),))],
+     ["new 5", *["changed 5" + 2 * NAMES] * 2, "changed 5 prop-list.other[number=99]",
+      "changed 5" + NAMES[:-2] + " prop-list.other[number=99]", "changed 5" + NAMES[:-2], "changed 5" + NAMES]),
+    ("names in two attributes", [],
+     [link(*(names(*one) for one in it)) for it in (("a",), ("b", "a"), ("a", "b"), ("abc", "b"), ("cba", "b"))],
+     ["new 5", "changed 5" + EARLIER,
+      "changed 5" + NAMES + EARLIER + NAMES + EARLIER, "changed 5" + 2 * EARLIER, "changed 5" + EARLIER[:-2]]),
+    ("names in another order, and a change beside them", [],
+     [link(names("a", "b")), link(names("b", "a"), mtu(9)), link(names("a", "b"), mtu(8), kept(70, 71)),
+      link(names("b", "a"), mtu(8), kept(71, 70)), link(mtu(8), kept(71, 70), names("a", "b"))],
+     ["new 5", "changed 5 mtu", "changed 5 mtu other[number=70] other[number=71]",
+      "changed 5 prop-list.alt-ifname other", "changed 5 prop-list.alt-ifname"]),
+    ("targets of a bond come, go, and are damaged", [],
+     [link(data(b"bond", targets(*it))) for it in ((1,), (1, 2), (2, 1), (2, b"odd"), (1, 1), (b"",), (1,), (), (1,))],
+     ["new 5", "changed 5" + TARGETS, *["changed 5" + TARGETS[:-2]] * 5, "changed 5" + TARGETS, "changed 5" + TARGETS]),
+    ("a list of targets without any comes and goes", [],
+     [link(data(b"bond", it)) for it in (b"", targets(), b"", targets(n=31), targets(n=31) + targets())],
+     ["new 5", "changed 5 linkinfo.data" + TARGETS[:-2], "changed 5" + TARGETS[:-2] + " linkinfo.data",
+      "changed 5 linkinfo.data linkinfo.data.ns-ip6-target", "changed 5" + TARGETS[:-2]]),
+    ("targets in other slots are in one order", [],
+     [link(data(b"bond", attribute(8, attribute(at, bytes(4))))) for at in (0, 9)], ["new 5", "changed 5 state"]),
+    ("functions in another order, with counters and other settings", [],
+     [link(attribute(22, it)) for it in (function((4, 1, 0)) + COUNTED_7, COUNTED_7 + function((4, 1, 0)),
+                                         function((4, 1, 0)) + COUNTED_9, function((4, 1, 1)) + COUNTED_7)],
+     ["new 5", *["changed 5 vfinfo-list.info"] * 2, "changed 5 vfinfo-list.info[vf=1].spoofchk.setting"]),
+    ("and with --counters", ["--counters"],
+     [link(attribute(22, it)) for it in (function((4, 1, 0)) + COUNTED_7, COUNTED_7 + function((4, 1, 0)),
+                                         function((4, 1, 0)) + COUNTED_9)],
+     ["new 5", "changed 5 vfinfo-list.info", "changed 5 vfinfo-list.info[vf=7].stats.rx-packets"]),
     ("an attribute that is kept stands in front of another", [],
      [link(kept(70)), link(kept(70), kept(71)), link(kept(69, 70), kept(71, payload=b"\1")), link(kept(71, 69))],
      ["new 5", "changed 5 other[number=71]", "changed 5 other[number=71].payload other[number=69]",
       "changed 5 other[number=70] other[number=71].payload"]),
-    ("kept attributes in another order", [], [link(kept(70, 71)), link(kept(71, 70))], ["new 5", "changed 5 state"]),
+    ("kept attributes in another order", [], [link(kept(70, 71)), link(kept(71, 70))], ["new 5", "changed 5 other"]),
     ("kept attributes of one number are counted", [],
      [link(kept(*it)) for it in ((70,), (70, 71, 70), (71, 70, 70, 70), (71,))],
      ["new 5", "changed 5 other[number=71] other[number=70#1]", "changed 5 other[number=70#2]",
@@ -402,6 +460,9 @@ FUNCTION = {"spoofchk": {"vf": 7, "setting": 1}}
 MOVING = {"stats": {"rx-packets": 9}, "broadcast": "00" * 32}
 # what comes with two lists, which goes when they turn: the path, and the whole value of each row
 WHOLES = [
+    ("texts", [], 0, names("b"), names("a", "b", "a", "b"), [("prop-list.alt-ifname[]", it) for it in "aab"]),
+    ("targets", [], 0, data(b"bond", targets(1) + targets(2, n=31)), data(b"bond", targets(3, 1) + targets(2, n=31)),
+     [("linkinfo.data.arp-ip-target[]", "10.0.0.3")]),
     ("a VLAN", [], 7, vlans(1), vlans(1, 2), [("af-spec.vlan-info[vid=2]", {"flags": [], "vid": 2})]),
     ("a range of VLANs", [], 7, vlans(1), vlans(1, *ranged(10, 20, 0x84)),
      [("af-spec.vlan-info[vid=10-20]", {"flags": ["untagged", 128], "vid": 10, "vid-end": 20})]),
@@ -443,6 +504,46 @@ WHOLES = [
      [("af-spec.mst.entry[msti=3]", {"msti": 3, "other": [{"number": 99, "flags": [], "payload": "00"}]})]),
 ]
 
+KEPT_1, KEPT_2 = ({"number": it, "flags": [], "payload": "00"} for it in (98, 99))
+TREE = attribute(1, attribute(1, b"\3\0") + kept(98, 99)), attribute(1, attribute(1, b"\3\0") + kept(99, 98))
+# lists that are told whole, with the old and the new value
+ORDERS = [
+    ("names", [], 0, names("a", "b", "b"), names("b", "a", "b"),
+     [("prop-list.alt-ifname", ["a", "b", "b"], ["b", "a", "b"])]),
+    ("targets beside digits", [], 0, data(b"bond", targets(1, 2)), data(b"bond", attribute(8, b"\1\2")),
+     [("linkinfo.data.arp-ip-target", ["10.0.0.1", "10.0.0.2"], "0102")]),
+    ("no targets beside digits", [], 0, data(b"bond", targets()), data(b"bond", attribute(8, b"\1\2")),
+     [("linkinfo.data.arp-ip-target", [], "0102")]),
+    ("VLANs in ranges", [], 7, vlans(*ranged(1, 2)), vlans(1, 2),
+     [("af-spec.vlan-info", [{"flags": ["range-begin"], "vid": 1}, {"flags": ["range-end"], "vid": 2}],
+       [{"flags": [], "vid": 1}, {"flags": [], "vid": 2}])]),
+    ("tunnels in ranges", [], 7, tunnels((8, 1, 5), (16, 2, 6)), tunnels((0, 1, 5), (0, 2, 6)),
+     [("af-spec.vlan-tunnel-info",
+       [{"id": 5, "vid": 1, "flags": ["range-begin"]}, {"id": 6, "vid": 2, "flags": ["range-end"]}],
+       [{"id": 5, "vid": 1, "flags": []}, {"id": 6, "vid": 2, "flags": []}])]),
+    ("a list in a list: the outer one is first", [], 7, attribute(26, attribute(6, TREE[0])),
+     attribute(26, attribute(6, TREE[1])),
+     [("af-spec.mst.entry", [{"msti": 3, "other": [KEPT_1, KEPT_2]}], [{"msti": 3, "other": [KEPT_2, KEPT_1]}]),
+      ("af-spec.mst.entry[msti=3].other", [KEPT_1, KEPT_2], [KEPT_2, KEPT_1])]),
+    ("without what a state clears", [], 0, attribute(18, attribute(1, b"vlan\0") + kept(98, 3, 99)),
+     attribute(18, attribute(1, b"vlan\0") + kept(99, 98)), [("linkinfo.other", [KEPT_1, KEPT_2], [KEPT_2, KEPT_1])]),
+    ("functions of a state", [], 0, attribute(22, attribute(1, COUNTED) + function((4, 1, 0))),
+     attribute(22, function((4, 1, 0)) + attribute(1, COUNTED)),
+     [("vfinfo-list.info", [FUNCTION, {"spoofchk": {"vf": 1, "setting": 0}}],
+       [{"spoofchk": {"vf": 1, "setting": 0}}, FUNCTION])]),
+    ("functions with their counters", ["--counters"], 0, attribute(22, attribute(1, COUNTED) + function((4, 1, 0))),
+     attribute(22, function((4, 1, 0)) + attribute(1, COUNTED)),
+     [("vfinfo-list.info", [{**FUNCTION, **MOVING}, {"spoofchk": {"vf": 1, "setting": 0}}],
+       [{"spoofchk": {"vf": 1, "setting": 0}}, {**FUNCTION, **MOVING}])]),
+    ("mappings", [], 0, data(b"vlan", attribute(3, mappings((1, 4), (0, 5)))),
+     data(b"vlan", attribute(3, mappings((0, 5), (1, 4)))),
+     [("linkinfo.data.egress-qos.mapping", [{"from": 1, "to": 4}, {"from": 0, "to": 5}],
+       [{"from": 0, "to": 5}, {"from": 1, "to": 4}])]),
+    ("ports", [], 0, attribute(24, ports(2, 4)), attribute(24, ports(4, 2)),
+     [("vf-ports.port", [{"vf": 2, "request": "01"}, {"vf": 4, "request": "01"}],
+       [{"vf": 4, "request": "01"}, {"vf": 2, "request": "01"}])]),
+]
+
 
 def told(line):
     it = json.loads(line)
@@ -468,6 +569,12 @@ def wholes_hold(program):
         found = [json.loads(it).get("changes") for it in run(program, words, lines)]
         wanted = [None, *([{"path": path, side: value} for path, value in rows] for side in ("new", "old"))]
         holds(f"{title}, as a whole", [json.dumps(it) for it in found], [json.dumps(it) for it in wanted])
+    for title, words, family, one, other, rows in ORDERS:
+        lines = [link(it, family=family) for it in (one, other, one)]
+        found = [json.loads(it).get("changes") for it in run(program, words, lines)]
+        there = [{"path": path, "old": old, "new": new} for path, old, new in rows]
+        back = [{"path": path, "old": new, "new": old} for path, old, new in rows]
+        holds(f"{title}, there and back", [json.dumps(it) for it in found], list(map(json.dumps, (None, there, back))))
 
 
 def files_hold(program):
@@ -563,7 +670,7 @@ def main(program):
     orders_hold(program)
     hosts_go(program)
     statuses_hold(program)
-    count = len(STREAMS) + len(WHOLES) + 4
+    count = len(STREAMS) + len(WHOLES) + len(ORDERS) + 4
     print(f"linkdiff cases: {count} of {count}")
 
 

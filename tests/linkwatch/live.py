@@ -183,7 +183,7 @@ def chains(folder):
                 ends = "" if event.family == 0 else "port."
                 last = {key: it for key, it in last.items() if key[0] != event.ifindex or not key[1].startswith(ends)}
             for it in (it for told in view.told(event._replace(is_first=False)) for it in told.changes):
-                key = event.ifindex, it.path
+                key = event.ifindex, it.path, it.path.endswith("[]") and (it.old or it.new)
                 if it.old == it.new:
                     fails(f"{key}: {it} is no change")
                 if last.get(key, it.old) != it.old and it.path not in ("master", "link"):

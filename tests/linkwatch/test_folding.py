@@ -40,6 +40,12 @@ ROWS = [
     ("alternative names", [], stream([ETH], line(2, name("veth0"), mtu(1500), altname("a", "b")), line(
         2, name("veth0"), mtu(1500), altname("b", "c"))),
      ["veth0            altname +a +b", "veth0            altname -a +c"]),
+    ("in another order, and one of two that are equal", [], stream(
+        [ETH], *(line(2, name("veth0"), mtu(1500), altname(*it)) for it in ("aab", "baa", "ba"))),
+     ["veth0            altname +a +a +b", "veth0            altname -a"]),
+    ("in another order with --details", ["--details"], stream(
+        [ETH], *(line(2, name("veth0"), mtu(1500), altname(*it)) for it in ("ab", "ba"))),
+     ["veth0            altname +a +b", "veth0            altname [a b] → [b a]"]),
     ("a port that joins has no settings", [],
      stream([ETH, BR], line(2, name("veth0"), mtu(1500), master(3), port((2, u32(5))))),
      ["veth0            master none → br0"]),

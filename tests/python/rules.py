@@ -46,7 +46,10 @@ PARTS = [
     info((numbers.IFLA_INFO_KIND, "veth"), (numbers.IFLA_INFO_KIND, "dummy")), info(),
     info((numbers.IFLA_INFO_SLAVE_KIND, "bridge")), info((numbers.IFLA_INFO_KIND, b"")),
     attribute(numbers.IFLA_WIRELESS, bytes(8)),
-    attribute(numbers.IFLA_PROP_LIST | numbers.NLA_F_NESTED, [(numbers.IFLA_ALT_IFNAME, "other")])]
+    *(attribute(numbers.IFLA_PROP_LIST | numbers.NLA_F_NESTED, [(numbers.IFLA_ALT_IFNAME, it) for it in some])
+      for some in (["other"], "ab", "ba", "aab")),
+    *(info((numbers.IFLA_INFO_KIND, "bond"), (numbers.IFLA_INFO_DATA, [(8, it)]))
+      for it in ([(0, bytes(4)), (1, b"addr")], [(0, b"addr"), (1, bytes(4))], [], b"ab"))]
 REFUSED = [
     attribute(numbers.IFLA_IFALIAS, b"\xe9"), attribute(numbers.IFLA_IFALIAS, b"\xe8"),
     attribute(numbers.IFLA_IFNAME, b"\xe9"), attribute(numbers.IFLA_PROTINFO, b""), attribute(numbers.IFLA_MTU, b"\1"),

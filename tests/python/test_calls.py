@@ -181,7 +181,13 @@ class Calls(unittest.TestCase):
         self.assertEqual(data, [{"macaddr": "00:00:00:00:00:00", "macaddr-data": {"macaddr": it}}
                                 for it in (texts[:1], texts)])
         self.assertEqual(linkwire.diff(*(linkwire.build([it]) for it in macs)),
-                         [("linkinfo.data.macaddr-data.macaddr", texts[:1], texts)])
+                         [("linkinfo.data.macaddr-data.macaddr[]", None, texts[1])])
+        names = [linkwire.build([(numbers.IFLA_PROP_LIST, [(numbers.IFLA_ALT_IFNAME, it) for it in some])])
+                 for some in ("ab", "bca", "acb", "")]
+        path = "prop-list.alt-ifname"
+        self.assertEqual([linkwire.diff(*it) for it in zip(names, names[1:])],
+                         [[(f"{path}[]", None, "c")], [(path, [*"bca"], [*"acb"])],
+                          [(f"{path}[]", it, None) for it in "acb"]])
 
     def test_long_diff(self):
         longer = linkwire.build([(numbers.IFLA_IFALIAS, '"' * 60000)])

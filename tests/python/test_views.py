@@ -41,8 +41,21 @@ def mapping(*pairs):
     return n.IFLA_LINKINFO, [(1, "vlan"), (2, [(3, found)])]
 
 
+def alt(*names, more=()):
+    return n.IFLA_PROP_LIST | 0x8000, [*((n.IFLA_ALT_IFNAME, it) for it in names), *more]
+
+
+def bond(payload):
+    """The targets of a bond."""
+    return n.IFLA_LINKINFO, [(1, "bond"), (2, [(8, payload)])]
+
+
+def targets(*numbers):
+    return bond([(at, bytes([10, 0, 0, it])) for at, it in enumerate(numbers)])
+
+
 BR = link(9, "br0")
-ALT = n.IFLA_PROP_LIST | 0x8000, [(n.IFLA_ALT_IFNAME, "other")]
+ALT = alt("other")
 FORWARDING, COST = (1, u8(3)), (3, u32(7))
 # what it is about, the view, the messages that are there, others, and what is told: all but the event
 ROWS = [
@@ -96,6 +109,27 @@ ROWS = [
      [("changed", "f", "", [("ifname", "e", "f")]), ("changed", "f", "", [("mtu", None, 9)])]),
     ("by an alternative name", View(["oth*"]), [link(2, "e", ALT)], [link(2, "e", ALT, mtu(9))],
      [("changed", "e", "", [("mtu", None, 9)])]),
+    ("texts of lists, of which the order is nothing", View(), [link(2, "e", alt("a", "b"))],
+     [link(2, "e", it) for it in (alt("b", "a"), alt("b", "c", "c"), targets(1), bond(b"a"))],
+     [("changed", "e", "", [("prop-list.alt-ifname[]", *it) for it in (("a", None), (None, "c"), (None, "c"))]),
+      ("changed", "e", "", [*(("prop-list.alt-ifname[]", it, None) for it in "bcc"), ("linkinfo.kind", None, "bond"),
+                            ("data.arp-ip-target[]", None, "10.0.0.1")]),
+      ("changed", "e", "", [("data.arp-ip-target", ["10.0.0.1"], "61")])]),
+    ("and it is", View(details=True), [link(2, "e", alt("a", "b"), (70, b""), (71, b""))],
+     [link(2, "e", alt("b", "a"), (70, b""), (71, b"")), link(2, "e", alt("b", "a"), (71, b""), (70, b""))],
+     [("changed", "e", "", [("prop-list.alt-ifname", ["a", "b"], ["b", "a"])]),
+      ("changed", "e", "", [("other", *([{"number": it, "flags": [], "payload": ""} for it in some]
+                                        for some in ((70, 71), (71, 70))))])]),
+    ("lists of a port in another order once", View(details=True),
+     [BR, link(2, "e", *port(9, (98, b""), (99, b""))), link(2, "e", port_too((98, b""), (99, b"")), family=7)],
+     [link(2, "e", *port(9, (99, b""), (98, b""))), link(2, "e", port_too((99, b""), (98, b"")), family=7)],
+     [("changed", "e", "br0", [("port.other", *([{"number": it, "flags": [], "payload": ""} for it in some]
+                                                for some in ((98, 99), (99, 98))))])]),
+    ("by an alternative name that comes", View(["oth*"]), [link(2, "e"), link(3, "f", alt("a"))],
+     [link(2, "e", mtu(9)), link(3, "f", alt("a", "other")), link(3, "f", alt("a"), mtu(9)),
+      link(2, "e", alt("c"), mtu(9))],
+     [("changed", "f", "", [("prop-list.alt-ifname[]", None, "other")]),
+      ("changed", "f", "", [("prop-list.alt-ifname[]", "other", None), ("mtu", None, 9)])]),
     ("by a bridge", View(["br0"]), [BR, link(2, "e"), link(3, "f")],
      [link(2, "e", *port(9, COST)), link(2, "e", *port(9, (3, u32(8))), mtu(9)), link(3, "f", mtu(9))],
      [("changed", "e", "", [("master", None, "br0")]), ("changed", "e", "br0", [("port.cost", 7, 8)])]),
@@ -146,6 +180,16 @@ class Views(unittest.TestCase):
         self.assertIsNone(view.told(fault))
         self.assertEqual(told(View(), fault), [("fault", "if2", "", [])])
 
+    def test_missing(self):
+        """Alternative names come and go, one of several that are equal too."""
+        view, watch = View(["a*", "b"]), Watch()
+        for names, missing in (((), ["a*", "b"]), (("a", "b"), []), (("b", "a"), []), (("a", "a"), ["b"]),
+                               (("a",), ["b"]), (("b",), ["a*"]), ((), ["a*", "b"])):
+            for event in watch.message(link(2, "e", alt(*names))):
+                view.told(event)
+            self.assertEqual(view.missing(), missing, names)
+        self.assertEqual(view.missing(ever=True), [])
+
     def test_learn(self):
         """A view that is made later, and hosts, which are apart."""
         watch = Watch()
@@ -189,6 +233,51 @@ class Views(unittest.TestCase):
                     if event.change == "changed":
                         self.assertEqual([it for told in view.told(event) for it in settling.add(told)], [])
             self.assertEqual([tuple(it) for told in settling.release() for it in told.changes], wanted, numbers)
+
+    def test_settling_of_texts(self):
+        """Texts of lists that come and go again are nothing; a list is told with all its texts beside other values."""
+        names, path = "prop-list.alt-ifname", "data.arp-ip-target"
+        for steps, wanted in (
+                ([alt("a"), alt("a", "b")], [(f"{names}[]", None, "b")]), ([alt("a"), alt("b"), alt("a")], []),
+                ([alt("a"), alt("a", "a", "b"), alt("b", "a", "c")], [(f"{names}[]", None, it) for it in "bc"]),
+                ([alt("a", "a"), alt(), alt("a")], [(f"{names}[]", "a", None)]),
+                ([alt("a", "b"), alt("b", "a")], [(names, ["a", "b"], ["b", "a"])]),
+                ([alt("a", "b"), alt("b", "a"), alt("a", "b")], []),
+                ([alt("a", "b"), alt("b", "a"), alt("c", "a", "b")], [(f"{names}[]", None, "c")]),
+                ([alt("a", "b", "c"), alt("b", "c", "a"), alt("c", "b", "a")], [(names, [*"abc"], [*"cba"])]),
+                ([targets(1, 2), targets(2), bond(b"a")], [(path, ["10.0.0.1", "10.0.0.2"], "61")]),
+                ([targets(1), bond(b"a"), bond(b"b"), targets(1)], []),
+                ([targets(1), bond(b"a"), targets(2)], [(f"{path}[]", "10.0.0.1", None),
+                                                        (f"{path}[]", None, "10.0.0.2")]),
+                ([bond(b"a"), targets(1), targets(1, 2)], [(path, "61", ["10.0.0.1", "10.0.0.2"])]),
+                ([bond(b"a"), targets(1), bond(b"b")], [(path, "61", "62")]),
+                ([bond(b"a"), targets(1), bond(b"a")], []), ([bond(b"a"), targets(), targets(1), targets()], [
+                    (path, "61", [])]), ([targets(), bond(b"a")], [(path, [], "61")])):
+            view, watch, settling = View(details=True), Watch(), Settling(1e6)
+            view.learn({(0, 2): link(2, "e", steps[0])})
+            for event in [event for it in steps for event in watch.message(link(2, "e", it))][1:]:
+                self.assertEqual([it for told in view.told(event) for it in settling.add(told)], [])
+            self.assertEqual([tuple(it) for told in settling.release() for it in told.changes], wanted, steps)
+
+    def test_settling_of_texts_alone(self):
+        """The same of changes as they come, also of lists without any text."""
+        of = "data.ns-ip6-target"
+        came, gone, none, left = (Change(f"{of}[]", None, "a"), Change(f"{of}[]", "a", None), Change(of, None, []),
+                                  Change(of, [], None))
+        odd, even = Change(of, "61", None), Change(of, None, "61")
+        order = Change("other", [{"number": 70}, {"number": 71}], [{"number": 71}, {"number": 70}])
+        turned, back = Change("other[number=70].payload", "", "61"), Change("other[number=70].payload", "61", "")
+        mtu_turned, mtu_back = Change("mtu", 1, 2), Change("mtu", 2, 1)
+        for changes, wanted in (([came, came, gone], [came]), ([none, came], [came]), ([gone, left], [gone]),
+                                ([gone, none], [gone]), ([none, left], []), ([none], [none]),
+                                ([odd, came], [Change(of, "61", ["a"])]), ([gone, even], [Change(of, ["a"], "61")]),
+                                ([order, mtu_turned], [mtu_turned]), ([mtu_turned, order, mtu_back], [order]),
+                                ([turned, order, back], []), ([order, Change("other", order.new, order.old)], []),
+                                ([came, mtu_turned, came], [came, came, mtu_turned])):
+            settling = Settling(1e6)
+            for it in changes:
+                settling.add(Told(Event("changed", "", 0, 2), "changed", "e", "", [it]))
+            self.assertEqual([it for told in settling.release() for it in told.changes], wanted, changes)
 
     def test_settling_of_functions(self):
         """What stands inside a function has paths, and becomes the function again."""

@@ -1,23 +1,26 @@
 #!/usr/bin/env python3
 """Holds what linkdiff tells of lists whose values say a number to told.py: of VLANs, tunnels and spanning trees of a
-bridge's port, of mappings of priorities, virtual functions and their ports, of attributes that are kept as they are.
+bridge's port, of mappings of priorities, virtual functions and their ports, of attributes that are kept as they are;
+and of lists of texts: alternative names, addresses of a macvlan, targets of a bond.
 
     keyed.py [--pairs N] [--seed N] FOLDER
 
 FOLDER has linkdiff and linkshow. So many pairs of messages are made and told without options, as many with --counters,
-and a fourth as many leniently. Half of them are of a bridge's port. Each message has the lists of the one before it,
-with values that are added, dropped, changed or moved. In half of the pairs numbers also come twice or not at all, and
-values are damaged. Attributes that are kept stand in the message, in lists that have rows, in the list of alternative
-names, and in values of the other lists.
+and a fourth as many leniently. They are of a bridge's port, a vlan, a macvlan and a bond. Each message has the lists of
+the one before it, with values that are added, dropped, changed or moved, or one of the lists in another order. In half
+of the pairs numbers also come twice or not at all, and values are damaged. Attributes that are kept stand in the
+message, in lists that have rows, in the list of alternative names, and in values of the other lists.
 
 In the other half each value of a list has a number of its own. What is told of these pairs is held to the bytes too,
 without linkshow and told.py: the numbers whose values differ are told, and no others. A number that one message alone
-has is told once, with its value.
+has is told once, with its value. Of texts those that one message has more often are told, and of lists in another
+order that both have the same values.
 
 Lists of VLANs and tunnels say the same of VLANs in several ways: in ranges as long as can be, one by one, and cut at
 some places. What is told is held to what was to be said of each VLAN. In the first half some are lists that no kernel
 writes: without an end of a range, out of order, damaged. The last line is 'keyed: ok'."""
 import argparse
+import ipaddress
 import itertools
 import json
 import random
@@ -36,10 +39,14 @@ PATHS = {"vlans": "af-spec.vlan-info[vid", "tunnels": "af-spec.vlan-tunnel-info[
          "kept in names": "prop-list.other[number", "kept in spec": "af-spec.other[number",
          "kept in trees": "af-spec.mst.other[number", "kept in info": "linkinfo.other[number",
          "kept in data": "linkinfo.data.other[number"}
+TEXTS = {"names": "prop-list.alt-ifname", "addresses": "linkinfo.data.macaddr-data.macaddr",
+         "targets": "linkinfo.data.arp-ip-target", "targets6": "linkinfo.data.ns-ip6-target"}
 PORT = "vlans", "tunnels"
-EVERY = "kept", "kept in names"
+EVERY = "kept", "kept in names", "names"
 BRIDGE = ("vlans", "tunnels", "trees", "kept in spec", "kept in trees", *EVERY)
-OTHERS = ("egress", "ingress", "functions", "ports", "kept in info", "kept in data", *EVERY)
+VLAN = ("egress", "ingress", "functions", "ports", "kept in info", "kept in data", *EVERY)
+MACVLAN = ("addresses", "functions", "kept in info", "kept in data", *EVERY)
+BOND = ("targets", "targets6", "kept in data", *EVERY)
 LABEL = re.compile(r"([^\[]+\[[a-z]+)=([0-9]+)\](\..+)?")
 
 
@@ -60,6 +67,14 @@ class Port(list):
     def __init__(self, said=(), values=()):
         super().__init__(values)
         self.said = dict(said)
+
+
+class Text:
+    """A value of a list of texts: its bytes, and how it is shown."""
+    __slots__ = "payload", "shown"
+
+    def __init__(self, payload, shown):
+        self.payload, self.shown = payload, shown
 
 
 class Kept:
@@ -288,7 +303,66 @@ def port_beside(rng, name, values, is_calm):
     return Port(said, out)
 
 
+# ** texts
+
+def name(rng):
+    shown = rng.choice(["a", "b", "b", "c", "one", "two", 'q"', "\u00e9", ""])
+    return Text(shown.encode() + b"\0" * (not shown or rng.random() < 0.9), shown)
+
+
+def address(rng):
+    payload = bytes([2, 0, 0, 0, 0, rng.randrange(4)])
+    return Text(payload, payload.hex(":"))
+
+
+def target(rng):
+    payload = bytes([10, 0, 0, rng.randrange(4)])
+    return Text(payload, str(ipaddress.ip_address(payload)))
+
+
+def target6(rng):
+    payload = bytes([32, 1, *bytes(13), rng.randrange(4)])
+    return Text(payload, str(ipaddress.ip_address(payload)))
+
+
+TEXT_MAKES = {"names": name, "addresses": address, "targets": target, "targets6": target6}
+
+
+def texts_beside(rng, of, values, is_calm):
+    """A list of texts beside the one that was there: with texts more or less, of which some come twice, or moved."""
+    out = list(values)
+    for _ in range(rng.choice([0, 0, 0, 1, 1, 2])):
+        at, way = rng.randrange(len(out) + 1), rng.choice(["add", "add", "drop", "twice", "move", "turn", "odd", "all"])
+        if way == "add":
+            out.insert(at, TEXT_MAKES[of](rng))
+        elif way == "odd" and not is_calm:
+            payloads = [b"", b"a\0b", b"\xe9"] if of == "names" and rng.random() < 0.1 else [b"", b"a", b"odd"]
+            out.insert(at, Text(rng.choice(payloads), None))
+        elif way == "all":
+            rng.shuffle(out)
+        elif at < len(out) and way in ("twice", "turn"):
+            out[at:at + (way == "turn")] = [out[at] if way == "twice" else TEXT_MAKES[of](rng)]
+        elif at < len(out):
+            it = out.pop(at)
+            if way == "move":
+                out.insert(rng.randrange(len(out) + 1), it)
+    return out[:rng.choice([0, 4, 6, 6, 6, 6])]
+
+
 # ** messages
+
+def beside(rng, of, values, is_calm):
+    """A list beside the one that was there."""
+    make = port_beside if of in PORT else texts_beside if of in TEXTS else altered
+    return make(rng, of, values, is_calm)
+
+
+def moved(rng, of, values):
+    """A list in another order; of VLANs the same ones, perhaps in other ranges."""
+    if of in PORT:
+        return Port(values.said, [vlan_of(rng, *it) for it in written(rng, values.said)])
+    return rng.sample(values, len(values))
+
 
 def altered(rng, name, values, is_calm):
     """A list beside the one that was there: as it is, with a value more or less, or in another order."""
@@ -334,8 +408,7 @@ def spelled(rng, lists, is_calm):
             found.insert(at, attribute(it.kind, it.payload))
         return found
 
-    names = [attribute(53, it) for it in (b"one\0", b"two\0")[0 if is_calm else rng.randrange(3):]]
-    names = around(52, among("kept in names", names))
+    names = around(52, among("kept in names", these(53, "names")))
     if "vlans" in lists:
         inside = [*these(2, "vlans"), *these(3, "tunnels"), around(6, among("kept in trees", these(1, "trees")))]
         inside = among("kept in spec", inside)
@@ -344,27 +417,41 @@ def spelled(rng, lists, is_calm):
                 other = attribute(rng.choice([1, 99]), u16(rng.randrange(2)))
                 inside.insert(rng.randrange(len(inside) + 1), other)
         return bytes([7, 0, 1, 0, 1, *bytes(11)]) + b"".join(among("kept", [around(26, inside), names]))
-    data = among("kept in data", [around(3, these(1, "egress")), around(4, these(1, "ingress"))])
-    kind = attribute(1, b"vlan\0") if is_there() else b""
-    found = [around(18, among("kept in info", [kind, attribute(2, b"".join(data))])), around(22, these(1, "functions"))]
-    if lists["ports"]:                          # a list without any is refused
+    if "targets" in lists:
+        slots = [[attribute(at, it.payload) for at, it in enumerate(lists[of])] for of in ("targets", "targets6")]
+        kind, data = b"bond\0", [around(8, slots[0]), around(31, slots[1])]
+    elif "addresses" in lists:
+        kind, data = b"macvlan\0", [around(5, these(4, "addresses"))]
+    else:
+        kind, data = b"vlan\0", [around(3, these(1, "egress")), around(4, these(1, "ingress"))]
+    kind, data = attribute(1, kind) if is_there() else b"", attribute(2, b"".join(among("kept in data", data)))
+    inside = [kind, data]
+    found = [around(18, among("kept in info", inside) if "kept in info" in lists else inside)]
+    if "functions" in lists:
+        found.append(around(22, these(1, "functions")))
+    if lists.get("ports"):                      # a list without any is refused
         found.append(around(24, these(1, "ports")))
     return bytes([0, 0, 1, 0, 1, *bytes(11)]) + b"".join(among("kept", [*found, names]))
 
 
 class Made:
     """Messages of one interface, each with lists that were altered, and which pairs of them are compared. Of calm ones
-    `numbers` has the bytes of each value, by list and number."""
+    `numbers` has the bytes of each value, by list and number, of texts how they are shown; `orders` has the
+    values of each list in their order."""
 
     def __init__(self, rng, names, is_calm, count):
         """A calm list has values with numbers of their own alone, as kernels have them."""
         lists, self.digits, self.numbers = {name: Port() if name in PORT else [] for name in names}, [], []
+        self.orders = []
         for _ in range(count):
-            lists = {name: (port_beside if name in PORT else altered)(rng, name, values, is_calm)
-                     for name, values in lists.items()}
+            one = rng.choice(names) if rng.random() < 0.5 else None
+            lists = {name: beside(rng, name, values, is_calm) if one is None else values if one != name else
+                     moved(rng, name, values) for name, values in lists.items()}
             self.digits.append(spelled(rng, lists, is_calm).hex().encode())
-            self.numbers.append({name: values.said if name in PORT else {it.number: it.sorted for it in values}
-                                 for name, values in lists.items()})
+            self.orders.append({name: [it.shown if name in TEXTS else it.sorted if isinstance(it, Kept) else it.payload
+                                       for it in values] for name, values in lists.items()})
+            self.numbers.append({name: values.said if name in PORT else [it.shown for it in values] if name in TEXTS
+                                 else {it.number: it.sorted for it in values} for name, values in lists.items()})
         at, self.order = 0, []
         for _ in range(count * EACH):
             self.order.append(at)
@@ -413,9 +500,36 @@ def vlan_rows(path, was, now):
     return out
 
 
+def text_rows(path, was, now):
+    """What is to be told of texts, by how many of them stand in front in the own list."""
+    return [{"path": f"{path}[]", side: it} for side, own, others in (("old", was, now), ("new", now, was))
+            for at, it in enumerate(own) if own[:at].count(it) >= others.count(it)]
+
+
+def without_order(value):
+    """A value as a text, with the values of each list in an order that does not depend on theirs."""
+    if isinstance(value, dict):
+        return json.dumps({name: without_order(it) for name, it in sorted(value.items())})
+    return json.dumps(sorted(map(without_order, value)) if isinstance(value, list) else value)
+
+
+def hold_orders(rows, was, now, pair):
+    """Holds what is told of lists in another order to their bytes; returns how many lists were told."""
+    lists = {**TEXTS, **{name: path.rpartition("[")[0] for name, path in PATHS.items()}}
+    found = {it["path"]: it for it in rows}
+    for of, own in was.items():
+        it, is_moved = found.get(lists[of]), own != now[of]
+        if it and not is_moved or is_moved and not it and of not in PORT and sorted(own) == sorted(now[of]):
+            sys.exit(f"keyed: of {of} in another order is told {it}:\n{pair}")
+        if it and of not in PORT and without_order(it["old"]) != without_order(it["new"]):
+            sys.exit(f"keyed: told is a list with other values: {it}:\n{pair}")
+    return sum(lists[of] in found for of in was)
+
+
 def hold_numbers(made, found):
-    """Holds what is told of each calm pair to the bytes; returns how many values were told, and how many as a whole."""
-    by_time, count, whole = {}, 0, 0
+    """Holds what is told of each calm pair to the bytes; returns how many values were told, how many as a whole, how
+    many texts, and how many lists in another order."""
+    by_time, count, whole, texts, orders = {}, 0, 0, 0, 0
     for it in found:
         it = json.loads(it)
         by_time[int(it["time"])] = it.get("changes", [])
@@ -423,7 +537,7 @@ def hold_numbers(made, found):
             sys.exit(f"keyed: {it}")
     for time, (one, other) in enumerate(zip(made.order, made.order[1:]), 1):
         was, now = made.numbers[one], made.numbers[other]
-        names, rows = [it for it in was if it not in PORT], by_time.get(time, ())
+        names, rows = [it for it in was if it not in PORT and it not in TEXTS], by_time.get(time, ())
         pair = f"{made.digits[one].decode()}\n{made.digits[other].decode()}"
         wanted = {(PATHS[name], number) for name in names for number in {*was[name], *now[name]}
                   if was[name].get(number) != now[name].get(number)}
@@ -437,15 +551,25 @@ def hold_numbers(made, found):
             rows = [it for it in rows if it not in own]
             count += len(own)
             whole += sum(it["path"][-1] == "]" for it in own)
+        for name in {*TEXTS} & {*was}:
+            wants = text_rows(TEXTS[name], was[name], now[name])
+            own = [it for it in rows if it["path"] == TEXTS[name] + "[]"]
+            if own != wants:
+                sys.exit(f"keyed: of {name} is told {own}, and not {wants}:\n{pair}")
+            rows = [it for it in rows if it not in own]
+            texts += len(own)
+        if one != other and not wanted and len(rows) == len(by_time.get(time, ())):
+            orders += hold_orders(rows, made.orders[one], made.orders[other], pair)
         # a list without values stands in an object that may be told as empty
-        empty = {"state", *(it["path"] for it in rows if any(path.startswith(it["path"]) for path in PATHS.values()))}
+        paths = *PATHS.values(), *TEXTS.values()
+        empty = {"state", *(it["path"] for it in rows if any(path.startswith(it["path"]) for path in paths))}
         labels = [(LABEL.fullmatch(it["path"]), it) for it in rows if it["path"] not in empty]
         if not are_as_said(labels, wanted, alone):
             sys.exit(f"keyed: told is {rows}, and {sorted(wanted)} differ, and {sorted(alone)} are in one message:\n"
                      + pair)
         count += len(wanted)
         whole += len(alone)
-    return count, whole
+    return count, whole, texts, orders
 
 
 def hold(programs, made, options):
@@ -467,13 +591,13 @@ def main():
     parser.add_argument("--seed", type=int, default=1)
     parser.add_argument("folder", nargs="?", default="out")
     words = parser.parse_args()
-    rng, numbers, wholes, again, nameless, others = random.Random(words.seed), 0, 0, 0, 0, 0
+    rng, sums, again, nameless, others = random.Random(words.seed), (0, 0, 0, 0), 0, 0, 0
     for options in [], ["--counters"], ["--lenient"], ["--counters", "--lenient"]:
         pairs = words.pairs // 4 if "--lenient" in options else words.pairs
         lines = changed = 0
-        for names in BRIDGE, OTHERS:
+        for names in BRIDGE, VLAN, MACVLAN, BOND:
             for is_calm in False, True:
-                made = Made(rng, names, is_calm, -(-pairs // 4 // EACH))
+                made = Made(rng, names, is_calm, -(-pairs // 8 // EACH))
                 found = hold(words.folder, made, options)
                 lines += len(made.order)
                 changed += sum(b'"change":"changed"' in it for it in found)
@@ -481,10 +605,11 @@ def main():
                 nameless += sum(len(re.findall(rb"[a-z]#[0-9]", it)) for it in found)
                 others += sum(len(re.findall(rb"other\[number=", it)) for it in found)
                 if is_calm:
-                    numbers, wholes = (sum(it) for it in zip((numbers, wholes), hold_numbers(made, found)))
+                    sums = [sum(it) for it in zip(sums, hold_numbers(made, found))]
         print(f"keyed: {' '.join(['linkdiff', *options])}: {lines} lines, {changed} changed: as the model")
-    print(f"keyed: {numbers} values that differ in bytes, {wholes} of them in one message alone; {again} paths of a "
-          f"number that came before, {nameless} of none, {others} of attributes that are kept")
+    print(f"keyed: {sums[0]} values that differ in bytes, {sums[1]} of them in one message alone; {sums[2]} texts, "
+          f"{sums[3]} lists in another order; {again} paths of a number that came before, {nameless} of none, {others} "
+          "of attributes that are kept")
     print("keyed: ok")
 
 

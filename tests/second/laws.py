@@ -28,6 +28,9 @@ DUMPS, FILES = 40, 10                           # hosts a call in two dumps, and
 TIME = re.compile(rb'"time":"([0-9]+)"')
 # the path of a VLAN or of a range of VLANs, up to its number, and what stands behind it
 VLANS = re.compile(r"((?:.*\.)?af-spec\.vlan-(?:tunnel-)?info\[vid)=([0-9]+)(?:-([0-9]+))?\](?:\.(id|flags))?")
+# the path of a list of VLANs, and the numbers of flags
+VLAN_LIST = re.compile(r"(?:.*\.)?af-spec\.vlan-(?:tunnel-)?info")
+FLAGS = {"range-begin": told.BEGIN, "range-end": told.END, **{name: bit for bit, name in told.VLAN_FLAGS.items()}}
 # paths that releases name differently
 ORDERED = re.compile(r"(?:.*\.)?(?:inet6|protinfo)\.(?:.*\.)?stats(?:\.|$)")
 
@@ -81,22 +84,46 @@ class Link:
         return path in self.aside or self.is_mixed and ORDERED.match(path)
 
 
+def vlan_leaves(path, vlans):
+    return {f"{path}={vid}].{name}": it for vid, said in vlans.items() for name, it in told.members(vid, said).items()}
+
+
+def text_leaves(path, texts):
+    """The leaves of a list of texts: each one, with how many of it stand in front."""
+    before, out = collections.Counter(), {}
+    for it in texts:
+        text = told.text_of(it)
+        out[f"{path}[]{text}#{before[text]}"] = it
+        before[text] += 1
+    return out
+
+
 def leaves(line, is_all):
-    """The leaves of a message: of a list of VLANs the flags of each, and the ids of tunnels."""
+    """The leaves of a message: of a list of VLANs the flags of each, and the ids of tunnels; of a list each text."""
     shown, out = line.message.shown[line.kernel], {}
     for path, value in (shown.leaves if is_all else shown.settings).items():
         if isinstance(value, told.Vlans):
-            for vid, said in value.items():
-                out.update({f"{path}={vid}].{name}": it for name, it in told.members(vid, said).items()})
+            out.update(vlan_leaves(path, value))
+        elif isinstance(value, told.Texts):
+            out.update(text_leaves(path, value))
         else:
             out[path] = value
     return out
 
 
+def is_list_of_objects(value):
+    return isinstance(value, list) and any(isinstance(it, dict) for it in value)
+
+
 def inside(path, value):
-    """The leaves that a change stands for: those inside a value that is told as a whole, or the one that it tells. Of
-    VLANs these are those of each: the ids of a range go along with its VLANs."""
+    """The leaves that a change stands for: those inside a value or a list that is told as a whole, or the one that it
+    tells. Of VLANs these are those of each: the ids of a range go along with its VLANs."""
     out = []
+    if told.TEXTS.fullmatch(path) and isinstance(value, list):
+        return text_leaves(path, value)
+    if VLAN_LIST.fullmatch(path) and is_list_of_objects(value):
+        vlans = [(it["vid"], sum(FLAGS.get(one, one) for one in it["flags"]), it.get("id")) for it in value]
+        return vlan_leaves(f"{path}[vid", told.vlans_in(vlans))
     if (it := VLANS.fullmatch(path)) is None:
         told.under(path, value, out, {})
         return dict(out)
@@ -161,7 +188,15 @@ class Laws:
             self.counts["changed in nothing shown"] += 1
             return
         for row in rows:
+            if row["path"].endswith("[]"):
+                self.text(row, link)
+                continue
             old, new = (inside(row["path"], row[side]) if side in row else {} for side in ("old", "new"))
+            if len(row) == 3 and (told.TEXTS.fullmatch(row["path"]) and isinstance(row["old"], list)
+                                  and isinstance(row["new"], list) or is_list_of_objects(row["old"])):
+                self.counts["lists in another order"] += 1
+                if old != new or row["old"] == row["new"]:
+                    breaks("leading there", "a list that is told whole has other values", it)
             is_whole = row["path"][-1] == "]" and len(row) == 2
             self.counts["told of a range"] += bool((found := VLANS.fullmatch(row["path"])) and found[3])
             within = [it for it in link.leaves if is_whole and it.startswith(row["path"] + ".")]
@@ -171,6 +206,16 @@ class Laws:
                     breaks("leading there", f"{path}: old is not {was}", it)
             link.leaves.update(new)
             self.counts["told as a whole"] += is_whole
+
+    def text(self, row, link):
+        """A text comes to a list, or goes: of equal ones the last."""
+        self.counts["texts told"] += 1
+        front = f"{row['path']}{told.text_of(row.get('old', row.get('new')))}#"
+        count = sum(it.startswith(front) for it in link.leaves)
+        if "new" in row:
+            link.leaves[f"{front}{count}"] = row["new"]
+        elif link.leaves.pop(f"{front}{count - 1}", None) is None:
+            breaks("leading there", f"{front} is not there", row)
 
     def leads(self, line, link):
         """The leaves that are reached are those of this message."""

@@ -57,7 +57,8 @@ def vlans(rng, is_tunnels):
     out, ends = [], sorted(rng.sample(range(10, 24), 2 * rng.choice([0, 1, 1, 2, 3])))
     for first, last in zip(ends[::2], ends[1::2]):
         flags, ahead = rng.randrange(2), rng.choice([0, 1000])
-        for vid, end in rng.choice([[(first, 8), (last, 16)], [(first, 8), (last, 16)], [(first, 0)], [(last, 0)]]):
+        for vid, end in rng.choice([[(first, 8), (last, 16)], [(first, 8), (last, 16)], [(first, 0)],
+                                    [(it, 0) for it in range(first, last + 1)]]):
             parts = [attribute(1, u32(vid + ahead)), attribute(2, struct.pack("<H", vid)),
                      attribute(3, struct.pack("<H", flags | end))]
             out.append(attribute(3, b"".join(parts)) if is_tunnels else
@@ -104,6 +105,24 @@ def kept(rng, family):
     return b"".join(found)
 
 
+def texts(rng, kind, payloads):
+    """A list of attributes of one kind or, where that is None, of one for each place; some of it twice."""
+    found = rng.choices(payloads, k=rng.choice([0, 1, 2, 2, 3]))
+    return b"".join(attribute(at if kind is None else kind, it) for at, it in enumerate(found))
+
+
+def text_lists(rng):
+    """The targets of a bond, or the addresses of a macvlan."""
+    if rng.random() < 0.3:
+        kind, inside = b"macvlan", attribute(5, texts(rng, 4, [bytes([2, 0, 0, 0, 0, it]) for it in range(3)] + [b"o"]))
+    else:
+        targets = rng.choice([texts(rng, None, [bytes([10, 0, 0, it]) for it in range(3)])] * 5 + [b"\1\2"])
+        kind, inside = b"bond", attribute(8, targets) + (
+            attribute(31, texts(rng, None, [bytes([32, *bytes(14), it]) for it in range(2)]))
+            if rng.random() < 0.5 else b"")
+    return attribute(18, attribute(1, text(kind)) + attribute(2, inside))
+
+
 SLOTS = {
     "name": lambda rng, f, i: attribute(3, text(rng.choice([b"e%d", b"e%d", b"long%d"]) % (i & 15))),
     "mtu": lambda rng, f, i: rng.choice([attribute(4, u32(rng.choice([1500, 9000])))] * 12 + [attribute(4, b"\1\2")]),
@@ -117,7 +136,30 @@ SLOTS = {
     "protocol": lambda rng, f, i: protocol(rng, f) if f in (7, 10) else b"",
     "unknown": lambda rng, f, i: attribute(300, bytes([rng.randrange(2)])) if rng.random() < 0.2 else b"",
     "kept": lambda rng, f, i: kept(rng, f) if rng.random() < 0.4 else b"",
+    "names": lambda rng, f, i: attribute(52, texts(rng, 53, [b"a\0", b"b\0", b"c", b"d"])) if f == 0 else b"",
+    "lists": lambda rng, f, i: text_lists(rng) if f == 0 and rng.random() < 0.3 else b"",
 }
+
+
+def singles(b):
+    """A list of VLANs, of which each in a range has a value of its own."""
+    out, begun = [], None
+    for _, kind, it in second.each(b):
+        flags, vid = struct.unpack("<HH", it) if kind == 2 else (0, 0)
+        if flags & 8:
+            begun = vid
+            continue
+        out += [attribute(2, struct.pack("<HH", flags & ~16, at)) for at in range(vid if begun is None else begun, vid)]
+        out.append(attribute(kind, it if begun is None else struct.pack("<HH", flags & ~16, vid)))
+        begun = None
+    return b"".join(out)
+
+
+def turned(b):
+    """Attributes in another order, and so inside some of them; of VLANs those of ranges one by one."""
+    out = [attribute(kind, singles(it) if kind == 26 else turned(it) if kind in (22, 52) else it)
+           for _, kind, it in second.each(b)]
+    return b"".join(reversed(out))
 
 
 def put_together(rng, family, index, flags, slots):
@@ -142,9 +184,13 @@ def variants(rng, family, index, count, names):
     slots = {name: SLOTS[name](rng, family, index) for name in names if rng.random() < 0.8}
     flags, out = 1, []
     for _ in range(count):
-        for name in rng.sample(names, rng.choice([0, 1, 1, 2])):
-            slots[name] = SLOTS[name](rng, family, index)
-        flags = rng.choice([flags, flags, 1, 65])
+        if "names" in names and rng.random() < 0.5:
+            name = rng.choice(["names", "names", "kept", "settings" if family == 7 else "functions"])
+            slots[name] = turned(slots[name]) if slots.get(name) else SLOTS[name](rng, family, index)
+        else:
+            for name in rng.sample(names, rng.choice([0, 1, 1, 2])):
+                slots[name] = SLOTS[name](rng, family, index)
+            flags = rng.choice([flags, flags, 1, 65])
         out.append(put_together(rng, family, index, flags, slots))
     out.append(struct.pack("<BBHIII", family, 0, 1, index, 1, 0) + rng.choice([b"", attribute(3, b"w\0")])
                + attribute(11, rng.choice([WIRELESS, WIRELESS, b""])))

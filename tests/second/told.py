@@ -1,5 +1,6 @@
 """A model of linkdiff by the rules of docs/LINKDIFF.md, over what the second reader says of messages and linkshow shows
 of them: messages() knows the messages of lines, and Model says what each line is to be told."""
+import collections
 import json
 import re
 import subprocess
@@ -27,6 +28,8 @@ BEGIN, END = 8, 16
 VLAN_FLAGS = {1: "master", 2: "pvid", 4: "untagged", 32: "brentry", 64: "only-opts"}
 # the list of what is kept as it is, of any object, and the number that it is told by
 OTHER, NUMBER = "other", "number"
+# the lists of texts, which are their own keys
+TEXTS = re.compile(r"(.*\.)?(prop-list\.alt-ifname|macaddr-data\.macaddr|arp-ip-target|ns-ip6-target)")
 # the attributes of a function of which a state clears something
 MOVING = "stats", "broadcast"
 
@@ -118,7 +121,8 @@ def named(name):
 
 class Shown:
     """What is shown of a message: the value at each path, in order; the paths that are counters, which a state passes
-    over; the values at the others; and in `whole` the values of lists that have a label, whatever stands inside."""
+    over; the values at the others; and in `whole` the values of lists that have a label, whatever stands inside, and
+    the lists that are told whole where they differ in nothing but their order."""
 
     def __init__(self, text, page, filled):
         page, self.whole = json.loads(page), {}
@@ -131,8 +135,8 @@ class Shown:
         self.counters -= {path for path in self.counters
                           if path.startswith("refused.") and self.leaves[path].strip("0")}
         # of an attribute that is kept as it is all is passed over
-        kept = {path.removesuffix(".payload") for path in self.counters if path.endswith(".payload")}
-        self.counters |= {path for path in self.leaves if path.rpartition(".")[0] in kept}
+        self.kept = {path.removesuffix(".payload") for path in self.counters if path.endswith(".payload")}
+        self.counters |= {path for path in self.leaves if path.rpartition(".")[0] in self.kept}
         self.settings = {path: value for path, value in self.leaves.items() if path not in self.counters}
         self.named = named(page.get("ifname"))
 
@@ -147,6 +151,16 @@ class Shown:
                 out[path] = value
             else:
                 out[alone] = self.whole[alone] if is_all else settled(alone, self.whole[alone])
+        return out
+
+    def lists(self, is_all):
+        """The lists that are told whole, each with its value: a state is without what it passes over."""
+        out = {}
+        for path, value in self.whole.items():
+            if path[-1] != "]":
+                parts = zip(labels(path, value), value)
+                out[path] = value if is_all else [settled(path + label, it) for label, it in parts
+                                                  if path + label not in self.kept]
         return out
 
 
@@ -172,7 +186,8 @@ def settled(path, value):
 
 def leaves_of(page, vlans, whole):
     """Each path that holds no other, and its value; of each refused attribute the bytes. A list of VLANs that a kernel
-    writes so is one leaf here, Vlans. Of values with labels `whole` gets all."""
+    writes so is one leaf here, Vlans, and a list of texts one, Texts. Of values with labels `whole` gets all, and it
+    gets the lists whose order is told."""
     if "refused" in page:
         page["refused"] = raw([(name_of(it), it["payload"]) for it in page["refused"]])
     out = []
@@ -198,13 +213,17 @@ def under(path, value, out, whole, vlans=()):
     """A list that holds an object or a list is told value by value; any other one is a value."""
     parts = []
     if path in vlans:
+        whole[path] = value
         out.append((f"{path}[vid", vlans[path]))
         return
     if isinstance(value, dict):
         parts = [(f"{path}.{name}" if path else name, it) for name, it in value.items()]
     elif isinstance(value, list) and any(isinstance(it, (dict, list)) for it in value):
         parts = [(path + label, it) for label, it in zip(labels(path, value), value)]
-        whole.update(it for it in parts if it[0][-1] == "]")
+        if parts[0][0][-1] == "]":
+            whole.update([(path, value), *parts])
+    elif isinstance(value, list) and TEXTS.fullmatch(path):
+        whole[path] = value = Texts(value)
     if not parts and path:
         out.append((path, value))
     for at, it in parts:
@@ -370,15 +389,36 @@ def vlan_rows(path, own, others, is_old):
 
 # ** what changed
 
+class Texts(list):
+    """A list of texts."""
+
+
+def text_rows(path, own, others, is_old):
+    """The texts that stand more often in a list than in another one; of equal ones the later are told."""
+    left = collections.Counter(map(text_of, others))
+    for it in map(text_of, own):
+        left[it] -= 1
+        if left[it] < 0:
+            yield (f"{path}[]", it, None) if is_old else (f"{path}[]", None, it)
+
+
 def rows_of(own, others, is_old):
     """What the leaves of one message tell beside those of the other one."""
     for path, value in own.items():
         if isinstance(value, Vlans):
             yield from vlan_rows(path, value, others.get(path, {}), is_old)
+        elif isinstance(value, Texts) and (isinstance(others[path], Texts) if path in others else value):
+            yield from text_rows(path, value, others.get(path, ()), is_old)
         elif path not in others:
             yield (path, text_of(value), None) if is_old else (path, None, text_of(value))
         elif is_old and others[path] != value:
             yield path, text_of(value), text_of(others[path])
+
+
+def orders(old, new):
+    """The lists that both messages have, and that they write in different ways."""
+    both = [(path, text_of(value), text_of(new[path])) for path, value in old.items() if path in new]
+    return [it for it in both if it[1] != it[2]]
 
 
 def changes(old, new, is_all):
@@ -386,7 +426,8 @@ def changes(old, new, is_all):
     (was, before), (now, after) = old, new
     olds, news = before.beside(after, is_all), after.beside(before, is_all)
     rows = [*rows_of(olds, news, True), *rows_of(news, olds, False)]
-    out = rows or [("state", f'"{was.text.hex()}"', f'"{now.text.hex()}"')]
+    out = rows or orders(before.lists(is_all), after.lists(is_all)) or [
+        ("state", f'"{was.text.hex()}"', f'"{now.text.hex()}"')]
     return "[" + ",".join(
         f'{{"path":{text_of(path)}' + ("" if one is None else f',"old":{one}')
         + ("" if other is None else f',"new":{other}') + "}" for path, one, other in out) + "]"

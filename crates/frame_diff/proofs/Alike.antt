@@ -2,6 +2,7 @@
 use Rattle.std.proofs.Common.{◌≡◌, ℕ, Bool, true, false, List, [], ◌∷◌, ◌++◌, append_assoc, refl, sym, ap, ◌∙◌}
 use Rattle.std.proofs.Common.{map}
 use Rattle.std.specs.Prelude.{Option, Some, None, cond, option_map}
+use Rattle.json.specs.Token.{Token}
 use Rattle.shown.specs.Drafts.{Draft, Members, with_members}
 use Rattle.frame_shown.specs.Items.{objects}
 use Rattle.frame_shown.specs.declared.form.Around.{Around}
@@ -15,7 +16,7 @@ use Rattle.frame_diff.specs.Rows.{first_row, have_same_names, row_beside, row_sh
 use Rattle.frame_diff.specs.Walked.{AreBeside, Holding, HoldsApart, Showing, held_items, last_items}
 use Rattle.frame_diff.specs.declared.rows.Row.{Row}
 use Rattle.frame_diff.specs.declared.side.Side.{Side}
-use Rattle.frame_diff.specs.declared.side.Side.TheVariants.{Old, New}
+use Rattle.frame_diff.specs.declared.side.Side.TheVariants.{Old, New, Moved}
 use Rattle.frame_diff.specs.declared.walk.Attributes.{Attributes}
 use Rattle.frame_diff.proofs.Beside.{found_last, last_at, or_else}
 use Rattle.frame_diff.proofs.Classes.{above_apart}
@@ -219,19 +220,24 @@ module _ (cx theirs : Around) where
       ++ items_told Old text (forest (ours rows)) g) (sym (front_further front o os))
       ∙ sym (last_further Old text (all front (o ∷ os)) m (ours rows))
 
-  pub none_new : (text : List ℕ) (rows there : List Row) (front : List Member) → have_same_names rows there ≡ true
-      → items_told New text (forest (ours rows)) (all front there) ≡ []
-  none_new text [] there front h = refl
-  none_new text (row ∷ rows) [] front h = absurd cc
-  none_new text (row ∷ rows) (o ∷ os) front h =
+  -- where nothing is told of a value beside another one, nothing is told
+  none_turned : (side : Side) → ((at : List ℕ) (v w : List Token) → leaf_items side at v (Some w) ≡ [])
+      → (text : List ℕ) (rows there : List Row) (front : List Member) → have_same_names rows there ≡ true
+      → items_told side text (forest (ours rows)) (all front there) ≡ []
+  none_turned side silent text [] there front h = refl
+  none_turned side silent text (row ∷ rows) [] front h = absurd cc
+  none_turned side silent text (row ∷ rows) (o ∷ os) front h =
       let m : Member = (field_step row.name.now, ((row_shown cx row).1, Forest.none)) in
       let next = front ++ (field_step o.name.now, ((row_shown theirs o).1, Forest.none)) ∷ [] in
-      last_further New text (all front (o ∷ os)) m (ours rows)
-      ∙ (λ k. last_items New text (ours rows) m
+      last_further side text (all front (o ∷ os)) m (ours rows)
+      ∙ (λ k. last_items side text (ours rows) m
       (found_behind m.0 front (other (o ∷ os)) (named_here row o rows os h) k)
-      ++ items_told New text (forest (ours rows)) (front_further front o os k))
-      ∙ (λ k. (placed_told New text row o rows os h ∙ nothing (comes m.0 (ours rows))) k
-      ++ none_new text rows os next
+      ++ items_told side text (forest (ours rows)) (front_further front o os k))
+      ∙ (λ k. (placed_told side text row o rows os h
+      ∙ ap (λ is. cond (comes m.0 (ours rows)) [] is)
+      (silent (joined text row.name.now) (row_shown cx row).1 (row_shown theirs o).1)
+      ∙ nothing (comes m.0 (ours rows))) k
+      ++ none_turned side silent text rows os next
       (and_right (is_text o.name.now row.name.now) (have_same_names rows os) h) k)
     where
       none : List Members
@@ -240,3 +246,11 @@ module _ (cx theirs : Around) where
       nothing : (b : Bool) → cond b [] [] ≡ none
       nothing true = refl
       nothing false = refl
+
+  pub none_new : (text : List ℕ) (rows there : List Row) (front : List Member) → have_same_names rows there ≡ true
+      → items_told New text (forest (ours rows)) (all front there) ≡ []
+  none_new = none_turned New (λ at v w. refl)
+
+  pub none_moved : (text : List ℕ) (rows there : List Row) (front : List Member) → have_same_names rows there ≡ true
+      → items_told Moved text (forest (ours rows)) (all front there) ≡ []
+  none_moved = none_turned Moved (λ at v w. refl)

@@ -53,6 +53,7 @@ use Rattle.link_vlans.specs.declared.run.Run.{Run}
 use Rattle.link_vlans.proofs.Say.{runs_apart as runs_are_apart}
 use Rattle.frame_diff.specs.Forests.{runs_inside}
 use Rattle.frame_diff.specs.Members.{message_made, runs_by, runs_or, unless_empty}
+use Rattle.frame_diff.specs.Members.{flat_inside, is_own_key}
 
 -- ** those of a list of members
 
@@ -146,6 +147,7 @@ unless_apart : (s : Step) (value : List Token) (f : Forest) → AreApart f → A
 unless_apart s value Forest.none h = tt
 unless_apart s value Forest.passed h = tt
 unless_apart s value (Forest.vlans runs) h = tt
+unless_apart s value (Forest.texts vs) h = tt
 unless_apart s value (Forest.tree a b c d) h = (h, tt)
 
 labelled_apart : (key : Key) (ls : List Label) (hs : List (Option Held)) → HeldApart hs
@@ -161,12 +163,14 @@ each_apart_inside None ns hs h = places_apart hs h
 each_apart_inside (Some key) ns hs h =
     forest_apart (labelled key (labels_of ns) hs) (labelled_apart key (labels_of ns) hs h)
 
-inside_apart : (hs : List (Option Held)) (inside : Forest) → AreApart inside → AreApart (values_inside hs inside)
-inside_apart hs inside h = by (are_plain hs)
+inside_apart : (own : Bool) (hs : List (Option Held)) (inside : Forest) → AreApart inside
+    → AreApart (values_inside own hs inside)
+inside_apart own hs inside h = by (are_plain hs) own
   where
-    by : (b : Bool) → AreApart (cond b Forest.none inside)
-    by true = tt
-    by false = h
+    by : (b own : Bool) → AreApart (cond b (flat_inside own hs) inside)
+    by true true = tt
+    by true false = tt
+    by false own = h
 
 list_apart : (s : Step) (hs : List (Option Held)) (inside : Forest) → AreApart inside → AllApart (list_by s hs inside)
 list_apart s hs inside h = unless_apart s _ inside h
@@ -304,10 +308,10 @@ value_with_apart r list n h f = by (number f == n) (is_each row.1)
     by true false = tt
     by false c = tt
 
-array_apart : (name : List ℕ) (hs : List (Option Held)) (inside : Forest) → AreApart inside
-    → AllApart (array_at name hs inside)
-array_apart name [] inside h = tt
-array_apart name (x ∷ hs) inside h = (inside_apart (x ∷ hs) inside h, tt)
+array_apart : (name : List ℕ) (own : Bool) (hs : List (Option Held)) (inside : Forest) → AreApart inside
+    → AllApart (array_at name own hs inside)
+array_apart name own [] inside h = tt
+array_apart name own (x ∷ hs) inside h = (inside_apart own (x ∷ hs) inside h, tt)
 
 some_are : (runs : Option (List Run)) (rs : List Run) → unless_empty runs ≡ Some rs → runs ≡ Some rs
 some_are None rs is = absurd cc
@@ -339,8 +343,8 @@ inside_with_apart r list n fs h =
 arrays_apart : (r : Reading) (list : Shape) (lists : Lists) (fs : List Frame) → InnerApart r.inner
     → AllApart (arrays_of r list lists fs)
 arrays_apart r list lists fs h =
-    each_apart (λ l. array_at l.1 (values_with r list l.0 fs) (inside_with r list l.0 fs)) lists
-    (λ l. array_apart l.1 (values_with r list l.0 fs) (inside_with r list l.0 fs)
+    each_apart (λ l. array_at l.1 (is_own_key (Some l.0) list) (values_with r list l.0 fs) (inside_with r list l.0 fs)) lists
+    (λ l. array_apart l.1 (is_own_key (Some l.0) list) (values_with r list l.0 fs) (inside_with r list l.0 fs)
     (inside_with_apart r list l.0 fs h))
 
 members_apart : (r : Reading) (list : Shape) (fs : List Frame) → InnerApart r.inner
@@ -374,7 +378,8 @@ entries_apart r list fs h = each_held (entry_with r list) fs (λ f. by f (number
 pub list_members_apart : (r : Reading) (list : Shape) (fs : List Frame) → InnerApart r.inner
     → AllApart (list_members r list fs)
 list_members_apart r (Shapes.Listed group table) fs h = (
-  inside_apart (map (λ (m : Member). Some m.1) (named_in r (Shapes.Listed group table) fs))
+  inside_apart (is_own_key None (Shapes.Listed group table))
+      (map (λ (m : Member). Some m.1) (named_in r (Shapes.Listed group table) fs))
       (places (map (λ (m : Member). Some m.1) (named_in r (Shapes.Listed group table) fs)))
       (places_apart (map (λ (m : Member). Some m.1) (named_in r (Shapes.Listed group table) fs))
       (values_apart (named_in r (Shapes.Listed group table) fs) (named_in_apart r (Shapes.Listed group table) fs h))),
@@ -385,7 +390,7 @@ list_members_apart r (Shapes.Entries group) fs h =
     let list = Shapes.Entries group in
     let key = key_at None list in
     let hs = entries_in r (entry_list group) fs in (
-      inside_apart hs (entries_inside r group fs)
+      inside_apart false hs (entries_inside r group fs)
           (each_apart_inside key (numbers_by (number_in r.around key list) (entry_with r (entry_list group)) fs) hs
           (entries_apart r (entry_list group) fs h)),
       tt,

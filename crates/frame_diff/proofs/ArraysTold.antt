@@ -19,12 +19,14 @@ use Rattle.frame_diff.specs.Groups.{group_by, is_entries, value_by}
 use Rattle.frame_diff.specs.Items.{items_told, joined}
 use Rattle.frame_diff.specs.Members.{Reading, array_at, arrays_of, inside_with, is_some, values_with}
 use Rattle.frame_diff.specs.Shown.{AreListsApart}
-use Rattle.frame_diff.specs.Walked.{AreAlike, AreBeside, HasNames, Holding, Showing, held_at, held_items}
+use Rattle.frame_diff.specs.Walked.{AreAlike, AreBeside, HasNames, Holding, Showing, held_at}
 use Rattle.frame_diff.specs.declared.walk.Attributes.{Attributes}
 use Rattle.frame_diff.specs.declared.side.Side.{Side}
 use Rattle.frame_diff.specs.declared.walk.Attribute.{Attribute}
 use Rattle.frame_diff.proofs.Beside.{found_last, last_at, or_else, or_none}
 use Rattle.frame_diff.proofs.Parts.{NoneComes, array_apart, told_parts}
+use Rattle.frame_diff.specs.Members.{is_own_key}
+use Rattle.frame_diff.specs.Walked.{listed_items}
 
 -- ** one of the values
 
@@ -66,7 +68,7 @@ module _ (r : Reading) (list : Shape) (n : ℕ) where
 
 module _ (r : Reading) (list : Shape) (fs : List Frame) (name : List ℕ) where
   abbrev held : ℕ → Held
-  held n = group_by (values_with r list n fs) (inside_with r list n fs)
+  held n = group_by (is_own_key (Some n) list) (values_with r list n fs) (inside_with r list n fs)
 
   abbrev last_of : Option ℕ → List Row → Option ℕ
   last_of before rows = last_array r.around list fs name before rows
@@ -92,20 +94,20 @@ module _ (r : Reading) (list : Shape) (fs : List Frame) (name : List ℕ) where
   mapped (Some x) b = refl
 
   -- one list in front of others
-  in_front : (own : List ℕ) (hs : List (Option Held)) (inside : Forest) (rest : List Member)
-      → last_at (Step.array name) (array_at own hs inside ++ rest)
+  in_front : (own : List ℕ) (key : Bool) (hs : List (Option Held)) (inside : Forest) (rest : List Member)
+      → last_at (Step.array name) (array_at own key hs inside ++ rest)
       ≡ or_else (last_at (Step.array name) rest)
-      (cond (is_text own name && is_some hs) (Some (group_by hs inside)) None)
-  in_front own [] inside rest = by (is_text own name)
+      (cond (is_text own name && is_some hs) (Some (group_by key hs inside)) None)
+  in_front own key [] inside rest = by (is_text own name)
     where
       by : (b : Bool) → last_at (Step.array name) rest
-          ≡ or_else (last_at (Step.array name) rest) (cond (b && false) (Some (group_by [] inside)) None)
+          ≡ or_else (last_at (Step.array name) rest) (cond (b && false) (Some (group_by key [] inside)) None)
       by true = sym (or_none (last_at (Step.array name) rest))
       by false = sym (or_none (last_at (Step.array name) rest))
-  in_front own (h ∷ hs) inside rest = by (is_text own name)
+  in_front own key (h ∷ hs) inside rest = by (is_text own name)
     where
-      by : (b : Bool) → or_else (last_at (Step.array name) rest) (cond b (Some (group_by (h ∷ hs) inside)) None)
-          ≡ or_else (last_at (Step.array name) rest) (cond (b && true) (Some (group_by (h ∷ hs) inside)) None)
+      by : (b : Bool) → or_else (last_at (Step.array name) rest) (cond b (Some (group_by key (h ∷ hs) inside)) None)
+          ≡ or_else (last_at (Step.array name) rest) (cond (b && true) (Some (group_by key (h ∷ hs) inside)) None)
       by true = refl
       by false = refl
 
@@ -131,7 +133,8 @@ module _ (r : Reading) (list : Shape) (fs : List Frame) (name : List ℕ) where
           ≡ option_map held (last_of (cond (b && (is_text row.1.now name && has_values r.around list fs row.0))
           (Some row.0) None) rows)
       by true later =
-          in_front row.1.now (values_with r list row.0 fs) (inside_with r list row.0 fs) rest
+          in_front row.1.now (is_own_key (Some row.0) list) (values_with r list row.0 fs)
+          (inside_with r list row.0 fs) rest
           ∙ ap (λ b. or_else (last_at (Step.array name) rest)
           (cond (is_text row.1.now name && b) (Some (held row.0)) None)) (some_values r list row.0 fs)
           ∙ one (is_text row.1.now name && has_values r.around list fs row.0) later
@@ -152,24 +155,25 @@ module _ (side : Side) (text : List ℕ) (r : Reading) (list : Shape) (fs : List
   unlisted row is = ap (λ b. arrays_of r list (cond b ((row.0, row.1.now) ∷ []) []) fs) is
 
   abbrev one_list : Row → List Member
-  one_list row = array_at row.1.now (values_with r list row.0 fs) (inside_with r list row.0 fs)
+  one_list row = array_at row.1.now (is_own_key (Some row.0) list) (values_with r list row.0 fs)
+      (inside_with r list row.0 fs)
 
   listed : (row : Row) → is_listed row.2 ≡ true → rows_in (row ∷ []) ≡ one_list row
   listed row is =
       ap (λ b. arrays_of r list (cond b ((row.0, row.1.now) ∷ []) []) fs) is
       ∙ append-nil (one_list row)
 
-  no_array : (name : List ℕ) (hs : List (Option Held)) (inside : Forest) → is_some hs ≡ false
-      → array_at name hs inside ≡ []
-  no_array name [] inside none = refl
-  no_array name (h ∷ hs) inside none = absurd cc
+  no_array : (name : List ℕ) (key : Bool) (hs : List (Option Held)) (inside : Forest) → is_some hs ≡ false
+      → array_at name key hs inside ≡ []
+  no_array name key [] inside none = refl
+  no_array name key (h ∷ hs) inside none = absurd cc
 
-  some_told : (name : List ℕ) (hs : List (Option Held)) (inside : Forest) → is_some hs ≡ true
-      → items_told side text (forest (array_at name hs inside)) others
-      ≡ held_items side (joined text name) (group_by hs inside) (find (Step.array name) others)
-  some_told name [] inside some = absurd cc
-  some_told name (h ∷ hs) inside some =
-      append-nil (held_items side (joined text name) (group_by (h ∷ hs) inside) (find (Step.array name) others))
+  some_told : (name : List ℕ) (key : Bool) (hs : List (Option Held)) (inside : Forest) → is_some hs ≡ true
+      → items_told side text (forest (array_at name key hs inside)) others
+      ≡ listed_items side (joined text name) (group_by key hs inside) (find (Step.array name) others)
+  some_told name key [] inside some = absurd cc
+  some_told name key (h ∷ hs) inside some = append-nil
+      (listed_items side (joined text name) (group_by key (h ∷ hs) inside) (find (Step.array name) others))
 
   pub nothing_told : (row : Row) (page : Draft) → rows_in (row ∷ []) ≡ []
       → page ≡ with_members (objects (items_told side text (forest (rows_in (row ∷ []))) others)) page
@@ -180,16 +184,17 @@ module _ (side : Side) (text : List ℕ) (r : Reading) (list : Shape) (fs : List
       → rows_in (row ∷ []) ≡ []
   empty row is none =
       listed row is
-      ∙ no_array row.1.now (values_with r list row.0 fs) (inside_with r list row.0 fs)
+      ∙ no_array row.1.now (is_own_key (Some row.0) list) (values_with r list row.0 fs) (inside_with r list row.0 fs)
       (some_values r list row.0 fs ∙ none)
 
   pub row_told : (row : Row) → is_listed row.2 ≡ true → has_values r.around list fs row.0 ≡ true
-      → held_items side (joined text row.1.now)
-      (group_by (values_with r list row.0 fs) (inside_with r list row.0 fs)) (find (Step.array row.1.now) others)
+      → listed_items side (joined text row.1.now)
+      (group_by (is_own_key (Some row.0) list) (values_with r list row.0 fs) (inside_with r list row.0 fs))
+      (find (Step.array row.1.now) others)
       ≡ items_told side text (forest (rows_in (row ∷ []))) others
   row_told row is some =
       sym (ap (λ ms. items_told side text (forest ms) others) (listed row is)
-      ∙ some_told row.1.now (values_with r list row.0 fs) (inside_with r list row.0 fs)
+      ∙ some_told row.1.now (is_own_key (Some row.0) list) (values_with r list row.0 fs) (inside_with r list row.0 fs)
       (some_values r list row.0 fs ∙ some))
 
   -- one row after another
@@ -202,8 +207,8 @@ module _ (side : Side) (text : List ℕ) (r : Reading) (list : Shape) (fs : List
       by true apart =
           subst (λ ms. NoneComes ms (rows_in rows))
           (sym (append-nil (one_list row)))
-          (array_apart r list row.1.now (values_with r list row.0 fs) (inside_with r list row.0 fs) (lists_of rows) fs
-          apart.0)
+          (array_apart r list row.1.now (is_own_key (Some row.0) list) (values_with r list row.0 fs)
+          (inside_with r list row.0 fs) (lists_of rows) fs apart.0)
       by false apart = tt
 
   pub rest_apart : (row : Row) (rows : List Row) → AreListsApart (lists_of (row ∷ rows))

@@ -27,6 +27,9 @@ use Rattle.frame_diff.proofs.Inside.{left_told, none_at, same_told}
 use Rattle.frame_diff.proofs.Parts.{AreArrays, AreNames, arrays_arrays, named_names}
 use Rattle.frame_diff.specs.Forests.{runs_inside}
 use Rattle.frame_diff.proofs.Apart.{no_runs}
+use Rattle.frame_diff.specs.Members.{is_own_key}
+use Rattle.frame_diff.specs.Inside.{is_texts}
+use Rattle.std.specs.Prelude.{cond}
 
 -- ** steps
 
@@ -61,6 +64,7 @@ pub list_steps : (P : Step → Type 0) (s : Step) (hs : List (Option Held)) (ins
 list_steps P s hs Forest.none is = tt
 list_steps P s hs Forest.passed is = tt
 list_steps P s hs (Forest.vlans runs) is = tt
+list_steps P s hs (Forest.texts vs) is = tt
 list_steps P s hs (Forest.tree a b c d) is = (is, tt)
 
 names_of_object : (ms : List Member) → AreNames ms → AreAt IsOfObject ms
@@ -149,10 +153,24 @@ above_runs true [] = refl
 above_runs false [] = refl
 above_runs is_any (m ∷ ms) = no_runs (m ∷ ms)
 
+forest_no_texts : (ms : List Member) → is_texts (forest ms) ≡ false
+forest_no_texts [] = refl
+forest_no_texts (m ∷ ms) = by (comes m.0 ms) (forest_no_texts ms)
+  where
+    by : (c : Bool) → is_texts (forest ms) ≡ false
+        → is_texts (cond c (forest ms) (Forest.tree m.0 m.1.0 m.1.1 (forest ms))) ≡ false
+    by true later = later
+    by false later = refl
+
+pub left_no_texts : (is_any : Bool) (ms : List Member) → is_texts (left_of is_any ms) ≡ false
+left_no_texts true [] = refl
+left_no_texts false [] = refl
+left_no_texts is_any (m ∷ ms) = forest_no_texts (m ∷ ms)
+
 pub above_runless : (nest : Showing) (inner : Holding) → HoldsNoRuns (above nest inner)
 above_runless nest inner is_state cx list p =
-    above_runs (is_some (frames_in (items p)))
-    (list_members (reading_at nest inner is_state cx) list (frames_in (items p)))
+    let ms = list_members (reading_at nest inner is_state cx) list (frames_in (items p)) in
+    (above_runs (is_some (frames_in (items p))) ms, left_no_texts (is_some (frames_in (items p))) ms)
 
 pub above_apart : (nest : Showing) (inner : Holding) → HoldsApart inner → HoldsApart (above nest inner)
 above_apart nest inner apart is_state cx list p =
@@ -175,7 +193,7 @@ without : (r : Reading) (list : Shape) (fs : List Frame)
     → has_none (inner_of r list fs) ≡ (not (is_group list) && not (is_some fs))
 without r (Shapes.Listed group table) fs =
     let hs = map (λ (m : Member). Some m.1) (named_in r (Shapes.Listed group table) fs) in
-    forest_some (group_of (values_step (group_name group)) hs (places hs))
+    forest_some (group_of (values_step (group_name group)) (is_own_key None (Shapes.Listed group table)) hs (places hs))
     (others_at (rest_step (codes "other")) r (Shapes.Listed group table) fs)
 without r (Shapes.Entries group) fs = refl
 without r (Shapes.Message family) [] = refl

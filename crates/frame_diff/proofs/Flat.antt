@@ -58,6 +58,7 @@ use Rattle.frame_diff.specs.declared.keys.Key.TheVariants as Keys
 use Rattle.frame_diff.specs.declared.labels.Label.{Label}
 use Rattle.frame_diff.proofs.Apart.{fields_apart, made_apart}
 use Rattle.frame_diff.proofs.Steps.{text_is, text_same}
+use Rattle.frame_diff.specs.Members.{flat_inside, is_own_key}
 
 -- ** no step of a member is that of a VLAN, and no id of a tunnel is cut off below
 
@@ -74,6 +75,7 @@ abbrev pub AreMade : Forest → Type 0
 AreMade Forest.none = Unit {0}
 AreMade Forest.passed = Unit {0}
 AreMade (Forest.vlans runs) = AreAbove runs
+AreMade (Forest.texts vs) = Unit {0}
 AreMade (Forest.tree s v i rest) = (is_vid s ≡ false) × AreMade i × AreMade rest
 
 abbrev AllMade : List Member → Type 0
@@ -147,6 +149,7 @@ unless_made : (s : Step) (value : List Token) (f : Forest) → is_vid s ≡ fals
 unless_made s value Forest.none plain h = tt
 unless_made s value Forest.passed plain h = tt
 unless_made s value (Forest.vlans runs) plain h = tt
+unless_made s value (Forest.texts vs) plain h = tt
 unless_made s value (Forest.tree a b c d) plain h = (plain, h, tt)
 
 key_made : (key : Key) (l : Label) → is_vid (label_step key l) ≡ false
@@ -168,12 +171,14 @@ each_made_inside None ns hs h = places_made hs h
 each_made_inside (Some key) ns hs h =
     forest_made (labelled key (labels_of ns) hs) (labelled_made key (labels_of ns) hs h)
 
-inside_made : (hs : List (Option Held)) (inside : Forest) → AreMade inside → AreMade (values_inside hs inside)
-inside_made hs inside h = by (are_plain hs)
+inside_made : (own : Bool) (hs : List (Option Held)) (inside : Forest) → AreMade inside
+    → AreMade (values_inside own hs inside)
+inside_made own hs inside h = by (are_plain hs) own
   where
-    by : (b : Bool) → AreMade (cond b Forest.none inside)
-    by true = tt
-    by false = h
+    by : (b own : Bool) → AreMade (cond b (flat_inside own hs) inside)
+    by true true = tt
+    by true false = tt
+    by false own = h
 
 list_made : (s : Step) (hs : List (Option Held)) (inside : Forest) → is_vid s ≡ false → AreMade inside
     → AllMade (list_by s hs inside)
@@ -312,10 +317,10 @@ value_with_made r list n h f = by (number f == n) (is_each row.1)
     by true false = tt
     by false c = tt
 
-array_made : (name : List ℕ) (hs : List (Option Held)) (inside : Forest) → AreMade inside
-    → AllMade (array_at name hs inside)
-array_made name [] inside h = tt
-array_made name (x ∷ hs) inside h = (refl, inside_made (x ∷ hs) inside h, tt)
+array_made : (name : List ℕ) (own : Bool) (hs : List (Option Held)) (inside : Forest) → AreMade inside
+    → AllMade (array_at name own hs inside)
+array_made name own [] inside h = tt
+array_made name own (x ∷ hs) inside h = (refl, inside_made own (x ∷ hs) inside h, tt)
 
 some_above : (found : Option (List Run)) → ((rs : List Run) → found ≡ Some rs → AreAbove rs) → (rs : List Run)
     → unless_empty found ≡ Some rs → AreAbove rs
@@ -347,8 +352,8 @@ inside_with_made r list n fs h =
 arrays_made : (r : Reading) (list : Shape) (lists : Lists) (fs : List Frame) → InnerMade r.inner
     → AllMade (arrays_of r list lists fs)
 arrays_made r list lists fs h =
-    each_made (λ l. array_at l.1 (values_with r list l.0 fs) (inside_with r list l.0 fs)) lists
-    (λ l. array_made l.1 (values_with r list l.0 fs) (inside_with r list l.0 fs)
+    each_made (λ l. array_at l.1 (is_own_key (Some l.0) list) (values_with r list l.0 fs) (inside_with r list l.0 fs)) lists
+    (λ l. array_made l.1 (is_own_key (Some l.0) list) (values_with r list l.0 fs) (inside_with r list l.0 fs)
     (inside_with_made r list l.0 fs h))
 
 members_made : (r : Reading) (list : Shape) (fs : List Frame) → InnerMade r.inner
@@ -383,7 +388,8 @@ list_members_made : (r : Reading) (list : Shape) (fs : List Frame) → InnerMade
     → AllMade (list_members r list fs)
 list_members_made r (Shapes.Listed group table) fs h = (
   refl,
-  inside_made (map (λ (m : Member). Some m.1) (named_in r (Shapes.Listed group table) fs))
+  inside_made (is_own_key None (Shapes.Listed group table))
+      (map (λ (m : Member). Some m.1) (named_in r (Shapes.Listed group table) fs))
       (places (map (λ (m : Member). Some m.1) (named_in r (Shapes.Listed group table) fs)))
       (places_made (map (λ (m : Member). Some m.1) (named_in r (Shapes.Listed group table) fs))
       (values_made (named_in r (Shapes.Listed group table) fs) (named_in_made r (Shapes.Listed group table) fs h))),
@@ -395,7 +401,7 @@ list_members_made r (Shapes.Entries group) fs h =
     let key = key_at None list in
     let hs = entries_in r (entry_list group) fs in (
       refl,
-      inside_made hs (entries_inside r group fs)
+      inside_made false hs (entries_inside r group fs)
           (each_made_inside key (numbers_by (number_in r.around key list) (entry_with r (entry_list group)) fs) hs
           (entries_made r (entry_list group) fs h)),
       tt,
@@ -478,6 +484,7 @@ find_flat s Forest.none plain = refl
 find_flat s Forest.passed plain = refl
 find_flat s (Forest.vlans []) plain = refl
 find_flat s (Forest.vlans (r ∷ rs)) plain = trees_lack s (vlans_of (r ∷ rs)) plain
+find_flat s (Forest.texts vs) plain = refl
 find_flat s (Forest.tree t v i rest) plain = by (is_step t s) (find_flat s rest plain)
   where
     by : (b : Bool) → find s (flat rest) ≡ option_map held_flat (find s rest)
@@ -505,6 +512,7 @@ pub find_vlan : (n : ℕ) (f : Forest) → AreApart f → AreMade f
 find_vlan n Forest.none apart made = refl
 find_vlan n Forest.passed apart made = refl
 find_vlan n (Forest.vlans []) apart made = refl
+find_vlan n (Forest.texts vs) apart made = refl
 find_vlan n (Forest.vlans (r ∷ rs)) apart made =
     trees_have n (vlans_of (r ∷ rs)) ∙ ap (option_map (vlan_held n)) (found (r ∷ rs) n)
 find_vlan n (Forest.tree s v i rest) apart made =
@@ -516,6 +524,7 @@ pub found_made : (s : Step) (f : Forest) → AreMade f → AreMade (inside_in (f
 found_made s Forest.none made = tt
 found_made s Forest.passed made = tt
 found_made s (Forest.vlans runs) made = tt
+found_made s (Forest.texts vs) made = tt
 found_made s (Forest.tree t v i rest) made = by (is_step t s) (found_made s rest made.2)
   where
     by : (b : Bool) → AreMade (inside_in (find s rest))
@@ -533,6 +542,7 @@ flat_runs : (f : Forest) → runs_inside (flat f) ≡ []
 flat_runs Forest.none = refl
 flat_runs Forest.passed = refl
 flat_runs (Forest.vlans []) = refl
+flat_runs (Forest.texts vs) = refl
 flat_runs (Forest.vlans (r ∷ rs)) = trees_runs (vlans_of (r ∷ rs))
 flat_runs (Forest.tree s v i rest) = refl
 
@@ -552,6 +562,7 @@ pub flat_apart : (f : Forest) → AreApart f → AreMade f → AreApart (flat f)
 flat_apart Forest.none apart made = tt
 flat_apart Forest.passed apart made = tt
 flat_apart (Forest.vlans []) apart made = tt
+flat_apart (Forest.texts vs) apart made = tt
 flat_apart (Forest.vlans (r ∷ rs)) apart made = trees_apart (vlans_of (r ∷ rs)) (once (r ∷ rs) apart)
 flat_apart (Forest.tree s v i rest) apart made = (
   find_flat s rest made.0 ∙ ap (option_map held_flat) apart.0,
@@ -571,6 +582,7 @@ abbrev pub HasMembers : Forest → Type 0
 HasMembers Forest.none = ⊥
 HasMembers Forest.passed = ⊥
 HasMembers (Forest.vlans runs) = ⊥
+HasMembers (Forest.texts vs) = ⊥
 HasMembers (Forest.tree s v i rest) = Unit {0}
 
 pub runs_have : (r : Run) (rs : List Run) → are_apart None (r ∷ rs) ≡ true → HasMembers (vlan_trees (vlans_of (r ∷ rs)))
@@ -593,11 +605,13 @@ leaf_flat None apart = refl
 leaf_flat (Some (v, Forest.none)) apart = refl
 leaf_flat (Some (v, Forest.passed)) apart = refl
 leaf_flat (Some (v, Forest.vlans [])) apart = refl
+leaf_flat (Some (v, Forest.texts vs)) apart = refl
 leaf_flat (Some (v, Forest.vlans (r ∷ rs))) apart = by (vlan_trees (vlans_of (r ∷ rs))) (runs_have r rs apart)
   where
     by : (f : Forest) → HasMembers f → None ≡ leaf_in (Some (v, f))
     by Forest.none h = absurd h
     by Forest.passed h = absurd h
     by (Forest.vlans runs) h = absurd h
+    by (Forest.texts vs) h = absurd h
     by (Forest.tree a b c d) h = refl
 leaf_flat (Some (v, Forest.tree a b c d)) apart = refl

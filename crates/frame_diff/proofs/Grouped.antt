@@ -61,6 +61,30 @@ use Rattle.frame_diff.specs.Forests.{runs_inside}
 use Rattle.link_vlans.specs.declared.run.Run.{Run}
 use Rattle.frame_diff.specs.Groups.{labelled_inside}
 use Rattle.frame_diff.specs.Members.{runs_by, runs_or}
+use Rattle.frame_diff.specs.Members.{flat_inside, is_own_key, unless_empty}
+use Rattle.frame_diff.specs.Items.{is_loose, moved_items, whole_items, member_items, texts_items}
+use Rattle.frame_diff.specs.Keyed.{list_beside}
+use Rattle.frame_diff.specs.Walked.{listed_items}
+use Rattle.frame_diff.specs.Forests.{is_label}
+use Rattle.frame_diff.specs.Sides.{is_moved}
+use Rattle.frame_diff.specs.Settled.{settled, settled_in}
+use Rattle.frame_diff.specs.Groups.{runs_at}
+use Rattle.frame_diff.specs.Differences.{leaf_in}
+use Rattle.frame_diff.specs.declared.side.Side.TheVariants.{Old}
+use Rattle.frame_shown.specs.Frames.{list_shown}
+use Rattle.frame_shown.specs.declared.form.Group.TheVariants as Groups
+use Rattle.link_info.specs.declared.place.Place.TheVariants as Places
+use Rattle.link_vlans.specs.Runs.{runs_in}
+use Rattle.std.specs.Global.{Vec}
+use Rattle.shown.specs.Drafts.{Members}
+use Rattle.frame_diff.specs.Groups.{value_by}
+use Rattle.frame_shown.specs.Frames.{way_shown}
+use Rattle.frame_diff.specs.Values.{value_shown}
+use Rattle.frame_diff.specs.declared.leaf.Value.{Value}
+use Rattle.frame_diff.specs.declared.leaf.Value.TheVariants as Values
+use Rattle.std.proofs.Common.{append_assoc}
+use Rattle.frame_diff.specs.Items.{alone_texts, texts_by}
+use Rattle.frame_diff.specs.Differences.{is_shown_same}
 
 -- ** the values of a list, one attribute further
 
@@ -240,22 +264,32 @@ inside_some : (key : Option Key) (ns : List (Option ℕ)) (hs : List (Option Hel
 inside_some None ns hs long some = placed_some 0 hs some
 inside_some (Some key) ns hs long some = labelled_some key (labels_of ns) hs (labels_long [] ns ∙ long) some
 
-pub inside_plain : (hs : List (Option Held)) (inside : Forest)
-    → (are_plain hs ≡ false → has_none inside ≡ false) → has_none (values_inside hs inside) ≡ are_plain hs
-inside_plain hs inside some = by (are_plain hs) some
+pub inside_plain : (own : Bool) (hs : List (Option Held)) (inside : Forest)
+    → (are_plain hs ≡ false → has_none inside ≡ false) → has_none (values_inside own hs inside) ≡ are_plain hs
+inside_plain own hs inside some = by (are_plain hs) own some
   where
-    by : (b : Bool) → (b ≡ false → has_none inside ≡ false) → has_none (cond b Forest.none inside) ≡ b
-    by true is = refl
-    by false is = is refl
+    by : (b own : Bool) → (b ≡ false → has_none inside ≡ false) → has_none (cond b (flat_inside own hs) inside) ≡ b
+    by true true is = refl
+    by true false is = refl
+    by false own is = is refl
 
 -- what is inside a list of which some are
-pub inside_here : (hs : List (Option Held)) (inside : Forest) → are_plain hs ≡ false
-    → values_inside hs inside ≡ inside
-inside_here hs inside some = ap (λ b. cond b Forest.none inside) some
+pub inside_here : (own : Bool) (hs : List (Option Held)) (inside : Forest) → are_plain hs ≡ false
+    → values_inside own hs inside ≡ inside
+inside_here own hs inside some = ap (λ b. cond b (flat_inside own hs) inside) some
 
-pub inside_none : (hs : List (Option Held)) (inside : Forest) → are_plain hs ≡ true
-    → values_inside hs inside ≡ Forest.none
-inside_none hs inside plain = ap (λ b. cond b Forest.none inside) plain
+pub inside_none : (own : Bool) (hs : List (Option Held)) (inside : Forest) → are_plain hs ≡ true
+    → values_inside own hs inside ≡ flat_inside own hs
+inside_none own hs inside plain = ap (λ b. cond b (flat_inside own hs) inside) plain
+
+-- in which there are no members
+pub flat_lacks : (own : Bool) (hs : List (Option Held)) (s : Step) → find s (flat_inside own hs) ≡ None
+flat_lacks true hs s = refl
+flat_lacks false hs s = refl
+
+pub flat_runless : (own : Bool) (hs : List (Option Held)) → runs_inside (flat_inside own hs) ≡ []
+flat_runless true hs = refl
+flat_runless false hs = refl
 
 runs_some : (runs : Option (List Run)) (inside : Forest) → has_none inside ≡ false
     → has_none (runs_or runs inside) ≡ false
@@ -285,7 +319,7 @@ module _ (nest : Showing) (inner : Holding) (is_state : Bool) where
   pub group_plain : (a : Attributes)
       → has_none (group_held nest inner is_state a).1 ≡ are_plain (group_at nest inner is_state a)
   group_plain a =
-      inside_plain (group_at nest inner is_state a) (group_inside nest inner is_state a)
+      inside_plain (is_own_key a.number a.list) (group_at nest inner is_state a) (group_inside nest inner is_state a)
       (λ some. runs_some (runs_by a.number a.list (frames_in (items a.bytes.now)))
       (labelled_inside nest inner is_state a)
       (inside_some (key_at a.number a.list) (numbers_at nest inner is_state a) (group_at nest inner is_state a)
@@ -360,6 +394,25 @@ module _ (nest : Showing) (inner : Holding) (is_state : Bool) (cx : Around) wher
   plain_shown Shapes.Refused p h plain = absurd cc
   plain_shown (Shapes.Info link port) p h plain = absurd cc
 
+  -- of lists without entries, whatever their values are
+  pub list_shown_is : (picks : Option ℕ) (list : Shape) (p : List ℕ) → is_valued picks list ≡ true
+      → is_entries list ≡ false
+      → flat_shown (nest cx) cx picks list p
+      ≡ list_of (flat_map value_in (picked_values r picks list (frames_in (items p))))
+  list_shown_is None (Shapes.Listed group table) p h none =
+      ap list_of (sym (listed_texts (Shapes.Listed group table) (frames_in (items p))))
+  list_shown_is None (Shapes.Entries group) p h none = absurd cc
+  list_shown_is None (Shapes.Message family) p h none = absurd cc
+  list_shown_is None (Shapes.Own table) p h none = absurd cc
+  list_shown_is None (Shapes.Of place) p h none = absurd cc
+  list_shown_is None Shapes.ProtoInet6 p h none = absurd cc
+  list_shown_is None Shapes.Refused p h none = absurd cc
+  list_shown_is None (Shapes.Info link port) p h none = absurd cc
+  list_shown_is (Some n) list p h none =
+      ap list_of (sym (texts_are (values_with r list n (frames_in (items p)))
+      (shown_values n (map (frame_item (nest cx) cx list) (frames_in (items p))))
+      (values_agree is_state (nest cx) (inner is_state cx) cx list n (frames_in (items p)))))
+
   pub valued_shown : (picks : Option ℕ) (list : Shape) (p : List ℕ) → is_valued picks list ≡ true
       → are_plain (picked_values r picks list (frames_in (items p))) ≡ true
       → flat_shown (nest cx) cx picks list p
@@ -380,7 +433,7 @@ rest_step_now = rest_step (codes "other")
 
 -- one value of all of them
 abbrev all_held : Reading → Shape → List Frame → Held
-all_held r list fs = group_by (group_values r list fs) (inside_of (key_at None list)
+all_held r list fs = group_by (is_own_key None list) (group_values r list fs) (inside_of (key_at None list)
     (numbers_by (number_in r.around (key_at None list) list) (picked_by r None list) fs) (group_values r list fs))
 
 one_told : (side : Side) (text : List ℕ) (s : Step) (h : Held) (ms : List Member) (g : Forest) → comes s ms ≡ false
@@ -393,7 +446,7 @@ one_told side text s h ms g once =
 pub listed_told : (side : Side) (text : List ℕ) (r : Reading) (list : Shape) (fs : List Frame) (g : Forest)
     → (is_group list && not (is_entries list)) ≡ true
     → items_told side text (inner_of r list fs) g
-    ≡ held_items side (joined text (step_text (group_step list))) (all_held r list fs)
+    ≡ listed_items side (joined text (step_text (group_step list))) (all_held r list fs)
     (find (group_step list) g)
     ++ items_told side text (forest (others_at rest_step_now r list fs)) g
 listed_told side text r (Shapes.Listed group table) fs g h =
@@ -412,11 +465,11 @@ listed_told side text r (Shapes.Info link port) fs g h = absurd cc
 pub entries_told : (side : Side) (text : List ℕ) (r : Reading) (list : Shape) (fs : List Frame) (g : Forest)
     → is_entries list ≡ true
     → items_told side text (inner_of r list fs) g
-    ≡ held_items side (joined text (step_text (group_step list))) (all_held r list fs) (find (group_step list) g)
+    ≡ listed_items side (joined text (step_text (group_step list))) (all_held r list fs) (find (group_step list) g)
 entries_told side text r (Shapes.Entries group) fs g h =
     let s = entries_step (group_name group) in
     let held = all_held r (Shapes.Entries group) fs in
-    one_told side text s held [] g refl ∙ append-nil (held_items side (further text s) held (find s g))
+    one_told side text s held [] g refl ∙ append-nil (listed_items side (further text s) held (find s g))
 entries_told side text r (Shapes.Listed group table) fs g h = absurd cc
 entries_told side text r (Shapes.Message family) fs g h = absurd cc
 entries_told side text r (Shapes.Own table) fs g h = absurd cc
@@ -503,7 +556,7 @@ module _ (r : Reading) where
   rest_there (Shapes.Listed group table) fs h =
       let list = Shapes.Listed group table in
       sym (find_back rest_step_now
-      (group_of (values_step (group_name group)) (group_values r list fs) (places (group_values r list fs)) ∷ [])
+      (group_of (values_step (group_name group)) (is_own_key None list) (group_values r list fs) (places (group_values r list fs)) ∷ [])
       (others_at rest_step_now r list fs) refl)
   rest_there (Shapes.Entries group) fs h = absurd cc
   rest_there (Shapes.Message family) fs h = absurd cc
@@ -532,7 +585,8 @@ kept_runless is_state a = no_runs (labelled Keys.Number (labels_of (kept_numbers
 pub kept_told : (side : Side) (text : List ℕ) (hs gs : List (Option Held)) (inside other g : Forest)
     → runs_inside inside ≡ [] → runs_inside other ≡ []
     → find rest_step_now (forest (list_by rest_step_now gs other)) ≡ find rest_step_now g
-    → items_told side (joined text (codes "other")) inside other
+    → moved_items side (joined text (codes "other")) (list_of (flat_map value_in hs)) inside (list_beside gs other)
+    ++ items_told side (joined text (codes "other")) inside other
     ≡ items_told side text (forest (list_by rest_step_now hs inside)) g
 kept_told side text hs gs inside other g none none_too same =
     let all = list_by rest_step_now hs inside in
@@ -664,7 +718,444 @@ module _ (nest : Showing) (inner : Holding) (is_state : Bool) (side : Side) (tex
 -- what is told, where its path and both values are the same
 pub group_told : (side : Side) (text other : List ℕ) (h k : Held) (b d : Option Held) (was now : Draft)
     → text ≡ other → h ≡ k → b ≡ d
-    → now ≡ with_members (objects (held_items side text h b)) was
-    → now ≡ with_members (objects (held_items side other k d)) was
+    → now ≡ with_members (objects (listed_items side text h b)) was
+    → now ≡ with_members (objects (listed_items side other k d)) was
 group_told side text other h k b d was now path held beside told =
-    told ∙ (λ i. with_members (objects (held_items side (path i) (held i) (beside i))) was)
+    told ∙ (λ i. with_members (objects (listed_items side (path i) (held i) (beside i))) was)
+
+-- ** lists in another order
+
+-- members at labels, and members at places
+loose_forest : (m : Member) (ms : List Member) → AreAt (λ s. is_label s ≡ true) (m ∷ ms)
+    → is_loose (forest (m ∷ ms)) ≡ true
+loose_forest m [] all = all.0
+loose_forest m (n ∷ ms) all = by (comes m.0 (n ∷ ms)) (loose_forest n ms all.1)
+  where
+    by : (b : Bool) → is_loose (forest (n ∷ ms)) ≡ true
+        → is_loose (cond b (forest (n ∷ ms)) (Forest.tree m.0 m.1.0 m.1.1 (forest (n ∷ ms)))) ≡ true
+    by true later = later
+    by false later = all.0
+
+tight_forest : (ms : List Member) → AreAt (λ s. is_label s ≡ false) ms → is_loose (forest ms) ≡ false
+tight_forest [] all = refl
+tight_forest (m ∷ ms) all = by (comes m.0 ms) (tight_forest ms all.1)
+  where
+    by : (b : Bool) → is_loose (forest ms) ≡ false
+        → is_loose (cond b (forest ms) (Forest.tree m.0 m.1.0 m.1.1 (forest ms))) ≡ false
+    by true later = later
+    by false later = all.0
+
+labels_at : (key : Key) (ls : List Label) (hs : List (Option Held))
+    → AreAt (λ s. is_label s ≡ true) (labelled key ls hs)
+labels_at key [] hs = tt
+labels_at key (l ∷ ls) [] = tt
+labels_at key (l ∷ ls) (None ∷ hs) = labels_at key ls hs
+labels_at key (l ∷ ls) (Some h ∷ hs) = (refl, labels_at key ls hs)
+
+places_at : (n : ℕ) (hs : List (Option Held)) → AreAt (λ s. is_label s ≡ false) (placed n hs)
+places_at n [] = tt
+places_at n (None ∷ hs) = places_at (n + 1) hs
+places_at n (Some h ∷ hs) = (refl, places_at (n + 1) hs)
+
+labelled_loose : (key : Key) (ls : List Label) (hs : List (Option Held)) → length ls ≡ length hs
+    → are_plain hs ≡ false → is_loose (forest (labelled key ls hs)) ≡ true
+labelled_loose key [] [] long some = absurd cc
+labelled_loose key (l ∷ ls) [] long some = absurd cc
+labelled_loose key [] (h ∷ hs) long some = absurd cc
+labelled_loose key (l ∷ ls) (None ∷ hs) long some = labelled_loose key ls hs (omega (arith, long)) some
+labelled_loose key (l ∷ ls) (Some h ∷ hs) long some =
+    loose_forest (label_step key l, h) (labelled key ls hs) (refl, labels_at key ls hs)
+
+runs_loose : (found : Option (List Run)) (inside : Forest)
+    → is_loose (runs_or (unless_empty found) inside) ≡ (is_some_value (unless_empty found) || is_loose inside)
+runs_loose None inside = refl
+runs_loose (Some []) inside = refl
+runs_loose (Some (r ∷ rs)) inside = refl
+
+picked_loose : (picks : Option ℕ) (list : Shape) (fs : List Frame) (inside : Forest)
+    → is_loose (runs_or (runs_by picks list fs) inside) ≡ (is_some_value (runs_by picks list fs) || is_loose inside)
+picked_loose (Some n) (Shapes.Of Places.BridgeSpec) fs inside = runs_loose (runs_in n fs) inside
+picked_loose _ _ fs inside = refl
+
+or_true : (b : Bool) → (b || true) ≡ true
+or_true true = refl
+or_true false = refl
+
+or_false : (b : Bool) → (b || false) ≡ b
+or_false true = refl
+or_false false = refl
+
+module _ (nest : Showing) (inner : Holding) (is_state : Bool) (a : Attributes) where
+  abbrev numbers : List (Option ℕ)
+  numbers = numbers_at nest inner is_state a
+
+  abbrev values : List (Option Held)
+  values = group_at nest inner is_state a
+
+  abbrev inside_at : Option Key → Forest
+  inside_at key = inside_of key numbers values
+
+  whole_is : is_loose (group_inside nest inner is_state a)
+      ≡ (is_some_value (runs_at a) || is_loose (inside_at (key_at a.number a.list)))
+  whole_is = picked_loose a.number a.list (frames_in (items a.bytes.now)) (inside_at (key_at a.number a.list))
+
+  pub key_loose : (key : Key) → key_at a.number a.list ≡ Some key → are_plain values ≡ false
+      → is_loose (group_inside nest inner is_state a) ≡ true
+  key_loose key is some =
+      whole_is ∙ ap (λ k. is_some_value (runs_at a) || is_loose (inside_at k)) is
+      ∙ ap (λ b. is_some_value (runs_at a) || b)
+      (labelled_loose key (labels_of numbers) values (labels_long [] numbers
+      ∙ numbers_long (number_in a.around.now (key_at a.number a.list) a.list)
+      (picked_by (reading_at nest inner is_state a.around.now) a.number a.list) (frames_in (items a.bytes.now))
+      ∙ ap length (picked_flat (reading_at nest inner is_state a.around.now) a.number a.list
+      (frames_in (items a.bytes.now)))) some)
+      ∙ or_true (is_some_value (runs_at a))
+
+  pub place_tight : key_at a.number a.list ≡ None
+      → is_loose (group_inside nest inner is_state a) ≡ is_some_value (runs_at a)
+  place_tight is =
+      whole_is ∙ ap (λ k. is_some_value (runs_at a) || is_loose (inside_at k)) is
+      ∙ ap (λ b. is_some_value (runs_at a) || b) (tight_forest (placed 0 values) (places_at 0 values))
+      ∙ or_false (is_some_value (runs_at a))
+
+module _ (nest : Showing) (inner : Holding) (is_state : Bool) (side : Side) (text : List ℕ) (own : Attributes) where
+  abbrev own_held : Held
+  own_held = group_held nest inner is_state own
+
+  abbrev beside_held : Option Attributes → Option Held
+  beside_held beside = option_map (group_held nest inner is_state) beside
+
+  abbrev moved : Option Attributes → List Members
+  moved beside = moved_items side text own_held.0 own_held.1 (beside_held beside)
+
+  pub moved_unless : is_moved side ≡ false → (beside : Option Attributes) → moved beside ≡ []
+  moved_unless not beside =
+      ap (λ b. cond b (whole_items (is_loose own_held.1) text own_held.0 (beside_held beside)) []) not
+
+  pub moved_alone : moved None ≡ []
+  moved_alone = by (is_moved side)
+    where
+      by : (b : Bool) → cond b (whole_items (is_loose own_held.1) text own_held.0 None) [] ≡ []
+      by true = refl
+      by false = refl
+
+  own_loose : are_plain (group_at nest inner is_state own) ≡ false
+      → is_loose own_held.1 ≡ is_loose (group_inside nest inner is_state own)
+  own_loose some = ap is_loose (inside_here (is_own_key own.number own.list) (group_at nest inner is_state own)
+      (group_inside nest inner is_state own) some)
+
+  pub moved_tight : are_plain (group_at nest inner is_state own) ≡ false
+      → is_loose (group_inside nest inner is_state own) ≡ false → (beside : Option Attributes) → moved beside ≡ []
+  moved_tight some tight beside =
+      ap (λ o. cond (is_moved side) (whole_items o text own_held.0 (beside_held beside)) []) (own_loose some ∙ tight)
+      ∙ by (is_moved side) (beside_held beside)
+    where
+      by : (b : Bool) (o : Option Held) → cond b (whole_items false text own_held.0 o) [] ≡ []
+      by true None = refl
+      by true (Some h) = refl
+      by false o = refl
+
+  pub moved_whole : are_plain (group_at nest inner is_state own) ≡ false → is_moved side ≡ true
+      → is_loose (group_inside nest inner is_state own) ≡ true → (other : Attributes)
+      → moved (Some other) ≡ leaf_items Old text own_held.0 (Some (group_held nest inner is_state other).0)
+  moved_whole some is loose other = λ k.
+      cond (is k) (whole_items ((own_loose some ∙ loose) k) text own_held.0 (beside_held (Some other))) []
+
+-- ** entries, as they are told as a whole
+
+module _ (nest : Showing) (inner : Holding) (is_state : Bool) (cx : Around) (group : Group) where
+  abbrev entry_reading : Reading
+  entry_reading = reading_at nest inner is_state cx
+
+  entry_shown : (g : Group) (p : List ℕ)
+      → list_shown (nest cx) cx (entry_list g) (settled is_state (entry_list g) p)
+      ≡ (entry_of entry_reading (entry_list g) p).0
+  entry_shown Groups.AltIfname p = refl
+  entry_shown Groups.Info p = refl
+  entry_shown Groups.Port p = refl
+
+  settled_shown : (fs : List Frame)
+      → flat_map (list_shown (nest cx) cx (entry_list group)) (settled_in is_state group fs)
+      ≡ flat_map value_in (entries_in entry_reading (entry_list group) fs)
+  settled_shown [] = refl
+  settled_shown (f ∷ fs) = by (number f == 1) (settled_shown fs)
+    where
+      by : (b : Bool) → flat_map (list_shown (nest cx) cx (entry_list group)) (settled_in is_state group fs)
+          ≡ flat_map value_in (entries_in entry_reading (entry_list group) fs)
+          → flat_map (list_shown (nest cx) cx (entry_list group))
+          (cond b (settled is_state (entry_list group) f.payload ∷ []) [] ++ settled_in is_state group fs)
+          ≡ flat_map value_in (cond b (Some (entry_of entry_reading (entry_list group) f.payload) ∷ []) []
+          ++ entries_in entry_reading (entry_list group) fs)
+      by true later = λ k. entry_shown group f.payload k ++ later k
+      by false later = later
+
+  mapped_shown : (es : List (Vec ℕ)) → flat_map (λ (e : Vec ℕ). list_shown (nest cx) cx (entry_list group) e.items) es
+      ≡ flat_map (list_shown (nest cx) cx (entry_list group)) (map (λ (e : Vec ℕ). e.items) es)
+  mapped_shown [] = refl
+  mapped_shown (e ∷ es) = ap (λ ts. list_shown (nest cx) cx (entry_list group) e.items ++ ts) (mapped_shown es)
+
+pub entries_are : (nest : Showing) (inner : Holding) (is_state : Bool) (a : Attributes) (group : Group)
+    (es : List (Vec ℕ)) → a.number ≡ None → Shapes.Entries group ≡ a.list
+    → map (λ (e : Vec ℕ). e.items) es ≡ settled_in is_state group (frames_in (items a.bytes.now))
+    → list_of (flat_map (λ (e : Vec ℕ). list_shown (nest a.around.now) a.around.now (entry_list group) e.items) es)
+    ≡ (group_held nest inner is_state a).0
+entries_are nest inner is_state a group es none is are =
+    let cx = a.around.now in
+    let fs = frames_in (items a.bytes.now) in
+    ap list_of (mapped_shown nest inner is_state cx group es
+    ∙ ap (flat_map (list_shown (nest cx) cx (entry_list group))) are
+    ∙ settled_shown nest inner is_state cx group fs)
+    ∙ (λ k. list_of (flat_map value_in (picked_values (reading_at nest inner is_state cx) (sym none k) (is k) fs)))
+
+-- ** lists that are one value
+
+module _ (nest : Showing) (inner : Holding) (is_state : Bool) (side : Side) (text : List ℕ) (own : Attributes)
+    (beside : Option Held) (plain : are_plain (group_at nest inner is_state own) ≡ true) where
+  abbrev flat_held : Held
+  flat_held = group_held nest inner is_state own
+
+  flat_is : flat_held.1 ≡ flat_inside (is_own_key own.number own.list) (group_at nest inner is_state own)
+  flat_is = inside_none (is_own_key own.number own.list) (group_at nest inner is_state own)
+      (group_inside nest inner is_state own) plain
+
+  -- none is told as a list in another order
+  pub plain_listed : held_items side text flat_held beside ≡ listed_items side text flat_held beside
+  plain_listed = sym (ap (λ os. os ++ held_items side text flat_held beside)
+      (ap (λ o. cond (is_moved side) (whole_items o text flat_held.0 beside) [])
+      (ap is_loose flat_is ∙ tight (is_own_key own.number own.list) (group_at nest inner is_state own))
+      ∙ by (is_moved side) beside))
+    where
+      tight : (key : Bool) (hs : List (Option Held)) → is_loose (flat_inside key hs) ≡ false
+      tight true hs = refl
+      tight false hs = refl
+
+      by : (b : Bool) (o : Option Held) → cond b (whole_items false text flat_held.0 o) [] ≡ []
+      by true None = refl
+      by true (Some h) = refl
+      by false o = refl
+
+  -- one value, or values that are their own keys
+  pub flat_told : is_own_key own.number own.list ≡ false
+      → leaf_items side text flat_held.0 (leaf_in beside) ≡ held_items side text flat_held beside
+  flat_told other = sym (ap (λ f. member_items side text flat_held.0 f (items_told side text f) beside)
+      (flat_is ∙ ap (λ k. flat_inside k (group_at nest inner is_state own)) other))
+
+  pub keys_told : is_own_key own.number own.list ≡ true
+      → texts_items side text flat_held.0 (map value_in (group_at nest inner is_state own)) beside
+      ≡ held_items side text flat_held beside
+  keys_told key = sym (ap (λ f. member_items side text flat_held.0 f (items_told side text f) beside)
+      (flat_is ∙ ap (λ k. flat_inside k (group_at nest inner is_state own)) key))
+
+-- ** values that are their own keys
+
+pub mapped_some : {X Y : Type 0} (f : X → Y) (o : Option X)
+    → is_some_value (option_map f o) ≡ is_some_value o
+mapped_some f None = refl
+mapped_some f (Some x) = refl
+
+pub nothing_moved : (os : List Members) (page : Draft) → os ≡ [] → page ≡ with_members (objects os) page
+nothing_moved os page none = sym (ap (λ l. with_members (objects l) page) none)
+
+-- such a list is one of values, and none of entries
+pub key_valued : (picks : Option ℕ) (list : Shape) → is_own_key picks list ≡ true → is_valued picks list ≡ true
+key_valued None (Shapes.Listed group table) key = refl
+key_valued (Some n) list key = refl
+key_valued None (Shapes.Entries group) key = refl
+key_valued None (Shapes.Message family) key = absurd cc
+key_valued None (Shapes.Own table) key = absurd cc
+key_valued None (Shapes.Of place) key = absurd cc
+key_valued None Shapes.ProtoInet6 key = absurd cc
+key_valued None Shapes.Refused key = absurd cc
+key_valued None (Shapes.Info link port) key = absurd cc
+
+pub key_entries : (picks : Option ℕ) (list : Shape) → is_own_key picks list ≡ true → is_entries list ≡ false
+key_entries None (Shapes.Listed group table) key = refl
+key_entries (Some n) (Shapes.Of place) key = refl
+key_entries None (Shapes.Entries group) key = absurd cc
+key_entries (Some n) (Shapes.Entries group) key = absurd cc
+key_entries _ (Shapes.Message family) key = refl
+key_entries _ (Shapes.Own table) key = refl
+key_entries None (Shapes.Of place) key = refl
+key_entries (Some n) (Shapes.Listed group table) key = refl
+key_entries _ Shapes.ProtoInet6 key = refl
+key_entries _ Shapes.Refused key = refl
+key_entries _ (Shapes.Info link port) key = refl
+
+module _ (nest : Showing) (inner : Holding) (is_state : Bool) where
+  payload_shown : (a : Attribute) → is_entries a.list ≡ false
+      → (value_at nest inner is_state a).0 ≡ way_shown (nest a.around.now) a.around.now a.way a.payload.now
+  payload_shown a none = by a.list none
+    where
+      by : (list : Shape) → is_entries list ≡ false
+          → (value_by nest inner is_state list a).0 ≡ way_shown (nest a.around.now) a.around.now a.way a.payload.now
+      by (Shapes.Listed group table) none = refl
+      by (Shapes.Entries group) none = absurd cc
+      by (Shapes.Message family) none = refl
+      by (Shapes.Own table) none = refl
+      by (Shapes.Of place) none = refl
+      by Shapes.ProtoInet6 none = refl
+      by Shapes.Refused none = refl
+      by (Shapes.Info link port) none = refl
+
+  pub one_pushed : (cx : Around) (own : Attribute) (value : Option Attribute) (vs ws : List Value)
+      → value ≡ Some own → IfSome value (λ a. is_entries a.list ≡ false) → IfSome value (λ a. a.around.now ≡ cx)
+      → ws ≡ vs ++ Values.Payload own.way own.payload ∷ []
+      → map (value_shown (nest cx) cx) ws
+      ≡ map (value_shown (nest cx) cx) vs ++ map value_in (picked nest inner is_state value)
+  one_pushed cx own value vs ws is none around pushed =
+      let none_own : is_entries own.list ≡ false = subst (λ o. IfSome o (λ a. is_entries a.list ≡ false)) is none in
+      let around_own : own.around.now ≡ cx = subst (λ o. IfSome o (λ a. a.around.now ≡ cx)) is around in
+      ap (map (value_shown (nest cx) cx)) pushed
+      ∙ map-append (value_shown (nest cx) cx) vs (Values.Payload own.way own.payload ∷ [])
+      ∙ (λ k. map (value_shown (nest cx) cx) vs ++ way_shown (nest (sym around_own k)) (sym around_own k) own.way
+      own.payload.now ∷ [])
+      ∙ ap (λ t. map (value_shown (nest cx) cx) vs ++ t ∷ []) (sym (payload_shown own none_own))
+      ∙ ap (λ o. map (value_shown (nest cx) cx) vs ++ map value_in (picked nest inner is_state o)) (sym is)
+
+  pub none_pushed : (cx : Around) (value : Option Attribute) (vs : List Value) → value ≡ None
+      → map (value_shown (nest cx) cx) vs
+      ≡ map (value_shown (nest cx) cx) vs ++ map value_in (picked nest inner is_state value)
+  none_pushed cx value vs is =
+      sym (append-nil (map (value_shown (nest cx) cx) vs))
+      ∙ ap (λ o. map (value_shown (nest cx) cx) vs ++ map value_in (picked nest inner is_state o)) (sym is)
+
+  abbrev values_left_in : Attributes → List Item → List (List Token)
+  values_left_in list it =
+      map value_in (picked_values (reading_at nest inner is_state list.around.now) list.number list.list (frames_in it))
+
+  pub each_further : (list : Attributes) (f : Frame) (e : Option Attribute) (it next : List Item)
+      (ts us : List (List Token)) → it ≡ Ok f ∷ next
+      → picked nest inner is_state e
+      ≡ picked_by (reading_at nest inner is_state list.around.now) list.number list.list f
+      → us ≡ ts ++ map value_in (picked nest inner is_state e)
+      → ts ++ values_left_in list it ≡ map value_in (group_at nest inner is_state list)
+      → us ++ values_left_in list next ≡ map value_in (group_at nest inner is_state list)
+  each_further list f e it next ts us here looked pushed was =
+      let one = picked nest inner is_state e in
+      let rest = picked_values (reading_at nest inner is_state list.around.now) list.number list.list (frames_in next) in
+      ap (λ l. l ++ map value_in rest) pushed
+      ∙ append_assoc ts (map value_in one) (map value_in rest)
+      ∙ ap (λ l. ts ++ l) (sym (map-append value_in one rest)
+      ∙ ap (map value_in) (sym (list_split nest inner is_state list.number list.list list.around.now f e it next here
+      looked)))
+      ∙ was
+
+  pub each_over : (list : Attributes) (it : List Item) (ts : List (List Token)) → frames_in it ≡ []
+      → ts ++ values_left_in list it ≡ map value_in (group_at nest inner is_state list)
+      → ts ≡ map value_in (group_at nest inner is_state list)
+  each_over list it ts over was =
+      sym (append-nil ts)
+      ∙ ap (λ l. ts ++ map value_in l) (sym (ap (picked_values (reading_at nest inner is_state list.around.now)
+      list.number list.list) over ∙ picked_none (reading_at nest inner is_state list.around.now) list.number list.list))
+      ∙ was
+
+  pub shown_flat : (list : Attributes) → is_valued list.number list.list ≡ true
+      → are_plain (group_at nest inner is_state list) ≡ true
+      → flat_shown (nest list.around.now) list.around.now list.number list.list list.bytes.now
+      ≡ (group_held nest inner is_state list).0
+  shown_flat list valued plain =
+      valued_shown nest inner is_state list.around.now list.number list.list list.bytes.now valued plain
+
+  pub whole_shown_is : (list : Attributes) → is_valued list.number list.list ≡ true → is_entries list.list ≡ false
+      → flat_shown (nest list.around.now) list.around.now list.number list.list list.bytes.now
+      ≡ (group_held nest inner is_state list).0
+  whole_shown_is list valued none =
+      list_shown_is nest inner is_state list.around.now list.number list.list list.bytes.now valued none
+
+pub list_entries : (e : Option Attribute) (list : Shape) → is_entries list ≡ false → IfSome e (λ a. a.list ≡ list)
+    → IfSome e (λ a. is_entries a.list ≡ false)
+list_entries None list none are = tt
+list_entries (Some a) list none are = ap is_entries are ∙ none
+
+pub subst_some : (P : Attributes → Type 0) (e : Option Attributes) (a : Attributes) → e ≡ Some a → IfSome e P → P a
+subst_some P e a is all = subst (λ o. IfSome o P) is all
+
+pub same_beside : (e : Option Attributes) (a : Attributes) (beside : Option Attributes) → e ≡ Some a
+    → IfSome e (λ b. beside ≡ Some b) → beside ≡ Some a
+same_beside e a beside is all = subst (λ o. IfSome o (λ b. beside ≡ Some b)) is all
+
+-- ** such a list beside another one
+
+texts_alone : (side : Side) (text : List ℕ) (v : List Token) (vs : List (List Token)) (b : Option Held)
+    → leaf_in b ≡ None → texts_items side text v vs b ≡ alone_texts side text v vs None
+texts_alone side text v vs None none = refl
+texts_alone side text v vs (Some (w, Forest.none)) none = absurd cc
+texts_alone side text v vs (Some (w, Forest.passed)) none = refl
+texts_alone side text v vs (Some (w, Forest.vlans runs)) none = refl
+texts_alone side text v vs (Some (w, Forest.texts ws)) none = absurd cc
+texts_alone side text v vs (Some (w, Forest.tree a b c d)) none = refl
+
+pub none_leaf : (nest : Showing) (inner : Holding) (is_state : Bool) (e : Option Attributes) (b : Option Held)
+    → e ≡ None → option_map (λ a. (group_held nest inner is_state a).0) e ≡ leaf_in b → leaf_in b ≡ None
+none_leaf nest inner is_state e b is same =
+    sym same ∙ ap (option_map (λ a. (group_held nest inner is_state a).0)) is
+
+module _ (nest : Showing) (inner : Holding) (is_state : Bool) (side : Side) (text : List ℕ) (own : Attributes)
+    (plain : are_plain (group_at nest inner is_state own) ≡ true) (key : is_own_key own.number own.list ≡ true) where
+  abbrev key_held : Held
+  key_held = group_held nest inner is_state own
+
+  abbrev key_values : Attributes → List (List Token)
+  key_values a = map value_in (group_at nest inner is_state a)
+
+  other_is : (other : Attributes) → are_plain (group_at nest inner is_state other) ≡ true
+      → (group_held nest inner is_state other).1
+      ≡ flat_inside (is_own_key other.number other.list) (group_at nest inner is_state other)
+  other_is other plain_too = inside_none (is_own_key other.number other.list) (group_at nest inner is_state other)
+      (group_inside nest inner is_state other) plain_too
+
+  pub keys_alone : (b : Option Held) → leaf_in b ≡ None
+      → alone_texts side text key_held.0 (key_values own) None ≡ held_items side text key_held b
+  keys_alone b none =
+      sym (texts_alone side text key_held.0 (key_values own) b none)
+      ∙ keys_told nest inner is_state side text own b plain key
+
+  pub keys_flat : (other : Attributes) → are_plain (group_at nest inner is_state other) ≡ true
+      → is_own_key other.number other.list ≡ false
+      → leaf_items side text key_held.0 (Some (group_held nest inner is_state other).0)
+      ≡ held_items side text key_held (Some (group_held nest inner is_state other))
+  keys_flat other plain_too none =
+      let w = (group_held nest inner is_state other).0 in
+      sym (ap (λ f. texts_items side text key_held.0 (key_values own) (Some (w, f)))
+      (other_is other plain_too ∙ ap (λ k. flat_inside k (group_at nest inner is_state other)) none))
+      ∙ keys_told nest inner is_state side text own (Some (group_held nest inner is_state other)) plain key
+
+  pub keys_both : (other : Attributes) → are_plain (group_at nest inner is_state other) ≡ true
+      → is_own_key other.number other.list ≡ true
+      → cond (is_shown_same key_held.0 (group_held nest inner is_state other).0) []
+      (texts_by side text key_held.0 (key_values own) (group_held nest inner is_state other).0 (key_values other))
+      ≡ held_items side text key_held (Some (group_held nest inner is_state other))
+  keys_both other plain_too key_too =
+      let w = (group_held nest inner is_state other).0 in
+      sym (ap (λ f. texts_items side text key_held.0 (key_values own) (Some (w, f)))
+      (other_is other plain_too ∙ ap (λ k. flat_inside k (group_at nest inner is_state other)) key_too))
+      ∙ keys_told nest inner is_state side text own (Some (group_held nest inner is_state other)) plain key
+
+-- ** what is written, with other values that are the same
+
+pub leaf_written : (side : Side) (text : List ℕ) (v w x y : List Token) (page new : Draft) → v ≡ x → w ≡ y
+    → new ≡ with_members (objects (leaf_items side text v (Some w))) page
+    → new ≡ with_members (objects (leaf_items side text x (Some y))) page
+leaf_written side text v w x y page new one two told =
+    told ∙ (λ k. with_members (objects (leaf_items side text (one k) (Some (two k)))) page)
+
+pub both_written : (side : Side) (text : List ℕ) (v w x y : List Token) (vs ws xs ys : List (List Token))
+    (page new : Draft) → v ≡ x → w ≡ y → vs ≡ xs → ws ≡ ys
+    → new ≡ with_members (objects (cond (is_shown_same v w) [] (texts_by side text v vs w ws))) page
+    → new ≡ with_members (objects (cond (is_shown_same x y) [] (texts_by side text x xs y ys))) page
+both_written side text v w x y vs ws xs ys page new one two ones twos told = told
+    ∙ (λ k. with_members (objects (cond (is_shown_same (one k) (two k)) []
+    (texts_by side text (one k) (ones k) (two k) (twos k)))) page)
+
+pub alone_written : (side : Side) (text : List ℕ) (v x : List Token) (vs xs : List (List Token)) (page new : Draft)
+    → v ≡ x → vs ≡ xs → new ≡ with_members (objects (alone_texts side text v vs None)) page
+    → new ≡ with_members (objects (alone_texts side text x xs None)) page
+alone_written side text v x vs xs page new one ones told =
+    told ∙ (λ k. with_members (objects (alone_texts side text (one k) (ones k) None)) page)
+
+pub beside_written : (nest : Showing) (inner : Holding) (is_state : Bool) (side : Side) (text : List ℕ)
+    (own : Held) (a b : Option Held) (page new : Draft) → a ≡ b
+    → new ≡ with_members (objects (held_items side text own a)) page
+    → new ≡ with_members (objects (held_items side text own b)) page
+beside_written nest inner is_state side text own a b page new is told =
+    told ∙ ap (λ o. with_members (objects (held_items side text own o)) page) is

@@ -20,6 +20,7 @@ use Rattle.frame_diff.proofs.Apart.{find_none}
 use Rattle.frame_diff.proofs.Entries.{below}
 use Rattle.frame_diff.proofs.Steps.{step_is}
 use Rattle.frame_diff.specs.Forests.{AreApart, runs_inside}
+use Rattle.frame_diff.specs.Inside.{is_texts}
 
 -- ** members beside others of which alone their own steps count
 
@@ -27,6 +28,7 @@ abbrev pub AreAll : (Step → Type 0) → Forest → Type 0
 AreAll P Forest.none = Unit {0}
 AreAll P Forest.passed = Unit {0}
 AreAll P (Forest.vlans runs) = runs ≡ []
+AreAll P (Forest.texts vs) = Unit {0}
 AreAll P (Forest.tree s v i rest) = P s × AreAll P rest
 
 abbrev pub AreAt : (Step → Type 0) → List Member → Type 0
@@ -40,6 +42,7 @@ same_told P side text Forest.passed g h all same = refl
 same_told P side text (Forest.vlans runs) g h all same =
     ap (λ rs. items_told side text (Forest.vlans rs) g) all
     ∙ sym (ap (λ rs. items_told side text (Forest.vlans rs) h) all)
+same_told P side text (Forest.texts vs) g h all same = refl
 same_told P side text (Forest.tree s v i rest) g h all same =
     (λ k. step_items side text s (v, i) (same s all.0 k) ++ same_told P side text rest g h all.1 same k)
 
@@ -99,29 +102,33 @@ rows_left cx (row ∷ rows) is_any is_empty is none =
 -- ** a value, by what is inside it
 
 pub held_leaf : (side : Side) (text : List ℕ) (held : Held) (beside : Option Held) → has_none held.1 ≡ true
-    → held_items side text held beside ≡ leaf_items side text held.0 (leaf_in beside)
-held_leaf side text (v, Forest.none) beside none = refl
-held_leaf side text (v, Forest.passed) beside none = absurd cc
-held_leaf side text (v, Forest.vlans runs) beside none = absurd cc
-held_leaf side text (v, Forest.tree a b c d) beside none = absurd cc
+    → is_texts held.1 ≡ false → held_items side text held beside ≡ leaf_items side text held.0 (leaf_in beside)
+held_leaf side text (v, Forest.none) beside none plain = refl
+held_leaf side text (v, Forest.passed) beside none plain = absurd cc
+held_leaf side text (v, Forest.vlans runs) beside none plain = absurd cc
+held_leaf side text (v, Forest.texts vs) beside none plain = absurd cc
+held_leaf side text (v, Forest.tree a b c d) beside none plain = absurd cc
 
 pub held_rest : (side : Side) (text : List ℕ) (held : Held) (beside : Option Held) → has_none held.1 ≡ false
     → held_items side text held beside ≡ items_told side text held.1 (inside_in beside)
 held_rest side text (v, Forest.none) beside some = absurd cc
 held_rest side text (v, Forest.passed) beside some = refl
 held_rest side text (v, Forest.vlans runs) beside some = refl
+held_rest side text (v, Forest.texts vs) beside some = absurd cc
 held_rest side text (v, Forest.tree a b c d) beside some = refl
 
 pub leaf_here : (held : Held) → has_none held.1 ≡ true → Some held.0 ≡ leaf_in (Some held)
 leaf_here (v, Forest.none) none = refl
 leaf_here (v, Forest.passed) none = absurd cc
 leaf_here (v, Forest.vlans runs) none = absurd cc
+leaf_here (v, Forest.texts vs) none = refl
 leaf_here (v, Forest.tree a b c d) none = absurd cc
 
 pub leaf_not : (held : Held) → has_none held.1 ≡ false → None ≡ leaf_in (Some held)
 leaf_not (v, Forest.none) some = absurd cc
 leaf_not (v, Forest.passed) some = refl
 leaf_not (v, Forest.vlans runs) some = refl
+leaf_not (v, Forest.texts vs) some = absurd cc
 leaf_not (v, Forest.tree a b c d) some = refl
 
 -- ** fields
@@ -180,6 +187,7 @@ pub fieldless_all : (f : Forest) → AreApart f → runs_inside f ≡ []
 fieldless_all Forest.none apart none h = tt
 fieldless_all Forest.passed apart none h = tt
 fieldless_all (Forest.vlans runs) apart none h = none
+fieldless_all (Forest.texts vs) apart none h = tt
 fieldless_all (Forest.tree s v i rest) apart none h = (
   first_other s v i rest h,
   fieldless_all rest apart.2 apart.3 (λ name. rest_other s (field_step name) v i rest (h name)),

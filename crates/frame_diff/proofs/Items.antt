@@ -4,19 +4,21 @@ use Rattle.std.specs.Prelude.{Option, Some, None, cond, ◌&&◌}
 use Rattle.json.specs.Token.{Token}
 use Rattle.frame_diff.specs.Differences.{Change, inside_in, is_shown_same, leaf_change, leaf_in}
 use Rattle.frame_diff.specs.Forests.{Forest, Held, Path, Step, find, is_label}
-use Rattle.frame_diff.specs.Items.{change_item, further, is_leaf_untold, items_told, leaf_item, leaf_items}
+use Rattle.frame_diff.specs.Items.{alone_item, change_item, further, is_leaf_untold, is_list, is_loose, items_told}
+use Rattle.frame_diff.specs.Items.{leaf_item, leaf_items, list_items, texts_items, whole_items}
 use Rattle.frame_diff.specs.Items.{member_items, path_text, text_behind, turned_item}
 use Rattle.frame_diff.specs.Laws.{ItemsAreChanges}
 use Rattle.frame_diff.specs.Wholes.{cut, is_alone}
 use Rattle.frame_diff.specs.declared.side.Side.{Side}
-use Rattle.frame_diff.specs.declared.side.Side.TheVariants.{Old, New}
-use Rattle.std.proofs.Common.{append_assoc}
+use Rattle.frame_diff.specs.declared.side.Side.TheVariants.{Old, New, Moved}
+use Rattle.std.proofs.Common.{append_assoc, append-nil}
 use Rattle.std.specs.List.{flat_map}
 use Rattle.link_vlans.specs.Pieces.{pieces_of}
 use Rattle.link_vlans.specs.declared.pieces.Piece.{Piece}
 use Rattle.frame_diff.specs.Forests.{runs_inside}
 use Rattle.frame_diff.specs.Items.{piece_items}
-use Rattle.frame_diff.specs.Ranges.{Told, both_by, member_by, told_by, told_items}
+use Rattle.frame_diff.specs.Ranges.{Told, both_by, list_told, member_by, told_by, told_items, whole_told}
+use Rattle.frame_diff.specs.Sides.{is_moved}
 
 map_joined : {A B : Type 0} (f : A → B) (xs ys : List A) → map f (xs ++ ys) ≡ map f xs ++ map f ys
 map_joined f [] ys = refl
@@ -38,20 +40,24 @@ leaf_is Old path v (Some w) = by (is_shown_same v w)
     by true = refl
     by false = refl
 leaf_is New path v (Some w) = refl
+leaf_is Moved path v None = refl
+leaf_is Moved path v (Some w) = refl
 
 -- of a leaf
 
 pub leaf_untold : (side : Side) (text : List ℕ) (v : List Token) (beside : Option (List Token))
     → is_leaf_untold side v beside ≡ true → leaf_items side text v beside ≡ []
-leaf_untold side text v None h = absurd cc
+leaf_untold side text v None h = ap (λ b. cond b [] (alone_item text side v ∷ [])) h
 leaf_untold Old text v (Some w) h = ap (λ b. cond b [] (turned_item text v w ∷ [])) h
 leaf_untold New text v (Some w) h = refl
+leaf_untold Moved text v (Some w) h = refl
 
 pub leaf_told : (side : Side) (text : List ℕ) (v : List Token) (beside : Option (List Token))
     → is_leaf_untold side v beside ≡ false → leaf_items side text v beside ≡ leaf_item side text v beside ∷ []
-leaf_told side text v None h = refl
+leaf_told side text v None h = ap (λ b. cond b [] (alone_item text side v ∷ [])) h
 leaf_told Old text v (Some w) h = ap (λ b. cond b [] (turned_item text v w ∷ [])) h
 leaf_told New text v (Some w) h = absurd cc
+leaf_told Moved text v (Some w) h = absurd cc
 
 ones_are : (cs : List Change) → flat_map told_items (map Told.one cs) ≡ map change_item cs
 ones_are [] = refl
@@ -80,21 +86,56 @@ member_is side path v Forest.none beside inner false =
     leaf_is side path v (leaf_in beside) ∙ sym (ones_are (leaf_change side path v (leaf_in beside)))
 member_is side path v Forest.passed beside inner false = refl
 member_is side path v (Forest.vlans runs) beside inner false = inner
+member_is side path v (Forest.texts vs) beside inner false = sym (append-nil (texts_items side (path_text path) v vs beside))
 member_is side path v (Forest.tree a b c d) beside inner false = inner
+
+-- of a list that both write otherwise
+whole_is : (loose : Bool) (path : Path) (v : List Token) (beside : Option Held)
+    → whole_items loose (path_text path) v beside ≡ flat_map told_items (whole_told loose path v beside)
+whole_is loose path v None = refl
+whole_is false path v (Some held) = refl
+whole_is true path v (Some held) =
+    leaf_is Old path v (Some held.0) ∙ sym (ones_are (leaf_change Old path v (Some held.0)))
+
+list_is : (side : Side) (path : Path) (s : Step) (v : List Token) (i : Forest) (beside : Option Held)
+    → list_items side (path_text path) s v i beside ≡ flat_map told_items (list_told side path s v i beside)
+list_is side path s v i beside = by (is_list s) (is_moved side)
+  where
+    by : (l m : Bool) → cond l (cond m (whole_items (is_loose i) (path_text path) v beside) []) []
+        ≡ flat_map told_items (cond l (cond m (whole_told (is_loose i) path v beside) []) [])
+    by true true = whole_is (is_loose i) path v beside
+    by true false = refl
+    by false m = refl
+
+runs_are : (side : Side) (path : Path) (ps : List Piece)
+    → cond (is_moved side) [] (flat_map (piece_items side (path_text path)) ps)
+    ≡ flat_map told_items (cond (is_moved side) [] (map (Told.vlans side path) ps))
+runs_are side path ps = by (is_moved side)
+  where
+    by : (m : Bool) → cond m [] (flat_map (piece_items side (path_text path)) ps)
+        ≡ flat_map told_items (cond m [] (map (Told.vlans side path) ps))
+    by true = refl
+    by false = pieces_are side path ps
 
 pub items_are : ItemsAreChanges
 items_are side path Forest.none g = refl
 items_are side path Forest.passed g = refl
-items_are side path (Forest.vlans runs) g = pieces_are side path (pieces_of runs (runs_inside g))
+items_are side path (Forest.vlans runs) g = runs_are side path (pieces_of runs (runs_inside g))
+items_are side path (Forest.texts vs) g = refl
 items_are side path (Forest.tree s v i rest) g =
     let beside = find s g in
-    ap (λ text. member_items side text v (cut s beside i) (items_told side text i) beside
+    let at = path ++ s ∷ [] in
+    let list = list_told side at s v i beside in
+    let one = member_by side at v (cut s beside i) (told_by side at i) beside in
+    ap (λ text. (list_items side text s v i beside
+    ++ member_items side text v (cut s beside i) (items_told side text i) beside)
     ++ items_told side (path_text path) rest g) (sym (text_further [] path s))
-    ∙ (λ k. member_is side (path ++ s ∷ []) v i beside
-    (items_are side (path ++ s ∷ []) i (inside_in beside)) (is_label s && is_alone beside) k
+    ∙ (λ k. (list_is side at s v i beside k
+    ++ member_is side at v i beside (items_are side at i (inside_in beside)) (is_label s && is_alone beside) k)
     ++ items_are side path rest g k)
-    ∙ sym (items_joined (member_by side (path ++ s ∷ []) v (cut s beside i) (told_by side (path ++ s ∷ []) i) beside)
-    (told_by side path rest g))
+    ∙ append_assoc (flat_map told_items list) (flat_map told_items one) (flat_map told_items (told_by side path rest g))
+    ∙ ap (λ os. flat_map told_items list ++ os) (sym (items_joined one (told_by side path rest g)))
+    ∙ sym (items_joined list (one ++ told_by side path rest g))
 
 -- of an old object and a new one
 pub both_are : (f g : Forest)

@@ -43,6 +43,9 @@ use Rattle.frame_shown.specs.declared.form.List.{List as Shape}
 use Rattle.frame_shown.specs.declared.form.List.TheVariants as Shapes
 use Rattle.frame_diff.specs.Groups.{group_inside, runs_at}
 use Rattle.frame_diff.specs.Members.{runs_by, runs_or}
+use Rattle.frame_diff.specs.Members.{flat_inside, is_own_key}
+use Rattle.frame_diff.proofs.Grouped.{flat_lacks, flat_runless}
+use Rattle.frame_diff.specs.Items.{runs_items}
 
 -- ** steps
 
@@ -120,6 +123,16 @@ any_inside None ns hs = forest_all (λ s. Unit {0}) (placed 0 hs) (any_at (place
 any_inside (Some key) ns hs =
     let ms = labelled key (labels_of ns) hs in forest_all (λ s. Unit {0}) ms (any_at ms)
 
+-- beside forests in which the same is found
+all_same : (side : Side) (text : List ℕ) (f g h : Forest) → ((s : Step) → find s g ≡ find s h)
+    → runs_inside g ≡ runs_inside h → items_told side text f g ≡ items_told side text f h
+all_same side text Forest.none g h found runs = refl
+all_same side text Forest.passed g h found runs = refl
+all_same side text (Forest.vlans rs) g h found runs = ap (runs_items side text rs) runs
+all_same side text (Forest.texts vs) g h found runs = refl
+all_same side text (Forest.tree s v i rest) g h found runs = λ k.
+    step_items side text s (v, i) (found s k) ++ all_same side text rest g h found runs k
+
 -- ** another list
 
 empty_inside : (key : Option Key) → inside_of key [] [] ≡ Forest.none
@@ -185,12 +198,34 @@ module _ (nest : Showing) (inner : Holding) (is_state : Bool) where
       ∙ ap (λ o. runs_or o (inside a)) (no_runs_of a.number a.list)
       ∙ nothing_inside a none
 
+  flat_beside : (other : Attributes) (beside : Option Attributes) → beside ≡ Some other
+      → are_plain (values other) ≡ true
+      → inside_in (option_map held beside) ≡ flat_inside (is_own_key other.number other.list) (values other)
+  flat_beside other beside is plain =
+      ap (λ b. inside_in (option_map held b)) is
+      ∙ inside_none (is_own_key other.number other.list) (values other) (whole other) plain
+
+  -- what is found in one without values is what is found in one value
   pub plain_beside : (other a : Attributes) (beside : Option Attributes) → beside ≡ Some other
       → are_plain (values other) ≡ true → items a.bytes.now ≡ []
-      → whole a ≡ inside_in (option_map held beside)
-  plain_beside other a beside is plain none =
-      nothing_whole a none
-      ∙ sym (ap (λ b. inside_in (option_map held b)) is ∙ inside_none (values other) (whole other) plain)
+      → (s : Step) → find s (whole a) ≡ find s (inside_in (option_map held beside))
+  plain_beside other a beside is plain none s =
+      ap (find s) (nothing_whole a none)
+      ∙ sym (ap (find s) (flat_beside other beside is plain)
+      ∙ flat_lacks (is_own_key other.number other.list) (values other) s)
+
+  pub plain_runless : (other a : Attributes) (beside : Option Attributes) → beside ≡ Some other
+      → are_plain (values other) ≡ true → items a.bytes.now ≡ []
+      → runs_inside (whole a) ≡ runs_inside (inside_in (option_map held beside))
+  plain_runless other a beside is plain none =
+      ap runs_inside (nothing_whole a none)
+      ∙ sym (ap runs_inside (flat_beside other beside is plain)
+      ∙ flat_runless (is_own_key other.number other.list) (values other))
+
+  -- and there is none
+  pub none_beside : (a : Attributes) → items a.bytes.now ≡ [] → (s : Step)
+      → find s (whole a) ≡ None
+  none_beside a none s = ap (find s) (nothing_whole a none)
 
   -- ** beside a list of VLANs
 
@@ -253,13 +288,14 @@ module _ (nest : Showing) (inner : Holding) (is_state : Bool) where
 
     -- of which some are objects or lists
     pub values_told : (own others : Attributes) (beside : Option Attributes) → are_plain (values own) ≡ false
-        → whole others ≡ inside_in (option_map held beside)
+        → ((s : Step) → find s (whole others) ≡ find s (inside_in (option_map held beside)))
+        → runs_inside (whole others) ≡ runs_inside (inside_in (option_map held beside))
         → items_told side text (whole own) (whole others)
         ≡ held_items side text (held own) (option_map held beside)
-    values_told own others beside some is =
-        ap (items_told side text (whole own)) is
+    values_told own others beside some found runs =
+        all_same side text (whole own) (whole others) (inside_in (option_map held beside)) found runs
         ∙ ap (λ f. items_told side text f (inside_in (option_map held beside)))
-        (sym (inside_here (values own) (whole own) some))
+        (sym (inside_here (is_own_key own.number own.list) (values own) (whole own) some))
         ∙ sym (held_rest side text (held own) (option_map held beside) (group_plain nest inner is_state own ∙ some))
 
 -- ** no two values have one label

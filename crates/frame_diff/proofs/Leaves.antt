@@ -54,6 +54,8 @@ within v Forest.none [] = Some v
 within v Forest.none (s ∷ path) = None
 within v Forest.passed path = None
 within v (Forest.vlans runs) path = None
+within v (Forest.texts vs) [] = Some v
+within v (Forest.texts vs) (s ∷ path) = None
 within v (Forest.tree a b c d) path = value_at (leaves (Forest.tree a b c d)) path
 
 abbrev pub beneath : Option Held → Path → Option (List Token)
@@ -67,6 +69,8 @@ member_value s t v Forest.none [] same = ap (λ b. cond (b && true) (Some v) Non
 member_value s t v Forest.none (x ∷ path) same = ap (λ b. cond (b && false) (Some v) None) same
 member_value s t v Forest.passed path same = refl
 member_value s t v (Forest.vlans runs) path same = refl
+member_value s t v (Forest.texts vs) [] same = ap (λ b. cond (b && true) (Some v) None) same
+member_value s t v (Forest.texts vs) (x ∷ path) same = ap (λ b. cond (b && false) (Some v) None) same
 member_value s t v (Forest.tree a b c d) path same = value_under s t (leaves (Forest.tree a b c d)) path same
 
 member_lacks : (s t : Step) (v : List Token) (i : Forest) (path : Path) → is_step s t ≡ false
@@ -74,6 +78,7 @@ member_lacks : (s t : Step) (v : List Token) (i : Forest) (path : Path) → is_s
 member_lacks s t v Forest.none path other = ap (λ b. cond (b && is_path [] path) (Some v) None) other
 member_lacks s t v Forest.passed path other = refl
 member_lacks s t v (Forest.vlans runs) path other = refl
+member_lacks s t v (Forest.texts vs) path other = ap (λ b. cond (b && is_path [] path) (Some v) None) other
 member_lacks s t v (Forest.tree a b c d) path other =
     value_not_under s t (leaves (Forest.tree a b c d)) path other
 
@@ -83,6 +88,7 @@ pub value_of : (g : Forest) (t : Step) (path : Path) → AreApart g
 value_of Forest.none t path apart = refl
 value_of Forest.passed t path apart = refl
 value_of (Forest.vlans runs) t path apart = refl
+value_of (Forest.texts vs) t path apart = refl
 value_of (Forest.tree s v i rest) t path apart =
     value_append (leaves_at s v i (leaves i)) (leaves rest) (t ∷ path)
     ∙ by (is_step s t) refl (value_of rest t path apart.2)
@@ -117,6 +123,7 @@ pub have_steps : (f : Forest) → HaveSteps (leaves f)
 have_steps Forest.none = tt
 have_steps Forest.passed = tt
 have_steps (Forest.vlans runs) = tt
+have_steps (Forest.texts vs) = tt
 have_steps (Forest.tree s v i rest) =
     append_steps (leaves_at s v i (leaves i)) (leaves rest) (at i (leaves i)) (have_steps rest)
   where
@@ -124,6 +131,7 @@ have_steps (Forest.tree s v i rest) =
     at Forest.none ls = tt
     at Forest.passed ls = tt
     at (Forest.vlans runs) ls = tt
+    at (Forest.texts vs) ls = tt
     at (Forest.tree a b c d) ls = under_steps s ls
 
 -- ** members beside others
@@ -136,6 +144,7 @@ pub inside_apart : (t : Step) (g : Forest) → AreApart g → AreApart (inside_i
 inside_apart t Forest.none apart = tt
 inside_apart t Forest.passed apart = tt
 inside_apart t (Forest.vlans runs) apart = tt
+inside_apart t (Forest.texts vs) apart = tt
 inside_apart t (Forest.tree s v i rest) apart = by (is_step s t) (inside_apart t rest apart.2)
   where
     by : (b : Bool) → AreApart (inside_in (find t rest))
@@ -148,6 +157,7 @@ leaf_beneath None = refl
 leaf_beneath (Some (v, Forest.none)) = refl
 leaf_beneath (Some (v, Forest.passed)) = refl
 leaf_beneath (Some (v, Forest.vlans runs)) = refl
+leaf_beneath (Some (v, Forest.texts vs)) = refl
 leaf_beneath (Some (v, Forest.tree a b c d)) = lacks (leaves (Forest.tree a b c d)) (have_steps (Forest.tree a b c d))
   where
     lacks : (ls : List Leaf) → HaveSteps ls → value_at ls [] ≡ None
@@ -161,6 +171,7 @@ inner_beneath None s path = refl
 inner_beneath (Some (v, Forest.none)) s path = refl
 inner_beneath (Some (v, Forest.passed)) s path = refl
 inner_beneath (Some (v, Forest.vlans runs)) s path = refl
+inner_beneath (Some (v, Forest.texts vs)) s path = refl
 inner_beneath (Some (v, Forest.tree a b c d)) s path = refl
 
 -- leaves inside a member, by those of what is inside the one beside it
@@ -185,6 +196,9 @@ member_is side path s v Forest.none g apart inner =
     ∙ sym (append-nil (leaf_change side (path ++ s ∷ []) v (value_at (leaves g) (s ∷ []))))
 member_is side path s v Forest.passed g apart inner = refl
 member_is side path s v (Forest.vlans runs) g apart inner = refl
+member_is side path s v (Forest.texts vs) g apart inner =
+    ap (leaf_change side (path ++ s ∷ []) v) (sym (value_of g s [] apart ∙ leaf_beneath (find s g)))
+    ∙ sym (append-nil (leaf_change side (path ++ s ∷ []) v (value_at (leaves g) (s ∷ []))))
 member_is side path s v (Forest.tree a b c d) g apart inner =
     inner ∙ under_says side path s g (leaves (Forest.tree a b c d)) apart (have_steps (Forest.tree a b c d))
 
@@ -193,6 +207,7 @@ pub told_is : (side : Side) (path : Path) (f g : Forest) → AreApart g
 told_is side path Forest.none g apart = refl
 told_is side path Forest.passed g apart = refl
 told_is side path (Forest.vlans runs) g apart = refl
+told_is side path (Forest.texts vs) g apart = refl
 told_is side path (Forest.tree s v i rest) g apart =
     (λ k. member_is side path s v i g apart
     (told_is side (path ++ s ∷ []) i (inside_in (find s g)) (inside_apart s g apart)) k

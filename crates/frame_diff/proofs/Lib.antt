@@ -1,5 +1,6 @@
 pub mod Steps
 pub mod Labelled
+pub mod EachTold
 pub mod Unnamed
 pub mod Values
 pub mod ListRows
@@ -19,6 +20,7 @@ pub mod Texts
 pub mod Walked
 pub mod There
 pub mod Entries
+pub mod FieldsTold
 pub mod Parts
 pub mod Repeated
 pub mod Inside
@@ -27,6 +29,8 @@ pub mod Nested
 pub mod Grouped
 pub mod ArraysTold
 pub mod KeyedTold
+pub mod Moved
+pub mod Slots
 pub mod Sorts
 pub mod Told
 pub mod Names

@@ -7,7 +7,7 @@ use Rattle.frame_diff.specs.Forests.{AreApart, Forest, Leaf, Path, Step, find, i
 use Rattle.frame_diff.specs.Forests.{under, value_at}
 use Rattle.frame_diff.specs.Laws.{AreOnce, EachIsToldOnce}
 use Rattle.frame_diff.specs.declared.side.Side.{Side}
-use Rattle.frame_diff.specs.declared.side.Side.TheVariants.{Old, New}
+use Rattle.frame_diff.specs.declared.side.Side.TheVariants.{Old, New, Moved}
 use Rattle.frame_diff.proofs.Leaves.{all_told, beneath, either, value_append, value_of, value_under}
 use Rattle.frame_diff.proofs.Steps.{path_is, path_same, step_is}
 
@@ -44,6 +44,7 @@ pub leaves_once : (f : Forest) → AreApart f → StandOnce (leaves f)
 leaves_once Forest.none apart = tt
 leaves_once Forest.passed apart = tt
 leaves_once (Forest.vlans runs) apart = tt
+leaves_once (Forest.texts vs) apart = tt
 leaves_once (Forest.tree s v i rest) apart =
     append_once (leaves_at s v i (leaves i)) (leaves rest) (once i (leaves_once i apart.1))
     (leaves_once rest apart.2) (lack i)
@@ -52,12 +53,14 @@ leaves_once (Forest.tree s v i rest) apart =
     once Forest.none h = (refl, tt)
     once Forest.passed h = tt
     once (Forest.vlans runs) h = tt
+    once (Forest.texts vs) h = (refl, tt)
     once (Forest.tree a b c d) h = under_once s (leaves i) h
 
     lack : (j : Forest) → Lack (leaves_at s v j (leaves i)) (leaves rest)
     lack Forest.none = (value_of rest s [] apart.2 ∙ ap (λ o. beneath o []) apart.0, tt)
     lack Forest.passed = tt
     lack (Forest.vlans runs) = tt
+    lack (Forest.texts vs) = (value_of rest s [] apart.2 ∙ ap (λ o. beneath o []) apart.0, tt)
     lack (Forest.tree a b c d) = under_lack s (leaves i) rest apart.2 apart.0
 
 -- ** what they say
@@ -73,6 +76,7 @@ one_told Old p v (Some w) path other = by (is_shown_same v w)
     by false = ap (λ b. b || false) other
 one_told New p v None path other = ap (λ b. b || false) other
 one_told New p v (Some w) path other = refl
+one_told Moved p v beside path other = refl
 
 told_append : (xs ys : List Change) (path : Path) → is_told xs path ≡ false → is_told ys path ≡ false
     → is_told (xs ++ ys) path ≡ false
@@ -112,6 +116,7 @@ in_front Old p v (Some w) cs none once = by (is_shown_same v w)
     by false = (none, once)
 in_front New p v None cs none once = (none, once)
 in_front New p v (Some w) cs none once = once
+in_front Moved p v beside cs none once = once
 
 -- what came is at no path of the old ones
 came_lacks : (ls old : List Leaf) (path : Path) (v : List Token) → value_at old path ≡ Some v

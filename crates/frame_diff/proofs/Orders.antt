@@ -4,10 +4,10 @@ use Rattle.frame_shown.specs.Plain.{IsPlain, plain}
 use Rattle.frame_shown.specs.declared.form.Around.{Around}
 use Rattle.frame_shown.specs.declared.form.Order.{Order}
 use Rattle.frame_shown.proofs.PlainRows.{plain_is}
-use Rattle.frame_diff.specs.Laws.{messages_by, messages_told}
+use Rattle.frame_diff.specs.Laws.{messages_by, messages_moved, messages_told}
 use Rattle.frame_diff.specs.Members.{Parts}
 use Rattle.frame_diff.specs.Messages.{with_order}
-use Rattle.frame_diff.specs.Ranges.{both_by}
+use Rattle.frame_diff.specs.Ranges.{both_by, moved_by}
 use Rattle.frame_diff.specs.Wholes.{between}
 use Rattle.frame_diff.proofs.Plain.{forests_alike, made_alike}
 
@@ -29,5 +29,14 @@ pub plainly_by : (is_state : Bool) (order other : Order) (cx : Around) → IsPla
     ≡ messages_by is_state (plain order) (plain other) old new
 plainly_by is_state order other cx is old new =
     (λ k. both_by (made_alike order cx (plain order) is (plain_is order) is_state old k)
+    (made_alike other (with_order cx other) (plain other) (ordered order other cx is) (plain_is other) is_state
+    new k))
+
+-- of lists in another order
+pub plainly_moved : (is_state : Bool) (order other : Order) (cx : Around) → IsPlain order cx → (old new : Parts)
+    → messages_moved is_state cx (with_order cx other) old new
+    ≡ messages_moved is_state (plain order) (plain other) old new
+plainly_moved is_state order other cx is old new =
+    (λ k. moved_by (made_alike order cx (plain order) is (plain_is order) is_state old k)
     (made_alike other (with_order cx other) (plain other) (ordered order other cx is) (plain_is other) is_state
     new k))

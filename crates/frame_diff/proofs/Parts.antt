@@ -27,6 +27,15 @@ use Rattle.frame_diff.specs.Labels.{labelled, labels_of}
 use Rattle.frame_diff.specs.Members.{kept_with, numbers_by, placed}
 use Rattle.frame_diff.specs.declared.keys.Key.TheVariants as Keys
 use Rattle.frame_diff.proofs.Apart.{no_runs}
+use Rattle.frame_diff.specs.Items.{list_items, moved_items, piece_items}
+use Rattle.frame_diff.specs.Keyed.{held_unless, list_beside}
+use Rattle.frame_diff.specs.Members.{value_in}
+use Rattle.frame_diff.specs.Sides.{is_moved}
+use Rattle.frame_diff.proofs.Walked.{not_loose}
+use Rattle.shown.specs.Drafts.{list_of}
+use Rattle.std.specs.List.{flat_map}
+use Rattle.link_vlans.specs.Pieces.{pieces_of}
+use Rattle.frame_diff.specs.Members.{is_own_key}
 
 -- ** what stands at a step
 
@@ -140,9 +149,10 @@ arrays_append : (xs ys : List Member) → AreArrays xs → AreArrays ys → AreA
 arrays_append [] ys h k = k
 arrays_append (x ∷ xs) ys h k = (h.0, arrays_append xs ys h.1 k)
 
-array_array : (name : List ℕ) (hs : List (Option Held)) (inside : Forest) → AreArrays (array_at name hs inside)
-array_array name [] inside = tt
-array_array name (h ∷ hs) inside = ((name, refl), tt)
+array_array : (name : List ℕ) (own : Bool) (hs : List (Option Held)) (inside : Forest)
+    → AreArrays (array_at name own hs inside)
+array_array name own [] inside = tt
+array_array name own (h ∷ hs) inside = ((name, refl), tt)
 
 pub arrays_arrays : (r : Reading) (list : Shape) (lists : Lists) (fs : List Frame)
     → AreArrays (arrays_of r list lists fs)
@@ -150,7 +160,8 @@ arrays_arrays r list [] fs = tt
 arrays_arrays r list (l ∷ lists) fs =
     let hs = values_with r list l.0 fs in
     let inside = inside_with r list l.0 fs in
-    arrays_append (array_at l.1 hs inside) (arrays_of r list lists fs) (array_array l.1 hs inside)
+    let own = is_own_key (Some l.0) list in
+    arrays_append (array_at l.1 own hs inside) (arrays_of r list lists fs) (array_array l.1 own hs inside)
     (arrays_arrays r list lists fs)
 
 pub list_lacks : (t s : Step) (hs : List (Option Held)) (inside : Forest) → is_step s t ≡ false
@@ -158,6 +169,7 @@ pub list_lacks : (t s : Step) (hs : List (Option Held)) (inside : Forest) → is
 list_lacks t s hs Forest.none other = refl
 list_lacks t s hs Forest.passed other = refl
 list_lacks t s hs (Forest.vlans runs) other = refl
+list_lacks t s hs (Forest.texts vs) other = refl
 list_lacks t s hs (Forest.tree a b c d) other = ap (λ x. cond x true false) other
 
 pub names_lack : (ms : List Member) (s : Step) (hs : List (Option Held)) (inside : Forest) → AreNames ms → IsNoName s
@@ -180,6 +192,7 @@ pub list_lacks_names : (s : Step) (hs : List (Option Held)) (inside : Forest) (m
 list_lacks_names s hs Forest.none ms names none = tt
 list_lacks_names s hs Forest.passed ms names none = tt
 list_lacks_names s hs (Forest.vlans runs) ms names none = tt
+list_lacks_names s hs (Forest.texts vs) ms names none = tt
 list_lacks_names s hs (Forest.tree a b c d) ms names none = (no_names s ms names none, tt)
 
 pub lists_lack : (s t : Step) (hs gs : List (Option Held)) (inside other : Forest) → is_step t s ≡ false
@@ -187,6 +200,7 @@ pub lists_lack : (s t : Step) (hs gs : List (Option Held)) (inside other : Fores
 lists_lack s t hs gs Forest.none other apart = tt
 lists_lack s t hs gs Forest.passed other apart = tt
 lists_lack s t hs gs (Forest.vlans runs) other apart = tt
+lists_lack s t hs gs (Forest.texts vs) other apart = tt
 lists_lack s t hs gs (Forest.tree a b c d) other apart = (list_lacks s t gs other apart, tt)
 
 -- no name is a list of values
@@ -224,13 +238,14 @@ pub list_lacks_arrays : (s : Step) (hs : List (Option Held)) (inside : Forest) (
 list_lacks_arrays s hs Forest.none ms arrays none = tt
 list_lacks_arrays s hs Forest.passed ms arrays none = tt
 list_lacks_arrays s hs (Forest.vlans runs) ms arrays none = tt
+list_lacks_arrays s hs (Forest.texts vs) ms arrays none = tt
 list_lacks_arrays s hs (Forest.tree a b c d) ms arrays none = (no_arrays s ms arrays none, tt)
 
 -- no list of a name is among those of other names
-array_lacks : (s : Step) (name : List ℕ) (hs : List (Option Held)) (inside : Forest)
-    → is_step (Step.array name) s ≡ false → comes s (array_at name hs inside) ≡ false
-array_lacks s name [] inside other = refl
-array_lacks s name (h ∷ hs) inside other = ap (λ b. cond b true false) other
+array_lacks : (s : Step) (name : List ℕ) (own : Bool) (hs : List (Option Held)) (inside : Forest)
+    → is_step (Step.array name) s ≡ false → comes s (array_at name own hs inside) ≡ false
+array_lacks s name own [] inside other = refl
+array_lacks s name own (h ∷ hs) inside other = ap (λ b. cond b true false) other
 
 pub lists_lack_name : (r : Reading) (list : Shape) (name : List ℕ) (lists : Lists) (fs : List Frame)
     → AllByRecursion (λ m. is_text m.1 name ≡ false) lists
@@ -239,15 +254,16 @@ lists_lack_name r list name [] fs none = refl
 lists_lack_name r list name (l ∷ lists) fs none =
     let hs = values_with r list l.0 fs in
     let inside = inside_with r list l.0 fs in
-    comes_append (Step.array name) (array_at l.1 hs inside) (arrays_of r list lists fs)
+    let own = is_own_key (Some l.0) list in
+    comes_append (Step.array name) (array_at l.1 own hs inside) (arrays_of r list lists fs)
     (lists_lack_name r list name lists fs none.1)
-    ∙ array_lacks (Step.array name) l.1 hs inside none.0
+    ∙ array_lacks (Step.array name) l.1 own hs inside none.0
 
-pub array_apart : (r : Reading) (list : Shape) (name : List ℕ) (hs : List (Option Held)) (inside : Forest)
+pub array_apart : (r : Reading) (list : Shape) (name : List ℕ) (own : Bool) (hs : List (Option Held)) (inside : Forest)
     (lists : Lists) (fs : List Frame) → AllByRecursion (λ m. is_text m.1 name ≡ false) lists
-    → NoneComes (array_at name hs inside) (arrays_of r list lists fs)
-array_apart r list name [] inside lists fs none = tt
-array_apart r list name (h ∷ hs) inside lists fs none = (lists_lack_name r list name lists fs none, tt)
+    → NoneComes (array_at name own hs inside) (arrays_of r list lists fs)
+array_apart r list name own [] inside lists fs none = tt
+array_apart r list name own (h ∷ hs) inside lists fs none = (lists_lack_name r list name lists fs none, tt)
 
 -- beside members that are all passed over as beside none
 pub lacking : (side : Side) (text : List ℕ) (f : Forest)
@@ -255,6 +271,7 @@ pub lacking : (side : Side) (text : List ℕ) (f : Forest)
 lacking side text Forest.none = refl
 lacking side text Forest.passed = refl
 lacking side text (Forest.vlans runs) = refl
+lacking side text (Forest.texts vs) = refl
 lacking side text (Forest.tree s v i rest) =
     ap (λ l. step_items side text s (v, i) None ++ l) (lacking side text rest)
 
@@ -264,41 +281,77 @@ lacking_vlans : (side : Side) (text : List ℕ) (f : Forest)
 lacking_vlans side text Forest.none = refl
 lacking_vlans side text Forest.passed = refl
 lacking_vlans side text (Forest.vlans runs) = refl
+lacking_vlans side text (Forest.texts vs) = refl
 lacking_vlans side text (Forest.tree s v i rest) =
     ap (λ l. step_items side text s (v, i) None ++ l) (lacking_vlans side text rest)
+
+-- and beside texts
+lacking_texts : (side : Side) (text : List ℕ) (vs : List (List Token)) (f : Forest)
+    → items_told side text f Forest.none ≡ items_told side text f (Forest.texts vs)
+lacking_texts side text vs Forest.none = refl
+lacking_texts side text vs Forest.passed = refl
+lacking_texts side text vs (Forest.vlans runs) = refl
+lacking_texts side text vs (Forest.texts ws) = refl
+lacking_texts side text vs (Forest.tree s v i rest) =
+    ap (λ l. step_items side text s (v, i) None ++ l) (lacking_texts side text vs rest)
+
+-- no VLANs tell nothing
+no_runs_told : (side : Side) (text : List ℕ) (g : Forest) → items_told side text (Forest.vlans []) g ≡ []
+no_runs_told side text g = by (is_moved side)
+  where
+    by : (m : Bool) → cond m [] (flat_map (piece_items side text) (pieces_of [] (runs_inside g))) ≡ []
+    by true = refl
+    by false = refl
 
 -- a member at one step tells what those inside it tell, unless it is told as a whole
 pub unless_told : (side : Side) (text : List ℕ) (s : Step) (v w : List Token) (f g : Forest) → is_label s ≡ false
     → runs_inside f ≡ [] → runs_inside g ≡ []
     → items_told side text (forest (unless_none s v f)) (forest (unless_none s w g))
-    ≡ items_told side (further text s) f g
-unless_told side text s v w Forest.none g plain none none_too = refl
-unless_told side text s v w Forest.passed g plain none none_too = refl
+    ≡ list_items side (further text s) s v f (held_unless w g) ++ items_told side (further text s) f g
+unless_told side text s v w Forest.none g plain none none_too =
+    sym (ap (λ os. os ++ []) (not_loose side (further text s) s v Forest.none (held_unless w g) refl))
+unless_told side text s v w Forest.passed g plain none none_too =
+    sym (ap (λ os. os ++ []) (not_loose side (further text s) s v Forest.passed (held_unless w g) refl))
 unless_told side text s v w (Forest.vlans runs) g plain none none_too =
-    sym (ap (λ rs. items_told side (further text s) (Forest.vlans rs) g) none)
+    let path = further text s in
+    sym (ap (λ rs. list_items side path s v (Forest.vlans rs) (held_unless w g)
+    ++ items_told side path (Forest.vlans rs) g) none
+    ∙ (λ k. not_loose side path s v (Forest.vlans []) (held_unless w g) refl k ++ no_runs_told side path g k))
+unless_told side text s v w (Forest.texts vs) g plain none none_too =
+    sym (ap (λ os. os ++ []) (not_loose side (further text s) s v (Forest.texts vs) (held_unless w g) refl))
 unless_told side text s v w (Forest.tree a b c d) (Forest.vlans runs) plain none none_too =
     let held : Held = (v, Forest.tree a b c d) in
     append-nil (step_items side text s held None) ∙ plain_items side text s held None plain
-    ∙ lacking_vlans side (further text s) (Forest.tree a b c d)
-    ∙ sym (ap (λ rs. items_told side (further text s) (Forest.tree a b c d) (Forest.vlans rs)) none_too)
+    ∙ ap (λ os. list_items side (further text s) s v (Forest.tree a b c d) None ++ os)
+    (lacking_vlans side (further text s) (Forest.tree a b c d)
+    ∙ sym (ap (λ rs. items_told side (further text s) (Forest.tree a b c d) (Forest.vlans rs)) none_too))
+unless_told side text s v w (Forest.tree a b c d) (Forest.texts vs) plain none none_too =
+    let held : Held = (v, Forest.tree a b c d) in
+    append-nil (step_items side text s held None) ∙ plain_items side text s held None plain
+    ∙ ap (λ os. list_items side (further text s) s v (Forest.tree a b c d) None ++ os)
+    (lacking_texts side (further text s) vs (Forest.tree a b c d))
 unless_told side text s v w (Forest.tree a b c d) Forest.none plain none none_too =
     let held : Held = (v, Forest.tree a b c d) in
     append-nil (step_items side text s held None) ∙ plain_items side text s held None plain
 unless_told side text s v w (Forest.tree a b c d) Forest.passed plain none none_too =
     let held : Held = (v, Forest.tree a b c d) in
     append-nil (step_items side text s held None) ∙ plain_items side text s held None plain
-    ∙ lacking side (further text s) (Forest.tree a b c d)
+    ∙ ap (λ os. list_items side (further text s) s v (Forest.tree a b c d) None ++ os)
+    (lacking side (further text s) (Forest.tree a b c d))
 unless_told side text s v w (Forest.tree a b c d) (Forest.tree p q x y) plain none none_too =
     let held : Held = (v, Forest.tree a b c d) in
     let beside = cond (is_step s s) (Some (w, Forest.tree p q x y)) None in
     append-nil (step_items side text s held beside) ∙ plain_items side text s held beside plain
-    ∙ ap (λ e. held_items side (further text s) held (cond e (Some (w, Forest.tree p q x y)) None)) (step_is s)
+    ∙ ap (λ e. let other = cond e (Some (w, Forest.tree p q x y)) None in
+    list_items side (further text s) s v (Forest.tree a b c d) other ++ held_items side (further text s) held other)
+    (step_is s)
 
 -- a list of values tells what those in it tell
 pub list_told : (side : Side) (text : List ℕ) (s : Step) (hs gs : List (Option Held)) (inside other : Forest)
     → is_label s ≡ false → runs_inside inside ≡ [] → runs_inside other ≡ []
     → items_told side text (forest (list_by s hs inside)) (forest (list_by s gs other))
-    ≡ items_told side (further text s) inside other
+    ≡ list_items side (further text s) s (list_of (flat_map value_in hs)) inside (list_beside gs other)
+    ++ items_told side (further text s) inside other
 list_told side text s hs gs inside other plain none none_too =
     unless_told side text s _ _ inside other plain none none_too
 
@@ -334,7 +387,9 @@ pub members_told : (r s : Reading) (list shape : Shape) (fs gs : List Frame) (si
     ++ (items_told side text (forest (arrays_in r list fs)) (forest (arrays_in s shape gs))
     ++ (items_told side (joined text (codes "repeated")) (places (earlier (named_in r list fs)))
     (places (earlier (named_in s shape gs)))
-    ++ items_told side (joined text (codes "other")) (kept_inside r list fs) (kept_inside s shape gs)))
+    ++ (moved_items side (joined text (codes "other")) (list_of (flat_map value_in (kept_in r list fs)))
+    (kept_inside r list fs) (list_beside (kept_in s shape gs) (kept_inside s shape gs))
+    ++ items_told side (joined text (codes "other")) (kept_inside r list fs) (kept_inside s shape gs))))
 members_told r s list shape fs gs side text =
     let ms = named_in r list fs in
     let ns = named_in s shape gs in

@@ -56,6 +56,7 @@ use Rattle.frame_diff.specs.declared.labels.Label.{Label}
 use Rattle.frame_diff.proofs.PathTexts.{IsBounded, IsWritten, Sort, Stands, Whose, lacks_marks, place_within, within}
 use Rattle.frame_diff.proofs.PathTextsNames.{form_fits, info_known, is_known, is_same, is_values, same_sort, sort_of}
 use Rattle.frame_diff.proofs.PathTextsNames.{style_fits, way_fits, whose_place}
+use Rattle.frame_diff.specs.Members.{flat_inside}
 
 -- ** members of a sort
 
@@ -64,6 +65,7 @@ abbrev pub Fits : Sort → Forest → Type 0
 Fits sort Forest.none = Unit {0}
 Fits sort Forest.passed = Unit {0}
 Fits sort (Forest.vlans runs) = (are_apart None runs ≡ true) × (is_values sort ≡ true)
+Fits sort (Forest.texts vs) = Unit {0}
 Fits sort (Forest.tree s v i rest) = Stands sort s × Fits (within sort (step_text s)) i × Fits sort rest
 
 abbrev pub AllFit : Sort → List Member → Type 0
@@ -131,19 +133,21 @@ pub places_fit : (sort : Sort) (hs : List (Option Held)) → length hs < 2 ^ 64 
 places_fit sort hs few h =
     forest_fits (Sort.values sort) (placed 0 hs) (placed_fit sort 0 hs (omega (arith, few)) h)
 
-pub inside_fit : (sort : Sort) (hs : List (Option Held)) (inside : Forest) → Fits (Sort.values sort) inside
-    → Fits (Sort.values sort) (values_inside hs inside)
-inside_fit sort hs inside h = by (are_plain hs)
+pub inside_fit : (sort : Sort) (own : Bool) (hs : List (Option Held)) (inside : Forest)
+    → Fits (Sort.values sort) inside → Fits (Sort.values sort) (values_inside own hs inside)
+inside_fit sort own hs inside h = by (are_plain hs) own
   where
-    by : (b : Bool) → Fits (Sort.values sort) (cond b Forest.none inside)
-    by true = tt
-    by false = h
+    by : (b own : Bool) → Fits (Sort.values sort) (cond b (flat_inside own hs) inside)
+    by true true = tt
+    by true false = tt
+    by false own = h
 
 pub unless_fits : (sort : Sort) (s : Step) (v : List Token) (f : Forest) → Stands sort s
     → Fits (within sort (step_text s)) f → AllFit sort (unless_none s v f)
 unless_fits sort s v Forest.none is h = tt
 unless_fits sort s v Forest.passed is h = tt
 unless_fits sort s v (Forest.vlans runs) is h = tt
+unless_fits sort s v (Forest.texts vs) is h = tt
 unless_fits sort s v (Forest.tree a b c d) is h = (is, h, tt)
 
 -- at most one value of each
@@ -287,6 +291,7 @@ pub flat_fits : (sort : Sort) (f : Forest) → Fits sort f → Fits sort (flat f
 flat_fits sort Forest.none h = tt
 flat_fits sort Forest.passed h = tt
 flat_fits sort (Forest.vlans runs) h = runs_flat_fit sort runs h.0 h.1
+flat_fits sort (Forest.texts vs) h = tt
 flat_fits sort (Forest.tree s v i rest) h =
     (h.0, flat_fits (within sort (step_text s)) i h.1, flat_fits sort rest h.2)
 

@@ -46,6 +46,7 @@ use Rattle.frame_diff.proofs.PathTextsFits.{each_held, few_in, fields_fit, flat_
 use Rattle.frame_diff.proofs.PathTextsFits.{held_fits, keyed_fit, left_fits, listed_fit, places_fit, runs_fit}
 use Rattle.frame_diff.proofs.PathTextsFits.{unless_fits}
 use Rattle.frame_shown.specs.Items.{Lists}
+use Rattle.frame_diff.specs.Members.{is_own_key}
 
 -- ** attributes
 
@@ -147,22 +148,22 @@ module _ (r : Reading) (fit : InnerFits r.inner) (list : Shape) where
 
   array_inside : (sort : Sort) (n : ℕ) (fs : List Frame) → is_values sort ≡ true → length fs < 2 ^ 64
       → HeldFit (sort_of_each sort) (values_with r list n fs)
-      → Fits sort (values_inside (values_with r list n fs) (inside_with r list n fs))
+      → Fits sort (values_inside (is_own_key (Some n) list) (values_with r list n fs) (inside_with r list n fs))
   array_inside (Sort.values sort) n fs is few h =
       let key = key_at (Some n) list in
       let hs = values_with r list n fs in
-      inside_fit sort hs (inside_with r list n fs)
+      inside_fit sort (is_own_key (Some n) list) hs (inside_with r list n fs)
       (runs_fit sort (runs_by (Some n) list fs)
       (inside_of key (numbers_by (number_in r.around key list) (value_with r list n) fs) hs)
       (runs_apart (Some n) list fs)
       (listed_fit sort r.around list (value_with r list n) (each_one n) key fs few h))
   array_inside sort n fs is few h = absurd cc
 
-  array_fits : (whose : Whose) (name : List ℕ) (hs : List (Option Held)) (inside : Forest)
-      → is_array whose name ≡ true → Fits (within (Sort.attributes whose) name) (values_inside hs inside)
-      → AllFit (Sort.attributes whose) (array_at name hs inside)
-  array_fits whose name [] inside is h = tt
-  array_fits whose name (x ∷ hs) inside is h = (array_stands whose name is, h, tt)
+  array_fits : (whose : Whose) (name : List ℕ) (own : Bool) (hs : List (Option Held)) (inside : Forest)
+      → is_array whose name ≡ true → Fits (within (Sort.attributes whose) name) (values_inside own hs inside)
+      → AllFit (Sort.attributes whose) (array_at name own hs inside)
+  array_fits whose name own [] inside is h = tt
+  array_fits whose name own (x ∷ hs) inside is h = (array_stands whose name is, h, tt)
 
   arrays_fit : (whose : Whose) (lists : Lists) → ListsFit whose (row_in r.around list) lists → (fs : List Frame)
       → AreFew fs → AllFit (Sort.attributes whose) (arrays_of r list lists fs)
@@ -174,8 +175,9 @@ module _ (r : Reading) (fit : InnerFits r.inner) (list : Shape) where
       let first = and_parts (is_array whose l.1) (is_values own && way) all.0 in
       let second = and_parts (is_values own) way first.1 in
       let inside = inside_with r list l.0 fs in
-      append_fits (Sort.attributes whose) (array_at l.1 hs inside) (arrays_of r list lists fs)
-      (array_fits whose l.1 hs inside first.0 (array_inside own l.0 fs second.0 few.0
+      let key = is_own_key (Some l.0) list in
+      append_fits (Sort.attributes whose) (array_at l.1 key hs inside) (arrays_of r list lists fs)
+      (array_fits whose l.1 key hs inside first.0 (array_inside own l.0 fs second.0 few.0
       (each_all l.0 (sort_of_each own) second.1 fs few.1)))
       (arrays_fit whose lists all.1 fs few)
 
@@ -310,16 +312,16 @@ module _ (r : Reading) (fit : InnerFits r.inner) where
         → ListsFit whose (row_in r.around (entry_list group)) (lists_in r.around (entry_list group))
         → (fs : List Frame) → AreFew fs
         → Fits (Sort.values (Sort.attributes whose))
-        (values_inside (entries_in r (entry_list group) fs) (entries_inside r group fs))
+        (values_inside false (entries_in r (entry_list group) fs) (entries_inside r group fs))
     group_fits group whose rows lists fs few =
         let list = entry_list group in
-        inside_fit (Sort.attributes whose) (entries_in r list fs) (entries_inside r group fs)
+        inside_fit (Sort.attributes whose) false (entries_in r list fs) (entries_inside r group fs)
         (listed_fit (Sort.attributes whose) r.around (Shapes.Entries group) (entry_with r list) (entry_one list)
         (key_at None (Shapes.Entries group)) fs few.0 (entries_fit list whose rows lists fs few.1))
 
     groups_fit : (group : Group) (fs : List Frame) → AreFew fs
         → Fits (Sort.values (Sort.attributes (whose_entry (group_name group))))
-        (values_inside (entries_in r (entry_list group) fs) (entries_inside r group fs))
+        (values_inside false (entries_in r (entry_list group) fs) (entries_inside r group fs))
     groups_fit Groups.AltIfname fs few =
         let list = entry_list Groups.AltIfname in
         group_fits Groups.AltIfname Whose.other (rows_suit r.around all list refl)
@@ -355,7 +357,7 @@ module _ (r : Reading) (fit : InnerFits r.inner) where
         let list = Shapes.Listed group table in
         let hs = map (λ (m : Member). Some m.1) (named_in r list fs) in (
           name_is group,
-          inside_fit Sort.fields hs (places hs) (places_fit Sort.fields hs
+          inside_fit Sort.fields (is_own_key None list) hs (places hs) (places_fit Sort.fields hs
               (omega (arith, few.0, named_few r list fs, length-map (named_in r list fs) (λ (m : Member). Some m.1)))
               (values_all r fit list (rows_suit r.around all list known) fs few.1)),
           unless_fits Sort.listed (rest_step (codes "other")) _ (kept_inside r list fs) (refl, refl)
@@ -446,6 +448,7 @@ pub leaves_stand : (sort : Sort) (f : Forest) → Fits sort f → AllStand leaf_
 leaves_stand sort Forest.none h = tt
 leaves_stand sort Forest.passed h = tt
 leaves_stand sort (Forest.vlans runs) h = tt
+leaves_stand sort (Forest.texts vs) h = tt
 leaves_stand sort (Forest.tree s v i rest) h =
     append_stand leaf_path sort (leaves_at s v i (leaves i)) (leaves rest)
     (at i (leaves i) (leaves_stand (within sort (step_text s)) i h.1)) (leaves_stand sort rest h.2)
@@ -455,4 +458,5 @@ leaves_stand sort (Forest.tree s v i rest) h =
     at Forest.none ls k = ((h.0, tt), tt)
     at Forest.passed ls k = tt
     at (Forest.vlans runs) ls k = tt
+    at (Forest.texts vs) ls k = ((h.0, tt), tt)
     at (Forest.tree a b c d) ls k = under_stand sort s ls h.0 k

@@ -13,7 +13,7 @@ use Rattle.frame_diff.specs.Members.{message_forest}
 use Rattle.frame_diff.specs.PathTexts.{PathTextsAreApart}
 use Rattle.frame_diff.specs.Wholes.{is_alone, wholes}
 use Rattle.frame_diff.specs.declared.side.Side.{Side}
-use Rattle.frame_diff.specs.declared.side.Side.TheVariants.{Old, New}
+use Rattle.frame_diff.specs.declared.side.Side.TheVariants.{Old, New, Moved}
 use Rattle.frame_diff.proofs.Flat.{message_apart}
 use Rattle.frame_diff.proofs.Messages.{messages_told}
 use Rattle.frame_diff.proofs.Once.{StandOnce, leaves_once}
@@ -99,6 +99,7 @@ wholes_fit : (sort : Sort) (f g : Forest) → Fits sort f → Fits sort (wholes 
 wholes_fit sort Forest.none g h = tt
 wholes_fit sort Forest.passed g h = tt
 wholes_fit sort (Forest.vlans runs) g h = h
+wholes_fit sort (Forest.texts vs) g h = tt
 wholes_fit sort (Forest.tree s v i rest) g h =
     let beside = find s g in
     let inner = within sort (step_text s) in (
@@ -116,6 +117,7 @@ change_stands : (side : Side) (l : Leaf) (beside : Option (List Token)) → Stan
 change_stands Old l None h = (h, tt)
 change_stands New l None h = (h, tt)
 change_stands New l (Some w) h = tt
+change_stands Moved l beside h = tt
 change_stands Old l (Some w) h = by (is_shown_same l.1 w)
   where
     by : (b : Bool) → AllStand path_of others (cond b [] (Change.turned l.0 l.1 w ∷ []))

@@ -1,14 +1,17 @@
 -- What is compared of a message does not depend on where in memory the rows stand that it is read by.
-use Rattle.std.proofs.Common.{◌≡◌, ℕ, zero, suc, Bool, List, [], ◌∷◌, ◌++◌, refl, sym, ap, ◌∙◌}
-use Rattle.std.specs.Prelude.{◌==◌, ◌||◌, Some, None, codes, cond, map, slice_index}
+use Rattle.std.proofs.Common.{◌≡◌, ℕ, zero, suc, Bool, true, false, List, [], ◌∷◌, ◌++◌, Ok, Err, refl, sym, ap, ◌∙◌}
+use Rattle.std.specs.Prelude.{◌==◌, ◌||◌, Some, None, codes, cond, if◌then◌else◌, length, map, slice_index}
 use Rattle.std.specs.List.{flat_map}
 use Rattle.nla_wire.specs.Frames.{Frame, number}
-use Rattle.nla_wire.specs.Items.{items}
-use Rattle.link_info.specs.Lent.{member_now}
-use Rattle.link_info.specs.Meanings.{Meaning, Members as Fields, read_as}
-use Rattle.link_info.specs.Styles.{plain_size}
+use Rattle.nla_wire.specs.Items.{Item as Read, items}
+use Rattle.link_info.specs.Lent.{member_now, plain_now}
+use Rattle.link_info.specs.Meanings.{Meaning, Members as Fields, Listed, Raw, form_meaning, read_as}
+use Rattle.link_info.specs.Styles.{Form as PlainForm, Host, Network, Twos, SixOctets, FourOctets, SixteenOctets, Octets}
+use Rattle.link_info.specs.Styles.{form, plain_size}
 use Rattle.link_info.specs.Tables.{frames_in}
 use Rattle.link_info.specs.declared.style.Member.{Member as Part}
+use Rattle.link_info.specs.declared.style.Plain.{Plain}
+use Rattle.link_info.specs.declared.style.Style.TheVariants as S
 use Rattle.link_state.specs.Table.{Action}
 use Rattle.shown.specs.Drafts.{object_of}
 use Rattle.frame_shown.specs.Items.{members_of}
@@ -16,7 +19,8 @@ use Rattle.frame_shown.specs.Kept.{frame_members}
 use Rattle.frame_shown.specs.Messages.{address_len, header_members, with_address_len}
 use Rattle.frame_shown.specs.Plain.{IsPlain}
 use Rattle.frame_shown.specs.Tables.{Known, entry_list, group_name, row_in, is_each}
-use Rattle.frame_shown.specs.Values.{Nesting, fields_in}
+use Rattle.frame_shown.specs.Values.{Nesting, fields_in, meaning_shown, payloads_shown, plain_shown, spelled}
+use Rattle.frame_shown.specs.Values.{style_shown}
 use Rattle.frame_shown.specs.declared.form.Around.{Around}
 use Rattle.frame_shown.specs.declared.form.Form.{Form}
 use Rattle.frame_shown.specs.declared.form.Form.TheVariants as Forms
@@ -29,7 +33,7 @@ use Rattle.frame_shown.specs.declared.form.Way.TheVariants as Ways
 use Rattle.frame_shown.proofs.Plain.{AreAlike, each_now, fields_same, items_same, kept_now, kind_now, known_now}
 use Rattle.frame_shown.proofs.Plain.{levels_same, lists_same}
 use Rattle.frame_shown.proofs.Plain.{plainly_alike, row_same, way_now, way_same, way_shown_now, with_len_alike}
-use Rattle.frame_shown.proofs.PlainStyles.{meaning_now, read_now, record_now, size_now}
+use Rattle.frame_shown.proofs.PlainStyles.{meaning_now, read_now, record_now, size_now, style_now_same}
 use Rattle.frame_diff.specs.Counters.{action_in, is_clear, is_passed}
 use Rattle.frame_diff.specs.Forests.{Forest, Member, Step, entries_step, forest, left_of, rest_step, values_step}
 use Rattle.frame_diff.specs.Keys.{key_at}
@@ -46,6 +50,7 @@ use Rattle.frame_diff.specs.Settled.{settled}
 use Rattle.frame_diff.specs.Vlans.{flat}
 use Rattle.frame_diff.specs.declared.keys.Key.TheVariants as Keys
 use Rattle.frame_diff.proofs.PlainKeys.{number_same}
+use Rattle.frame_diff.specs.Members.{is_own_key}
 
 -- ** by rows as values
 
@@ -53,10 +58,37 @@ sizes_now : (ms : List Part) → map (λ m. plain_size m.1) (map member_now ms) 
 sizes_now [] = refl
 sizes_now (m ∷ ms) = λ i. size_now m.1 i ∷ sizes_now ms i
 
+-- values of a fixed size are shown as ever
+spelled_is : (nest : Nesting) (plain : Plain) (p : List ℕ) → style_shown nest (S.Plain plain) p ≡ spelled plain p
+spelled_is nest plain p = by (length p == plain_size plain) (form plain)
+  where
+    by : (b : Bool) (f : PlainForm) → meaning_shown nest (S.Plain plain) (if b then form_meaning f p else Raw p)
+        ≡ plain_shown plain (if b then form_meaning f p else Raw p)
+    by true (Host size) = refl
+    by true (Network size) = refl
+    by true (Twos size) = refl
+    by true SixOctets = refl
+    by true FourOctets = refl
+    by true SixteenOctets = refl
+    by true (Octets n) = refl
+    by false f = refl
+
+spelled_now : (plain : Plain) (p : List ℕ) → spelled (plain_now plain) p ≡ spelled plain p
+spelled_now plain p =
+    let nest : Nesting = λ list p. [] in
+    sym (spelled_is nest (plain_now plain) p) ∙ style_now_same nest (S.Plain plain) p ∙ spelled_is nest plain p
+
+slots_now : (plain : Plain) (xs : List Read)
+    → map (λ m. m.1) (payloads_shown (plain_now plain) xs) ≡ map (λ m. m.1) (payloads_shown plain xs)
+slots_now plain [] = refl
+slots_now plain (Ok f ∷ xs) = λ i. spelled_now plain f.payload i ∷ slots_now plain xs i
+slots_now plain (Err c ∷ xs) = refl
+
 meaning_inside_now : (inner : Inner) (action : Action) (m : Meaning)
     → meaning_inside inner action (meaning_now m) ≡ meaning_inside inner action m
 meaning_inside_now inner action (Fields members p) = λ i.
     fields_kept action (sizes_now members i) (record_now members p i)
+meaning_inside_now inner action (Listed plain p) = ap Forest.texts (slots_now plain (items p))
 meaning_inside_now inner action _ = refl
 
 way_inside_now : (inner : Inner) (cx : Around) (action : Action) (way : Way) (p : List ℕ)
@@ -163,7 +195,8 @@ module _ (cx other : Around) (s : AreAlike cx other) where
 
     arrays_same : (list : Shape) (fs : List Frame) → arrays_in (by cx) list fs ≡ arrays_in (by other) list fs
     arrays_same list fs = λ i.
-        flat_map (λ l. array_at l.1 (flat_map (λ f. value_same list l.0 f i) fs) (inside_same list l.0 fs i))
+        flat_map (λ l. array_at l.1 (is_own_key (Some l.0) list) (flat_map (λ f. value_same list l.0 f i) fs)
+        (inside_same list l.0 fs i))
         (lists_same cx other s list i)
 
     named_in_same : (list : Shape) (fs : List Frame) → named_in (by cx) list fs ≡ named_in (by other) list fs
@@ -185,7 +218,8 @@ module _ (cx other : Around) (s : AreAlike cx other) where
     listed_same : (group : Group) (list : Shape) (fs : List Frame)
         → listed_in (by cx) group list fs ≡ listed_in (by other) group list fs
     listed_same group list fs = λ i.
-        group_of (values_step (group_name group)) (map (λ (m : Member). Some m.1) (named_in_same list fs i))
+        group_of (values_step (group_name group)) (is_own_key None list)
+        (map (λ (m : Member). Some m.1) (named_in_same list fs i))
         (places (map (λ (m : Member). Some m.1) (named_in_same list fs i)))
         ∷ list_by (rest_step (codes "other")) (kept_in_same list fs i) (kept_inside_same list fs i)
 
@@ -211,7 +245,7 @@ module _ (cx other : Around) (s : AreAlike cx other) where
     list_same : (list : Shape) (fs : List Frame) → list_members (by cx) list fs ≡ list_members (by other) list fs
     list_same (Shapes.Listed group table) fs = listed_same group (Shapes.Listed group table) fs
     list_same (Shapes.Entries group) fs = λ i.
-        group_of (entries_step (group_name group)) (entries_same (entry_list group) fs i)
+        group_of (entries_step (group_name group)) false (entries_same (entry_list group) fs i)
         (entries_inside_same group fs i) ∷ []
     list_same (Shapes.Message family) fs = members_same (Shapes.Message family) fs
     list_same (Shapes.Own table) fs = members_same (Shapes.Own table) fs

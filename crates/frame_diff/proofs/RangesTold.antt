@@ -29,6 +29,11 @@ use Rattle.frame_diff.proofs.Flat.{inside_vlan_apart, leaf_flat, made, runs_have
 use Rattle.frame_diff.proofs.Leaves.{inside_apart}
 use Rattle.frame_diff.proofs.Silent.{same_silent}
 use Rattle.frame_diff.proofs.WholesTold.{told_same}
+use Rattle.frame_diff.specs.Sides.{is_moved}
+use Rattle.frame_diff.specs.Ranges.{list_told, whole_told}
+use Rattle.frame_diff.specs.Items.{is_list, is_loose}
+use Rattle.frame_diff.specs.Forests.{Step}
+use Rattle.std.proofs.Common.{append-nil}
 
 -- ** what is told apart
 
@@ -66,6 +71,7 @@ member_rest : (side : Side) (path : Path) (v : List Token) (f : Forest) (inner :
 member_rest side path v Forest.none inner beside h = absurd h
 member_rest side path v Forest.passed inner beside h = absurd h
 member_rest side path v (Forest.vlans runs) inner beside h = absurd h
+member_rest side path v (Forest.texts vs) inner beside h = absurd h
 member_rest side path v (Forest.tree a b c d) inner beside h = refl
 
 vlan_has : (n : ℕ) (s : Said) → HasMembers (vlan_inside n s)
@@ -116,7 +122,16 @@ alone_flat : (beside : Option Held) → is_alone beside ≡ is_alone (option_map
 alone_flat None = refl
 alone_flat (Some held) = refl
 
-module _ (side : Side) where
+module _ (side : Side) (telling : is_moved side ≡ false) where
+  pub unmoved : (path : Path) (s : Step) (v : List Token) (i : Forest) (beside : Option Held)
+      → list_told side path s v i beside ≡ []
+  unmoved path s v i beside =
+      ap (λ m. cond (is_list s) (cond m (whole_told (is_loose i) path v beside) []) []) telling ∙ by (is_list s)
+    where
+      by : (l : Bool) → cond {A = List Told} l [] [] ≡ []
+      by true = refl
+      by false = refl
+
   -- with the steps inside, as a leaf or not
   abbrev member_flat : Bool → Path → List Token → Forest → Option Held → List Change
   member_flat b path v i beside =
@@ -138,7 +153,11 @@ module _ (side : Side) where
   member_is path v i beside h h_too inner true = leaf_is path v beside h_too
   member_is path v Forest.none beside h h_too inner false = leaf_is path v beside h_too
   member_is path v Forest.passed beside h h_too inner false = refl
-  member_is path v (Forest.vlans []) beside h h_too inner false = refl
+  member_is path v (Forest.vlans []) beside h h_too inner false =
+      ap (λ m. flat_map apart (cond m [] (map (Told.vlans side path) (pieces_of [] (runs_inside (inside_in beside))))))
+      telling
+  member_is path v (Forest.texts vs) beside h h_too inner false =
+      append-nil (leaf_change side path v (leaf_in beside)) ∙ ap (leaf_change side path v) (leaf_flat beside h_too)
   member_is path v (Forest.vlans (r ∷ rs)) beside h h_too inner false =
       inner ∙ (λ k. told side path (wholes (vlan_trees (vlans_of (r ∷ rs))) (back k)) (back k))
       ∙ sym (by (vlan_trees (vlans_of (r ∷ rs))) (runs_have r rs h))
@@ -154,6 +173,7 @@ module _ (side : Side) where
       by Forest.none h = absurd h
       by Forest.passed h = absurd h
       by (Forest.vlans runs) h = absurd h
+      by (Forest.texts vs) h = absurd h
       by (Forest.tree s w j rest) h = refl
   member_is path v (Forest.tree s w j rest) beside h h_too inner false =
       inner ∙ (λ k. told side path (wholes (flat (Forest.tree s w j rest)) (sym (inside_flat beside) k))
@@ -163,16 +183,21 @@ module _ (side : Side) where
       → flat_map apart (told_by side path f g) ≡ told side path (wholes (flat f) (flat g)) (flat g)
   told_flat path Forest.none g h m h_too m_too = refl
   told_flat path Forest.passed g h m h_too m_too = refl
-  told_flat path (Forest.vlans []) g h m h_too m_too = refl
+  told_flat path (Forest.vlans []) g h m h_too m_too =
+      ap (λ b. flat_map apart (cond b [] (map (Told.vlans side path) (pieces_of [] (runs_inside g))))) telling
+  told_flat path (Forest.texts vs) g h m h_too m_too = refl
   told_flat path (Forest.vlans (r ∷ rs)) g h m h_too m_too =
-      pieces_apart side path (pieces_of (r ∷ rs) (runs_inside g))
+      ap (λ b. flat_map apart (cond b [] (map (Told.vlans side path) (pieces_of (r ∷ rs) (runs_inside g))))) telling
+      ∙ pieces_apart side path (pieces_of (r ∷ rs) (runs_inside g))
       ∙ pieces_say (vlan_told side path) (same_vlan side path) (r ∷ rs) (runs_inside g)
       ∙ sym (vlans_told side path (flat g) (runs_inside g) (λ n. find_vlan n g h_too m_too) (vlans_of (r ∷ rs)))
   told_flat path (Forest.tree s v i rest) g h m h_too m_too =
       let beside = find s g in
       let at = path ++ s ∷ [] in
       let apart_too = inside_apart s g h_too in
-      flat_map-append apart (member_by side at v (cut s beside i) (told_by side at i) beside)
+      ap (λ ts. flat_map apart (ts ++ (member_by side at v (cut s beside i) (told_by side at i) beside
+      ++ told_by side path rest g))) (unmoved at s v i beside)
+      ∙ flat_map-append apart (member_by side at v (cut s beside i) (told_by side at i) beside)
       (told_by side path rest g)
       ∙ (λ k. member_is at v i beside h.1 apart_too
       (told_flat at i (inside_in beside) h.1 m.1 apart_too (found_made s g m_too)) (is_label s && is_alone beside) k
@@ -191,7 +216,7 @@ ranges_are is_state cx other old new =
     let f_made = made is_state cx old in
     let g_made = made is_state other new in
     flat_map-append apart (told_by Old [] f g) (told_by New [] g f)
-    ∙ (λ k. (told_flat Old [] f g f_apart f_made g_apart g_made
+    ∙ (λ k. (told_flat Old refl [] f g f_apart f_made g_apart g_made
     ∙ sym (told_same Old [] (flat f) (flat g) (flat f) (flat_apart f f_apart f_made) (λ t held h. h))) k
-    ++ (told_flat New [] g f g_apart g_made f_apart f_made
+    ++ (told_flat New refl [] g f g_apart g_made f_apart f_made
     ∙ sym (told_same New [] (flat g) (flat f) (flat g) (flat_apart g g_apart g_made) (λ t held h. h))) k)

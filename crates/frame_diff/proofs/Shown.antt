@@ -33,6 +33,7 @@ use Rattle.frame_diff.proofs.Parts.{names_lack_arrays, named_names}
 use Rattle.frame_diff.proofs.Numbered.{labels_long, numbers_long}
 use Rattle.frame_diff.proofs.Steps.{text_is, text_same}
 use Rattle.frame_diff.proofs.Values.{AreValues, texts_are, values_agree}
+use Rattle.frame_diff.specs.Members.{is_own_key}
 
 -- ** members behind which none of their step stands
 
@@ -115,12 +116,12 @@ labels_some key (l ∷ ls) (Some held ∷ hs) (o ∷ os) h long = refl
 
 -- ** a list that attributes are the values of
 
-array_is : (name : List ℕ) (hs : List (Option Held)) (inside : Forest) (vs : List (List Token)) → AreValues hs vs
-    → lasts (array_at name hs inside) ≡ list_under name vs
-array_is name [] inside [] h = refl
-array_is name [] inside (v ∷ vs) h = absurd h
-array_is name (x ∷ hs) inside [] h = absurd h
-array_is name (x ∷ hs) inside (v ∷ vs) h =
+array_is : (name : List ℕ) (own : Bool) (hs : List (Option Held)) (inside : Forest) (vs : List (List Token))
+    → AreValues hs vs → lasts (array_at name own hs inside) ≡ list_under name vs
+array_is name own [] inside [] h = refl
+array_is name own [] inside (v ∷ vs) h = absurd h
+array_is name own (x ∷ hs) inside [] h = absurd h
+array_is name own (x ∷ hs) inside (v ∷ vs) h =
     ap (λ values. (name, list_of values) ∷ []) (texts_are (x ∷ hs) (v ∷ vs) h)
 
 -- ** attributes by name and by number
@@ -241,9 +242,10 @@ module _ (nest : Nesting) (inner : Inner) (cx : Around) (list : Shape) (apart : 
   arrays_agree (l ∷ lists) apart fs =
       let hs = values_with r list l.0 fs in
       let inside = inside_with r list l.0 fs in
-      lasts_append (array_at l.1 hs inside) (arrays_of r list lists fs)
-      (array_apart r list l.1 hs inside lists fs apart.0)
-      ∙ (λ k. array_is l.1 hs inside (shown_values l.0 (all fs)) (values_agree false nest inner cx list l.0 fs) k
+      let own = is_own_key (Some l.0) list in
+      lasts_append (array_at l.1 own hs inside) (arrays_of r list lists fs)
+      (array_apart r list l.1 own hs inside lists fs apart.0)
+      ∙ (λ k. array_is l.1 own hs inside (shown_values l.0 (all fs)) (values_agree false nest inner cx list l.0 fs) k
       ++ arrays_agree lists apart.1 fs k)
 
   -- no name is one of the two lists
@@ -252,6 +254,7 @@ module _ (nest : Nesting) (inner : Inner) (cx : Around) (list : Shape) (apart : 
   list_lacks name s v Forest.none other = refl
   list_lacks name s v Forest.passed other = refl
   list_lacks name s v (Forest.vlans runs) other = refl
+  list_lacks name s v (Forest.texts vs) other = refl
   list_lacks name s v (Forest.tree a b c d) other = ap (λ x. cond x true false) other
 
   none_comes : (fs : List Frame) (s : Step) (hs : List (Option Held)) (i : Forest)
@@ -269,9 +272,11 @@ module _ (nest : Nesting) (inner : Inner) (cx : Around) (list : Shape) (apart : 
   repeated_lacks v w Forest.none j = tt
   repeated_lacks v w Forest.passed j = tt
   repeated_lacks v w (Forest.vlans runs) j = tt
+  repeated_lacks v w (Forest.texts vs) j = tt
   repeated_lacks v w (Forest.tree a b c d) Forest.none = (refl, tt)
   repeated_lacks v w (Forest.tree a b c d) Forest.passed = (refl, tt)
   repeated_lacks v w (Forest.tree a b c d) (Forest.vlans runs) = (refl, tt)
+  repeated_lacks v w (Forest.tree a b c d) (Forest.texts vs) = (refl, tt)
   repeated_lacks v w (Forest.tree a b c d) (Forest.tree e f g h) = (refl, tt)
 
   pub members_shown : (fs : List Frame)

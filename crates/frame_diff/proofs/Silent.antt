@@ -6,7 +6,7 @@ use Rattle.frame_diff.specs.Differences.{Change, leaf_change, member_told, text_
 use Rattle.frame_diff.specs.Forests.{AreApart, Forest, Held, Path, Step, find, is_step}
 use Rattle.frame_diff.specs.Laws.{SameIsSilent}
 use Rattle.frame_diff.specs.declared.side.Side.{Side}
-use Rattle.frame_diff.specs.declared.side.Side.TheVariants.{Old, New}
+use Rattle.frame_diff.specs.declared.side.Side.TheVariants.{Old, New, Moved}
 use Rattle.frame_diff.proofs.Steps.{step_is, step_same, text_is}
 
 -- what one has, the other has
@@ -16,12 +16,14 @@ Has f g = (t : Step) (held : Held) → find t f ≡ Some held → find t g ≡ S
 leaf_silent : (side : Side) (path : Path) (v : List Token) → leaf_change side path v (Some v) ≡ []
 leaf_silent Old path v = ap (λ b. cond b [] (Change.turned path v v ∷ [])) (text_is (text_of v))
 leaf_silent New path v = refl
+leaf_silent Moved path v = refl
 
 member_silent : (side : Side) (path : Path) (v : List Token) (i : Forest) → told side path i i ≡ []
     → member_told side path v i (told side path i) (Some (v, i)) ≡ []
 member_silent side path v Forest.none inner = leaf_silent side path v
 member_silent side path v Forest.passed inner = refl
 member_silent side path v (Forest.vlans runs) inner = refl
+member_silent side path v (Forest.texts vs) inner = leaf_silent side path v
 member_silent side path v (Forest.tree a b c d) inner = inner
 
 pub found_first : (s : Step) (v : List Token) (i rest : Forest) → find s (Forest.tree s v i rest) ≡ Some (v, i)
@@ -41,6 +43,7 @@ pub silent_in : (side : Side) (path : Path) (f g : Forest) → AreApart f → Ha
 silent_in side path Forest.none g apart has = refl
 silent_in side path Forest.passed g apart has = refl
 silent_in side path (Forest.vlans runs) g apart has = refl
+silent_in side path (Forest.texts vs) g apart has = refl
 silent_in side path (Forest.tree s v i rest) g apart has =
     (λ k. member_told side (path ++ s ∷ []) v i (told side (path ++ s ∷ []) i)
     (has s (v, i) (found_first s v i rest) k) ++ told side path rest g)

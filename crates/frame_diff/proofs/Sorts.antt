@@ -126,6 +126,7 @@ unless_sort : (v : List Token) (f : Forest) → AreOf 5 (unless_none refused_ste
 unless_sort v Forest.none = tt
 unless_sort v Forest.passed = tt
 unless_sort v (Forest.vlans runs) = tt
+unless_sort v (Forest.texts vs) = tt
 unless_sort v (Forest.tree a b c d) = (refl, tt)
 
 pub refused_sort : (is_state : Bool) (cx : Around) (bytes : List ℕ) → AreOf 5 (refused_in is_state cx bytes)

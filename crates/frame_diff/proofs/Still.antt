@@ -62,6 +62,8 @@ use Rattle.frame_diff.specs.Still.{WholesStandStill}
 use Rattle.frame_diff.specs.declared.keys.Key.{Key}
 use Rattle.frame_diff.specs.declared.keys.Key.TheVariants as Keys
 use Rattle.frame_diff.specs.Members.{runs_by, runs_or}
+use Rattle.frame_diff.specs.Members.{is_own_key}
+use Rattle.std.specs.Prelude.{None}
 
 -- ** what is left of an entry
 
@@ -429,7 +431,8 @@ module _ (nest : Nesting) (here there : Inner) (cx : Around) (same : HoldSame he
         (values_same n k))
 
     arrays_same : arrays_in r list fs ≡ arrays_in t list fs
-    arrays_same = λ k. flat_map (λ l. array_at l.1 (values_same l.0 k) (inside_same l.0 k)) (lists_in cx list)
+    arrays_same = λ k. flat_map (λ l. array_at l.1 (is_own_key (Some l.0) list) (values_same l.0 k)
+        (inside_same l.0 k)) (lists_in cx list)
 
     members_same : members_in r list fs ≡ members_in t list fs
     members_same = λ k.
@@ -438,7 +441,7 @@ module _ (nest : Nesting) (here there : Inner) (cx : Around) (same : HoldSame he
 
     listed_same : (group : Group) → listed_in r group list fs ≡ listed_in t group list fs
     listed_same group = λ k.
-        group_of (values_step (group_name group)) (map (λ (m : Member). Some m.1) (named_same k))
+        group_of (values_step (group_name group)) (is_own_key None list) (map (λ (m : Member). Some m.1) (named_same k))
         (places (map (λ (m : Member). Some m.1) (named_same k)))
         ∷ list_by (rest_step (codes "other")) (kept_in_same k) (kept_inside_same k)
 

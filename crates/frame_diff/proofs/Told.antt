@@ -20,15 +20,15 @@ use Rattle.frame_diff.specs.Members.{is_some, list_members, message_members, nam
 use Rattle.frame_diff.specs.Members.{refused_step, unless_none}
 use Rattle.frame_diff.specs.Walked.{HasNames}
 use Rattle.frame_diff.specs.declared.side.Side.{Side}
-use Rattle.frame_diff.specs.declared.side.Side.TheVariants.{Old, New}
+use Rattle.frame_diff.specs.declared.side.Side.TheVariants.{Old, New, Moved}
 use Rattle.frame_diff.proofs.Entries.{both_told}
 use Rattle.frame_diff.proofs.Inside.{same_written}
-use Rattle.frame_diff.proofs.Items.{both_are}
+use Rattle.frame_diff.proofs.Items.{both_are, items_are}
 use Rattle.frame_diff.proofs.Names.{names_apart}
 use Rattle.frame_diff.proofs.Parts.{NoneComes, both_lack, both_parts, lacks_both, unless_told}
 use Rattle.frame_diff.proofs.Sorts.{AreOf, members_sort, named_sort, refused_sort, sorts_apart}
 use Rattle.std.specs.List.{flat_map}
-use Rattle.frame_diff.specs.Laws.{messages_by}
+use Rattle.frame_diff.specs.Laws.{messages_by, messages_moved}
 use Rattle.frame_diff.specs.Members.{message_made}
 use Rattle.frame_diff.specs.Ranges.{told_items}
 use Rattle.frame_diff.proofs.Classes.{above_runs}
@@ -159,6 +159,15 @@ messages_written is_state cx other old new page middle last first second =
     ∙ ap (λ os. with_members (objects os) page)
     (both_are f g)
 
+-- lists in another order
+pub moved_written : (is_state : Bool) (cx other : Around) (old new : Parts) (page last : Draft)
+    → last ≡ with_members (objects (items_told Moved [] (message_made is_state cx old)
+    (message_made is_state other new))) page
+    → last ≡ with_members (objects (flat_map told_items (messages_moved is_state cx other old new))) page
+moved_written is_state cx other old new page last is =
+    is ∙ ap (λ os. with_members (objects os) page)
+    (items_are Moved [] (message_made is_state cx old) (message_made is_state other new))
+
 -- ** the header
 
 -- both messages have all its fields, so none comes
@@ -168,6 +177,13 @@ none_comes a b = refl
 pub header_silent : (a b : List ℕ) (page : Draft)
     → page ≡ with_members (objects (items_told New [] (fields (header_members a)) (fields (header_members b)))) page
 header_silent a b page = sym (ap (λ os. with_members (objects os) page) (none_comes a b))
+
+none_moves : (a b : List ℕ) → items_told Moved [] (fields (header_members a)) (fields (header_members b)) ≡ []
+none_moves a b = refl
+
+pub header_still : (a b : List ℕ) (page : Draft)
+    → page ≡ with_members (objects (items_told Moved [] (fields (header_members a)) (fields (header_members b)))) page
+header_still a b page = sym (ap (λ os. with_members (objects os) page) (none_moves a b))
 
 -- ** rows that are the same
 

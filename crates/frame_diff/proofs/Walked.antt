@@ -40,10 +40,13 @@ use Rattle.frame_diff.proofs.Steps.{text_is, text_same}
 use Rattle.std.proofs.Common.{inl, inr}
 use Rattle.std.specs.Prelude.{◌⊎◌}
 use Rattle.std.specs.List.{flat_map}
-use Rattle.link_vlans.specs.Pieces.{pieces_of}
 use Rattle.link_vlans.proofs.Silent.{silent}
 use Rattle.frame_diff.specs.Forests.{runs_inside}
 use Rattle.frame_diff.specs.Items.{piece_items}
+use Rattle.frame_diff.specs.Items.{is_list, is_loose, list_items, runs_items, texts_by, whole_items}
+use Rattle.frame_diff.specs.Sides.{is_moved}
+use Rattle.shown.specs.Drafts.{Members}
+use Rattle.frame_diff.specs.declared.side.Side.TheVariants.{Moved}
 
 -- ** bytes behind a frame
 
@@ -92,16 +95,20 @@ comes_named r list name (f ∷ fs) =
 
 -- one at a step that is no label
 pub plain_items : (side : Side) (text : List ℕ) (s : Step) (held : Held) (beside : Option Held) → is_label s ≡ false
-    → step_items side text s held beside ≡ held_items side (further text s) held beside
+    → step_items side text s held beside
+    ≡ list_items side (further text s) s held.0 held.1 beside ++ held_items side (further text s) held beside
 plain_items side text s held beside plain =
     let path = further text s in
-    ap (λ b. member_items side path held.0 (cond (b && is_alone beside) Forest.none held.1)
+    ap (λ b. list_items side path s held.0 held.1 beside
+    ++ member_items side path held.0 (cond (b && is_alone beside) Forest.none held.1)
     (items_told side path held.1) beside) plain
 
 -- one beside which another one stands
 pub beside_items : (side : Side) (text : List ℕ) (s : Step) (held other : Held)
-    → step_items side text s held (Some other) ≡ held_items side (further text s) held (Some other)
-beside_items side text s held other = by (is_label s)
+    → step_items side text s held (Some other) ≡ list_items side (further text s) s held.0 held.1 (Some other)
+    ++ held_items side (further text s) held (Some other)
+beside_items side text s held other =
+    ap (λ os. list_items side path s held.0 held.1 (Some other) ++ os) (by (is_label s))
   where
     path : List ℕ
     path = further text s
@@ -111,6 +118,19 @@ beside_items side text s held other = by (is_label s)
         (Some other) ≡ held_items side path held (Some other)
     by true = refl
     by false = refl
+
+-- a list whose values have places, or are texts, is not told as a whole
+pub not_loose : (side : Side) (text : List ℕ) (s : Step) (v : List Token) (i : Forest) (beside : Option Held)
+    → is_loose i ≡ false → list_items side text s v i beside ≡ []
+not_loose side text s v i beside none =
+    ap (λ o. cond (is_list s) (cond (is_moved side) (whole_items o text v beside) []) []) none
+    ∙ by (is_list s) (is_moved side) beside
+  where
+    by : (l m : Bool) (b : Option Held) → cond l (cond m (whole_items false text v b) []) [] ≡ []
+    by true true None = refl
+    by true true (Some held) = refl
+    by true false b = refl
+    by false m b = refl
 
 -- ** what one attribute tells, and those behind it
 
@@ -171,12 +191,31 @@ named_next side text r list others f it next here left page new all is then was 
 leaf_same : (side : Side) (text : List ℕ) (v : List Token) → leaf_items side text v (Some v) ≡ []
 leaf_same Old text v = ap (λ b. cond b [] (turned_item text v v ∷ [])) (text_is (text_of v))
 leaf_same New text v = refl
+leaf_same Moved text v = refl
+
+-- nothing, whether lists in another order are told or not
+none_told : (side : Side) (m : Bool) → cond {A = List Members} m [] [] ≡ []
+none_told side true = refl
+none_told side false = refl
+
+-- a list beside the same
+list_same : (side : Side) (text : List ℕ) (s : Step) (v : List Token) (i : Forest) (held : Held) → held.0 ≡ v
+    → list_items side text s v i (Some held) ≡ []
+list_same side text s v i held is = by (is_list s) (is_moved side) (is_loose i)
+  where
+    by : (l m o : Bool) → cond l (cond m (cond o (leaf_items Old text v (Some held.0)) []) []) [] ≡ []
+    by true true true = ap (λ w. leaf_items Old text v (Some w)) is ∙ leaf_same Old text v
+    by true true false = refl
+    by true false o = refl
+    by false m o = refl
 
 inside_same : (side : Side) (text : List ℕ) (v : List Token) (i : Forest) → items_told side text i i ≡ []
     → held_items side text (v, i) (Some (v, i)) ≡ []
 inside_same side text v Forest.none inner = leaf_same side text v
 inside_same side text v Forest.passed inner = refl
 inside_same side text v (Forest.vlans runs) inner = inner
+inside_same side text v (Forest.texts vs) inner =
+    ap (λ b. cond b [] (texts_by side text v vs v vs)) (text_is (text_of v))
 inside_same side text v (Forest.tree a b c d) inner = inner
 
 trees_same : (side : Side) (text : List ℕ) (f g : Forest) → AreApart f → Has f g
@@ -184,14 +223,18 @@ trees_same : (side : Side) (text : List ℕ) (f g : Forest) → AreApart f → H
 trees_same side text Forest.none g apart has are = refl
 trees_same side text Forest.passed g apart has are = refl
 trees_same side text (Forest.vlans runs) g apart has are = elim are [
-  | inl none ↦ ap (λ rs. flat_map (piece_items side text) (pieces_of rs (runs_inside g))) none
-  | inr same ↦ (λ k. flat_map (piece_items side text) (pieces_of runs (sym same k)))
-      ∙ ap (flat_map (piece_items side text)) (silent runs apart)
+  | inl none ↦ ap (λ rs. runs_items side text rs (runs_inside g)) none ∙ none_told side (is_moved side)
+  | inr same ↦ (λ k. runs_items side text runs (sym same k))
+      ∙ ap (λ ps. cond (is_moved side) [] (flat_map (piece_items side text) ps)) (silent runs apart)
+      ∙ none_told side (is_moved side)
 ]
+trees_same side text (Forest.texts vs) g apart has are = refl
 trees_same side text (Forest.tree s v i rest) g apart has are =
     let path = further text s in
     (λ k. step_items side text s (v, i) (has s (v, i) (found_first s v i rest) k) ++ items_told side text rest g)
     ∙ ap (λ l. l ++ items_told side text rest g) (beside_items side text s (v, i) (v, i))
+    ∙ (λ k. (list_same side path s v i (v, i) refl k
+    ++ held_items side path (v, i) (Some (v, i))) ++ items_told side text rest g)
     ∙ (λ k. inside_same side path v i (trees_same side path i i apart.1 (λ t held h. h) (inr refl)) k
     ++ trees_same side text rest g apart.2 (rest_has s v i rest g apart.0 has) (inl apart.3) k)
 
@@ -209,7 +252,8 @@ last_same side text behind m beside apart is = by (comes m.0 behind)
     by : (b : Bool) → cond b [] (step_items side text m.0 m.1 beside) ≡ []
     by true = refl
     by false = ap (step_items side text m.0 m.1) is ∙ beside_items side text m.0 m.1 m.1
-        ∙ held_same side (further text m.0) m.1.0 m.1.1 apart
+        ∙ (λ k. list_same side (further text m.0) m.0 m.1.0 m.1.1 m.1 refl k
+        ++ held_same side (further text m.0) m.1.0 m.1.1 apart k)
 
 -- ** attributes with one row and one payload
 

@@ -29,6 +29,7 @@ shown_flat : (f : Forest) → AreApart f → runs_inside f ≡ [] → shown_in (
 shown_flat Forest.none apart none = refl
 shown_flat Forest.passed apart none = refl
 shown_flat (Forest.vlans []) apart none = refl
+shown_flat (Forest.texts vs) apart none = refl
 shown_flat (Forest.vlans (r ∷ rs)) apart none = absurd cc
 shown_flat (Forest.tree s v i rest) apart none =
     ap (λ ms. (step_text s, v) ∷ ms) (shown_flat rest apart.2 apart.3)

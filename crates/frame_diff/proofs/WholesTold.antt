@@ -8,9 +8,10 @@ use Rattle.frame_diff.specs.Differences.{Change, inside_in, is_shown_same, leaf_
 use Rattle.frame_diff.specs.Differences.{side_changes, told}
 use Rattle.frame_diff.specs.Forests.{AreApart, Forest, Held, Leaf, Path, Step, find, is_label, is_step, leaves}
 use Rattle.frame_diff.specs.Laws.{WholesAreLeaves}
+use Rattle.frame_diff.specs.Sides.{is_moved}
 use Rattle.frame_diff.specs.Wholes.{cut, inside_at, is_alone, opened, opened_by, wholes}
 use Rattle.frame_diff.specs.declared.side.Side.{Side}
-use Rattle.frame_diff.specs.declared.side.Side.TheVariants.{Old, New}
+use Rattle.frame_diff.specs.declared.side.Side.TheVariants.{Old, New, Moved}
 use Rattle.frame_diff.proofs.Leaves.{all_told, told_is}
 use Rattle.frame_diff.proofs.Silent.{Has, found_first, rest_has}
 use Rattle.frame_diff.proofs.Steps.{step_same}
@@ -26,6 +27,7 @@ found_whole : (s : Step) (f g : Forest) → find s (wholes f g) ≡ option_map (
 found_whole s Forest.none g = refl
 found_whole s Forest.passed g = refl
 found_whole s (Forest.vlans runs) g = refl
+found_whole s (Forest.texts vs) g = refl
 found_whole s (Forest.tree t v i rest) g = by (is_step t s) refl (found_whole s rest g)
   where
     by : (b : Bool) → is_step t s ≡ b → find s (wholes rest g) ≡ option_map (held_cut s (find s g)) (find s rest)
@@ -45,12 +47,14 @@ wholes_runs : (f g : Forest) → runs_inside f ≡ [] → runs_inside (wholes f 
 wholes_runs Forest.none g none = refl
 wholes_runs Forest.passed g none = refl
 wholes_runs (Forest.vlans runs) g none = none
+wholes_runs (Forest.texts vs) g none = refl
 wholes_runs (Forest.tree s v i rest) g none = refl
 
 pub wholes_apart : (f g : Forest) → AreApart f → AreApart (wholes f g)
 wholes_apart Forest.none g apart = tt
 wholes_apart Forest.passed g apart = tt
 wholes_apart (Forest.vlans runs) g apart = apart
+wholes_apart (Forest.texts vs) g apart = tt
 wholes_apart (Forest.tree s v i rest) g apart = (
   found_whole s rest g ∙ ap (option_map (held_cut s (find s g))) apart.0,
   cut_apart s (find s g) (wholes i (inside_in (find s g))) (wholes_apart i (inside_in (find s g)) apart.1),
@@ -82,6 +86,7 @@ leaf_beside : (v : List Token) (j i : Forest) → leaf_in (Some (v, wholes j i))
 leaf_beside v Forest.none i = refl
 leaf_beside v Forest.passed i = refl
 leaf_beside v (Forest.vlans runs) i = refl
+leaf_beside v (Forest.texts vs) i = refl
 leaf_beside v (Forest.tree a b c d) i = refl
 
 module _ (side : Side) (path : Path) (v : List Token) where
@@ -95,6 +100,7 @@ module _ (side : Side) (path : Path) (v : List Token) where
   found_same w j Forest.none inner false = ap (leaf_change side path v) (leaf_beside w j Forest.none)
   found_same w j Forest.passed inner false = refl
   found_same w j (Forest.vlans runs) inner false = refl
+  found_same w j (Forest.texts vs) inner false = ap (leaf_change side path v) (leaf_beside w j (Forest.texts vs))
   found_same w j (Forest.tree a b c d) inner false = inner
 
   member_same : (s : Step) (i : Forest) (beside : Option Held)
@@ -113,6 +119,7 @@ pub told_same : (side : Side) (path : Path) (f g h : Forest) → AreApart f → 
 told_same side path Forest.none g h apart has = refl
 told_same side path Forest.passed g h apart has = refl
 told_same side path (Forest.vlans runs) g h apart has = refl
+told_same side path (Forest.texts vs) g h apart has = refl
 told_same side path (Forest.tree s v i rest) g h apart has =
     let inside = cut s (find s g) (wholes i (inside_in (find s g))) in
     (λ k. member_told side (path ++ s ∷ []) v inside (told side (path ++ s ∷ []) inside)
@@ -128,25 +135,29 @@ told_same side path (Forest.tree s v i rest) g h apart has =
 abbrev alone : Side → Path → List Token → Change
 alone Old = Change.went
 alone New = Change.came
+alone Moved = Change.went
 
-alone_is : (side : Side) (path : Path) (v : List Token) → leaf_change side path v None ≡ alone side path v ∷ []
-alone_is Old path v = refl
-alone_is New path v = refl
+alone_is : (side : Side) (path : Path) (v : List Token) → is_moved side ≡ false
+    → leaf_change side path v None ≡ alone side path v ∷ []
+alone_is Old path v telling = refl
+alone_is New path v telling = refl
+alone_is Moved path v telling = absurd cc
 
-alone_leaves : (side : Side) (path : Path) (ls : List Leaf)
+alone_leaves : (side : Side) (path : Path) (ls : List Leaf) → is_moved side ≡ false
     → side_changes side path ls [] ≡ map (λ l. alone side (path ++ l.0) l.1) ls
-alone_leaves side path [] = refl
-alone_leaves side path (l ∷ ls) =
-    (λ k. alone_is side (path ++ l.0) l.1 k ++ alone_leaves side path ls k)
+alone_leaves side path [] telling = refl
+alone_leaves side path (l ∷ ls) telling =
+    (λ k. alone_is side (path ++ l.0) l.1 telling k ++ alone_leaves side path ls telling k)
 
-alone_told : (side : Side) (path : Path) (v : List Token) (i : Forest)
+alone_told : (side : Side) (path : Path) (v : List Token) (i : Forest) → is_moved side ≡ false
     → opened_by (alone side) path v i ≡ member_told side path v i (told side path i) None
-alone_told side path v Forest.none = sym (alone_is side path v)
-alone_told side path v Forest.passed = refl
-alone_told side path v (Forest.vlans runs) = refl
-alone_told side path v (Forest.tree a b c d) =
+alone_told side path v Forest.none telling = sym (alone_is side path v telling)
+alone_told side path v Forest.passed telling = refl
+alone_told side path v (Forest.vlans runs) telling = refl
+alone_told side path v (Forest.texts vs) telling = sym (alone_is side path v telling)
+alone_told side path v (Forest.tree a b c d) telling =
     sym (told_is side path (Forest.tree a b c d) Forest.none tt
-    ∙ alone_leaves side path (leaves (Forest.tree a b c d)))
+    ∙ alone_leaves side path (leaves (Forest.tree a b c d)) telling)
 
 inside_further : (path : Path) (s : Step) (f : Forest)
     → inside_at (path ++ s ∷ []) f ≡ inside_in (find s (inside_at path f))
@@ -154,21 +165,21 @@ inside_further [] s f = refl
 inside_further (t ∷ path) s f = inside_further path s (inside_in (find t f))
 
 -- where values that one side alone has are opened by what stands in a forest, and no others are
-module _ (side : Side) (own : Forest) (opening : Change → List Change)
+module _ (side : Side) (telling : is_moved side ≡ false) (own : Forest) (opening : Change → List Change)
     (one : (path : Path) (v : List Token)
     → flat_map opening (leaf_change side path v None) ≡ opened_by (alone side) path v (inside_at path own))
     (both : (path : Path) (v w : List Token)
     → flat_map opening (leaf_change side path v (Some w)) ≡ leaf_change side path v (Some w)) where
-  leaf_opened : (path : Path) (v : List Token) (beside : Option (List Token)) → inside_at path own ≡ Forest.none
+  leaf_opened : (path : Path) (v : List Token) (beside : Option (List Token))
+      → opened_by (alone side) path v (inside_at path own) ≡ alone side path v ∷ []
       → flat_map opening (leaf_change side path v beside) ≡ leaf_change side path v beside
-  leaf_opened path v None is =
-      one path v ∙ ap (opened_by (alone side) path v) is ∙ sym (alone_is side path v)
+  leaf_opened path v None is = one path v ∙ is ∙ sym (alone_is side path v telling)
   leaf_opened path v (Some w) is = both path v w
 
   whole_opened : (path : Path) (v : List Token) (i : Forest) → inside_at path own ≡ i
       → flat_map opening (leaf_change side path v None) ≡ member_told side path v i (told side path i) None
   whole_opened path v i is =
-      one path v ∙ ap (opened_by (alone side) path v) is ∙ alone_told side path v i
+      one path v ∙ ap (opened_by (alone side) path v) is ∙ alone_told side path v i telling
 
   kept_opened : (path : Path) (v : List Token) (i : Forest) (beside : Option Held) → inside_at path own ≡ i
       → flat_map opening (told side path (wholes i (inside_in beside)) (inside_in beside))
@@ -176,9 +187,12 @@ module _ (side : Side) (own : Forest) (opening : Change → List Change)
       → flat_map opening (member_told side path v (wholes i (inside_in beside))
       (told side path (wholes i (inside_in beside))) beside)
       ≡ member_told side path v i (told side path i) beside
-  kept_opened path v Forest.none beside is inner = leaf_opened path v (leaf_in beside) is
+  kept_opened path v Forest.none beside is inner =
+      leaf_opened path v (leaf_in beside) (ap (opened_by (alone side) path v) is)
   kept_opened path v Forest.passed beside is inner = refl
   kept_opened path v (Forest.vlans runs) beside is inner = refl
+  kept_opened path v (Forest.texts vs) beside is inner =
+      leaf_opened path v (leaf_in beside) (ap (opened_by (alone side) path v) is)
   kept_opened path v (Forest.tree a b c d) beside is inner = inner
 
   -- what the member tells, if it is told as a whole or not
@@ -207,6 +221,7 @@ module _ (side : Side) (own : Forest) (opening : Change → List Change)
   told_opened path Forest.none g apart has = refl
   told_opened path Forest.passed g apart has = refl
   told_opened path (Forest.vlans runs) g apart has = refl
+  told_opened path (Forest.texts vs) g apart has = refl
   told_opened path (Forest.tree s v i rest) g apart has =
       let beside = find s g in
       let is : inside_at (path ++ s ∷ []) own ≡ i =
@@ -242,8 +257,8 @@ wholes_leaves old new apart apart_too =
     (λ k. flat_map (opened old new) (told_same Old [] old new old apart (λ t held h. h) k
     ++ told_same New [] new old new apart_too (λ t held h. h) k))
     ∙ flat_map-append (opened old new) (told Old [] (wholes old new) new) (told New [] (wholes new old) old)
-    ∙ (λ k. told_opened Old old (opened old new) (went_one old new) (turned_both old new) [] old new apart
+    ∙ (λ k. told_opened Old refl old (opened old new) (went_one old new) (turned_both old new) [] old new apart
     (λ t held h. h) k
-    ++ told_opened New new (opened old new) (came_one old new) (λ path v w. refl) [] new old apart_too
+    ++ told_opened New refl new (opened old new) (came_one old new) (λ path v w. refl) [] new old apart_too
     (λ t held h. h) k)
     ∙ all_told old new apart apart_too

@@ -6,7 +6,7 @@ use Rattle.shown.specs.Drafts.{object_of}
 use Rattle.shown.specs.Print.{print}
 use Rattle.frame_diff.specs.Forests.{Forest, Held, Leaf, Path, find, is_path, is_text, value_at}
 use Rattle.frame_diff.specs.declared.side.Side.{Side}
-use Rattle.frame_diff.specs.declared.side.Side.TheVariants.{Old, New}
+use Rattle.frame_diff.specs.declared.side.Side.TheVariants.{Old, New, Moved}
 
 pub data Change : Type 0 where
   came : (path : Path) (value : List Token) → Change
@@ -29,6 +29,7 @@ leaf_change Old path v None = Change.went path v ∷ []
 leaf_change Old path v (Some w) = cond (is_shown_same v w) [] (Change.turned path v w ∷ [])
 leaf_change New path v None = Change.came path v ∷ []
 leaf_change New path v (Some w) = []
+leaf_change Moved path v beside = []
 
 -- what all leaves of one side say
 abbrev pub side_changes : Side → Path → List Leaf → List Leaf → List Change
@@ -46,6 +47,7 @@ leaf_in None = None
 leaf_in (Some (v, Forest.none)) = Some v
 leaf_in (Some (v, Forest.passed)) = None
 leaf_in (Some (v, Forest.vlans runs)) = None
+leaf_in (Some (v, Forest.texts vs)) = Some v
 leaf_in (Some (v, Forest.tree a b c d)) = None
 
 -- the members inside one
@@ -58,6 +60,7 @@ abbrev pub member_told : Side → Path → List Token → Forest → (Forest →
 member_told side path v Forest.none told beside = leaf_change side path v (leaf_in beside)
 member_told side path v Forest.passed told beside = []
 member_told side path v (Forest.vlans runs) told beside = []
+member_told side path v (Forest.texts vs) told beside = leaf_change side path v (leaf_in beside)
 member_told side path v (Forest.tree a b c d) told beside = told (inside_in beside)
 
 -- what members tell beside others
@@ -65,6 +68,7 @@ abbrev pub told : Side → Path → Forest → Forest → List Change
 told side path Forest.none others = []
 told side path Forest.passed others = []
 told side path (Forest.vlans runs) others = []
+told side path (Forest.texts vs) others = []
 told side path (Forest.tree s v i rest) others =
     member_told side (path ++ s ∷ []) v i (told side (path ++ s ∷ []) i) (find s others)
     ++ told side path rest others

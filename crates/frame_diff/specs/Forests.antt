@@ -80,11 +80,13 @@ is_path (s ∷ p) (t ∷ q) = is_step s t && is_path p q
 -- ** members
 
 -- members beside each other: the step to each, its value as it is shown, and those inside it; a value inside which
--- there are none is a leaf, unless it has some that are all passed over; or the runs of the VLANs of a port
+-- there are none is a leaf, unless it has some that are all passed over; or the runs of the VLANs of a port; or the values
+-- of a list that are their own keys, which is a leaf too
 pub data Forest : Type 0 where
   none : Forest
   passed : Forest
   vlans : (runs : List Run) → Forest
+  texts : (values : List (List Token)) → Forest
   tree : (step : Step) (value : List Token) (inside rest : Forest) → Forest
 
 -- a value, and the members inside it
@@ -96,6 +98,7 @@ abbrev pub find : Step → Forest → Option Held
 find t Forest.none = None
 find t Forest.passed = None
 find t (Forest.vlans runs) = None
+find t (Forest.texts vs) = None
 find t (Forest.tree s v i rest) = cond (is_step s t) (Some (v, i)) (find t rest)
 
 -- the runs in a forest, if it holds VLANs
@@ -103,6 +106,7 @@ abbrev pub runs_inside : Forest → List Run
 runs_inside Forest.none = []
 runs_inside Forest.passed = []
 runs_inside (Forest.vlans runs) = runs
+runs_inside (Forest.texts vs) = []
 runs_inside (Forest.tree s v i rest) = []
 
 -- no two members beside each other have one step, no VLAN stands in two runs, and none beside members
@@ -110,6 +114,7 @@ abbrev pub AreApart : Forest → Type 0
 AreApart Forest.none = Unit {0}
 AreApart Forest.passed = Unit {0}
 AreApart (Forest.vlans runs) = are_apart None runs ≡ true
+AreApart (Forest.texts vs) = Unit {0}
 AreApart (Forest.tree s v i rest) =
     (find s rest ≡ None) × AreApart i × AreApart rest × (runs_inside rest ≡ [])
 
@@ -143,12 +148,14 @@ abbrev pub leaves_at : Step → List Token → Forest → List Leaf → List Lea
 leaves_at s v Forest.none ls = (s ∷ [], v) ∷ []
 leaves_at s v Forest.passed ls = []
 leaves_at s v (Forest.vlans runs) ls = []
+leaves_at s v (Forest.texts vs) ls = (s ∷ [], v) ∷ []
 leaves_at s v (Forest.tree a b c d) ls = under s ls
 
 abbrev pub leaves : Forest → List Leaf
 leaves Forest.none = []
 leaves Forest.passed = []
 leaves (Forest.vlans runs) = []
+leaves (Forest.texts vs) = []
 leaves (Forest.tree s v i rest) = leaves_at s v i (leaves i) ++ leaves rest
 
 -- the first value at a path

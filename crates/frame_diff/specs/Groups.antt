@@ -18,7 +18,8 @@ use Rattle.frame_diff.specs.Forests.{Forest, Held, Member, Step, entries_step, f
 use Rattle.frame_diff.specs.Inside.{above}
 use Rattle.frame_diff.specs.Items.{joined}
 use Rattle.frame_diff.specs.Keys.{key_at, number_in}
-use Rattle.frame_diff.specs.Members.{Reading, are_plain, entries_in, entry_with, frame_member, inside_of, list_by}
+use Rattle.frame_diff.specs.Members.{Reading, are_plain, entries_in, entry_with, frame_member, inside_of}
+use Rattle.frame_diff.specs.Members.{is_own_key, list_by}
 use Rattle.frame_diff.specs.Members.{runs_by, runs_or}
 use Rattle.frame_diff.specs.Members.{named_in, numbers_by, value_in, value_with, values_inside, values_with}
 use Rattle.frame_diff.specs.Settled.{settled}
@@ -120,8 +121,8 @@ is_valued None list = is_group list
 is_valued (Some n) list = true
 
 -- and all of them as one value
-abbrev pub group_by : List (Option Held) → Forest → Held
-group_by hs inside = (list_of (flat_map value_in hs), values_inside hs inside)
+abbrev pub group_by : Bool → List (Option Held) → Forest → Held
+group_by own hs inside = (list_of (flat_map value_in hs), values_inside own hs inside)
 
 -- the number of each
 abbrev pub numbers_at : Showing → Holding → Bool → Attributes → List (Option ℕ)
@@ -142,7 +143,8 @@ abbrev pub group_inside : Showing → Holding → Bool → Attributes → Forest
 group_inside nest inner is_state a = runs_or (runs_at a) (labelled_inside nest inner is_state a)
 
 abbrev pub group_held : Showing → Holding → Bool → Attributes → Held
-group_held nest inner is_state a = group_by (group_at nest inner is_state a) (group_inside nest inner is_state a)
+group_held nest inner is_state a =
+    group_by (is_own_key a.number a.list) (group_at nest inner is_state a) (group_inside nest inner is_state a)
 
 -- none is an object or a list, whatever attributes there are
 abbrev pub IsFlat : Option ℕ → Shape → Type 0

@@ -12,7 +12,16 @@ abbrev pub has_none : Forest → Bool
 has_none Forest.none = true
 has_none Forest.passed = false
 has_none (Forest.vlans runs) = false
+has_none (Forest.texts vs) = true
 has_none (Forest.tree s v i rest) = false
+
+-- values that are their own keys
+abbrev pub is_texts : Forest → Bool
+is_texts Forest.none = false
+is_texts Forest.passed = false
+is_texts (Forest.vlans runs) = false
+is_texts (Forest.texts vs) = true
+is_texts (Forest.tree s v i rest) = false
 
 -- the step to a field
 abbrev pub is_field : Step → Bool
@@ -40,10 +49,10 @@ abbrev pub HoldsNoField : Holding → Type 0
 HoldsNoField inner = (is_state : Bool) (cx : Around) (list : Shape) (p : List ℕ) (name : List ℕ)
     → find (field_step name) (inner is_state cx list p) ≡ None
 
--- and none is of VLANs
+-- and none is of VLANs, or of values that are their own keys
 abbrev pub HoldsNoRuns : Holding → Type 0
 HoldsNoRuns inner = (is_state : Bool) (cx : Around) (list : Shape) (p : List ℕ)
-    → runs_inside (inner is_state cx list p) ≡ []
+    → (runs_inside (inner is_state cx list p) ≡ []) × (is_texts (inner is_state cx list p) ≡ false)
 
 -- the members of a list, where there is one
 abbrev pub inside_list : Holding → Bool → Option Attributes → Forest

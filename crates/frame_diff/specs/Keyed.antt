@@ -1,13 +1,17 @@
 -- For the calls that go over lists whose values have labels.
-use Rattle.std.specs.Prelude.{◌≡◌, ℕ, List, [], ◌∷◌, Bool, Option, None, Some, map, option_and_then, option_map}
+use Rattle.std.specs.Prelude.{◌≡◌, ℕ, List, [], ◌∷◌, ◌++◌, Bool, Option, None, Some, map, option_and_then, option_map}
 use Rattle.std.specs.Prelude.{slice_get}
-use Rattle.std.specs.List.{AllByRecursion}
-use Rattle.shown.specs.Drafts.{Members}
-use Rattle.frame_diff.specs.Forests.{Held, Step, find}
+use Rattle.std.specs.List.{AllByRecursion, flat_map, list_any}
+use Rattle.std.specs.Option.{is_some as is_some_value}
+use Rattle.json.specs.Token.{Token}
+use Rattle.shown.specs.Drafts.{Members, list_of}
+use Rattle.frame_diff.specs.Forests.{Forest, Held, Step, find}
 use Rattle.frame_diff.specs.Groups.{group_at, labelled_inside, is_entries, numbers_at, value_at}
+use Rattle.frame_diff.specs.Items.{items_told, moved_items}
 use Rattle.frame_diff.specs.Keys.{number_of}
 use Rattle.frame_diff.specs.Labels.{place_of}
-use Rattle.frame_diff.specs.Values.{kept_at, kept_held, kept_numbers}
+use Rattle.frame_diff.specs.Members.{value_in}
+use Rattle.frame_diff.specs.Values.{kept_at, kept_held, kept_inside_at, kept_numbers}
 use Rattle.frame_diff.specs.Walked.{AreBeside, Holding, Showing, step_items}
 use Rattle.frame_diff.specs.declared.kept.Kept.{Kept}
 use Rattle.frame_diff.specs.declared.keyed.Labelled.{Labelled}
@@ -81,3 +85,29 @@ value_of {X} l vs =
 abbrev pub label_items : Side → List ℕ → Step → Option Held → Option Held → List Members
 label_items side text s None beside = []
 label_items side text s (Some held) beside = step_items side text s held beside
+
+-- ** attributes that are kept, in another order
+
+-- some are not passed over
+abbrev pub are_any : List (Labelled (Option Kept)) → Bool
+are_any ks = list_any (λ (k : Labelled (Option Kept)). is_some_value k.value) ks
+
+-- a list that has members, as one itself
+abbrev pub held_unless : List Token → Forest → Option Held
+held_unless v Forest.none = None
+held_unless v Forest.passed = None
+held_unless v (Forest.vlans runs) = None
+held_unless v (Forest.texts vs) = None
+held_unless v (Forest.tree a b c d) = Some (v, Forest.tree a b c d)
+
+abbrev pub list_beside : List (Option Held) → Forest → Option Held
+list_beside hs f = held_unless (list_of (flat_map value_in hs)) f
+
+abbrev pub kept_moved : Side → List ℕ → Bool → Attributes → Attributes → List Members
+kept_moved side text is_state own others = moved_items side text (list_of (flat_map value_in (kept_at is_state own)))
+    (kept_inside_at is_state own) (list_beside (kept_at is_state others) (kept_inside_at is_state others))
+
+-- and what each of them tells
+abbrev pub others_items : Side → List ℕ → Bool → Attributes → Attributes → List Members
+others_items side text is_state own others = kept_moved side text is_state own others
+    ++ items_told side text (kept_inside_at is_state own) (kept_inside_at is_state others)

@@ -12,7 +12,7 @@ use Rattle.frame_diff.specs.Forests.{AreApart, Forest, Path, Step, leaves}
 use Rattle.frame_diff.specs.Items.{items_told, path_text}
 use Rattle.frame_diff.specs.Members.{Parts, Reading, frame_member, is_unnamed, message_forest, message_made}
 use Rattle.frame_diff.specs.Members.{value_with, way_inside}
-use Rattle.frame_diff.specs.Ranges.{Told, apart, both_by, told_by, told_items}
+use Rattle.frame_diff.specs.Ranges.{Told, apart, both_by, moved_by, told_by, told_items}
 use Rattle.frame_diff.specs.Wholes.{between, opened, wholes}
 use Rattle.frame_diff.specs.declared.side.Side.{Side}
 
@@ -54,6 +54,11 @@ abbrev pub messages_by : Bool → Around → Around → Parts → Parts → List
 messages_by is_state cx other old new =
     both_by (message_made is_state cx old) (message_made is_state other new)
 
+-- lists whose values both have in another order, or written otherwise
+abbrev pub messages_moved : Bool → Around → Around → Parts → Parts → List Told
+messages_moved is_state cx other old new =
+    moved_by (message_made is_state cx old) (message_made is_state other new)
+
 -- VLAN by VLAN, what is written of two messages is what is told of them
 abbrev pub RangesAreChanges : Type 0
 RangesAreChanges = (is_state : Bool) (cx other : Around) (old new : Parts)
@@ -63,11 +68,16 @@ abbrev pub is_empty : {X : Type 0} → List X → Bool
 is_empty [] = true
 is_empty (x ∷ xs) = false
 
--- nothing is written of two messages exactly where nothing is told of them
-abbrev pub WrittenIsTold : Type 0
-WrittenIsTold = (is_state : Bool) (cx other : Around) (old new : Parts)
-    → is_empty (flat_map told_items (messages_by is_state cx other old new))
-    ≡ is_empty (messages_told is_state cx other old new)
+-- nothing is written of two messages where nothing is told of them; and where neither that is written nor a list in
+-- another order, nothing is told
+pub record WrittenIsTold : Type 0 where
+  pub silent : (is_state : Bool) (cx other : Around) (old new : Parts)
+      → messages_told is_state cx other old new ≡ []
+      → flat_map told_items (messages_by is_state cx other old new) ≡ []
+  pub moved : (is_state : Bool) (cx other : Around) (old new : Parts)
+      → flat_map told_items (messages_by is_state cx other old new) ≡ []
+      → flat_map told_items (messages_moved is_state cx other old new) ≡ []
+      → messages_told is_state cx other old new ≡ []
 
 -- it is what differs between all leaves of both, where a value with a label that stands alone is a leaf; leaf by leaf
 -- it is what differs between all leaves; and each path is told once

@@ -2,6 +2,7 @@ pub mod Sides
 pub mod Forests
 pub mod Vlans
 pub mod Differences
+pub mod Texts
 pub mod Wholes
 pub mod Counters
 pub mod Settled
@@ -17,6 +18,7 @@ pub mod Names
 pub mod Still
 pub mod Walked
 pub mod Values
+pub mod Each
 pub mod Repeated
 pub mod Rows
 pub mod Inside

@@ -13,6 +13,7 @@ use Rattle.link_info.specs.Meanings.{Members as Fields, Elements, Listed, Nested
 use Rattle.link_info.specs.Styles.{plain_size}
 use Rattle.link_info.specs.Tables.{frames_in}
 use Rattle.link_info.specs.declared.place.Place.TheVariants as Places
+use Rattle.link_info.specs.declared.style.Plain.{Plain}
 use Rattle.link_state.specs.Table.{Action}
 use Rattle.link_vlans.specs.Runs.{runs_in}
 use Rattle.link_vlans.specs.declared.run.Run.{Run}
@@ -24,7 +25,7 @@ use Rattle.frame_shown.specs.Kept.{frame_members}
 use Rattle.frame_shown.specs.Messages.{address_len, header_members, with_address_len}
 use Rattle.frame_shown.specs.Tables.{Known, entry_list, group_name, is_each, is_kept, kind_shown, lists_in, row_in}
 use Rattle.frame_shown.specs.Values.{Nesting, behind_settings, counter_names, counter_width, counters_shown}
-use Rattle.frame_shown.specs.Values.{event_in, fields_in, fields_shown, hexadecimal, info_of}
+use Rattle.frame_shown.specs.Values.{event_in, fields_in, fields_shown, hexadecimal, info_of, payloads_shown}
 use Rattle.frame_shown.specs.Values.{ipv6_named}
 use Rattle.frame_shown.specs.Values.{record_shown, setting_names, settings_shown}
 use Rattle.frame_shown.specs.declared.form.Around.{Around}
@@ -33,6 +34,7 @@ use Rattle.frame_shown.specs.declared.form.Form.TheVariants as Forms
 use Rattle.frame_shown.specs.declared.form.Group.{Group}
 use Rattle.frame_shown.specs.declared.form.List.{List as Shape}
 use Rattle.frame_shown.specs.declared.form.List.TheVariants as Shapes
+use Rattle.frame_shown.specs.declared.form.Table.TheVariants as Tables
 use Rattle.frame_shown.specs.declared.form.Order.{Order}
 use Rattle.frame_shown.specs.declared.form.Order.TheVariants as Orders
 use Rattle.frame_shown.specs.declared.form.Way.{Way}
@@ -103,9 +105,23 @@ abbrev pub are_plain : List (Option Held) → Bool
 are_plain [] = true
 are_plain (h ∷ hs) = not (is_nested h) && are_plain hs
 
+abbrev pub value_in : Option Held → List Token
+value_in None = []
+value_in (Some held) = held.0
+
+-- a list whose values are their own keys: alternative names, and the addresses of a macvlan
+abbrev pub is_own_key : Option ℕ → Shape → Bool
+is_own_key None (Shapes.Listed group Tables.Props) = true
+is_own_key (Some n) (Shapes.Of Places.MacvlanAddresses) = true
+is_own_key _ _ = false
+
+abbrev pub flat_inside : Bool → List (Option Held) → Forest
+flat_inside false hs = Forest.none
+flat_inside true hs = Forest.texts (map value_in hs)
+
 -- such a list is one value; of any other one each stands inside
-abbrev pub values_inside : List (Option Held) → Forest → Forest
-values_inside hs inside = cond (are_plain hs) Forest.none inside
+abbrev pub values_inside : Bool → List (Option Held) → Forest → Forest
+values_inside own hs inside = cond (are_plain hs) (flat_inside own hs) inside
 
 -- by the key of the list, if it has one, and the number that each says; else by its place
 abbrev pub inside_of : Option Key → List (Option ℕ) → List (Option Held) → Forest
@@ -114,12 +130,16 @@ inside_of (Some kind) ns hs = keyed kind ns hs
 
 -- ** those of a payload, by its row and by what a state clears of it; a list of values is a leaf
 
+-- the payloads of frames as values, one after the other
+abbrev pub slots_shown : Plain → List ℕ → List (List Token)
+slots_shown plain p = map (λ m. m.1) (payloads_shown plain (items p))
+
 abbrev pub meaning_inside : Inner → Action → Meaning → Forest
 meaning_inside inner action (Fields members p) =
     fields_kept action (map (λ m. plain_size m.1) members) (record_shown members p)
 meaning_inside inner action (Nested place p) = inner (Shapes.Of place) p
 meaning_inside inner action (Elements plain p) = Forest.none
-meaning_inside inner action (Listed plain p) = Forest.none
+meaning_inside inner action (Listed plain p) = Forest.texts (slots_shown plain p)
 meaning_inside inner action (Raw p) = Forest.none
 meaning_inside inner action Present = Forest.none
 meaning_inside inner action (Number n) = Forest.none
@@ -224,14 +244,11 @@ kept_in r list fs = flat_map (kept_with r list) fs
 
 -- ** lists of values
 
-abbrev pub value_in : Option Held → List Token
-value_in None = []
-value_in (Some held) = held.0
-
 abbrev pub unless_none : Step → List Token → Forest → List Member
 unless_none s value Forest.none = []
 unless_none s value Forest.passed = []
 unless_none s value (Forest.vlans runs) = []
+unless_none s value (Forest.texts vs) = []
 unless_none s value (Forest.tree a b c d) = (s, (value, Forest.tree a b c d)) ∷ []
 
 -- at a step, where there are any: each at its place, or by its number
@@ -242,8 +259,8 @@ abbrev pub list_at : Step → List (Option Held) → List Member
 list_at s hs = list_by s hs (places hs)
 
 -- one list of values, at a step
-abbrev pub group_of : Step → List (Option Held) → Forest → Member
-group_of s hs inside = (s, (list_of (flat_map value_in hs), values_inside hs inside))
+abbrev pub group_of : Step → Bool → List (Option Held) → Forest → Member
+group_of s own hs inside = (s, (list_of (flat_map value_in hs), values_inside own hs inside))
 
 -- the number of each value of a list, by the attribute that it is of
 abbrev pub numbers_by : (Frame → Option ℕ) → (Frame → List (Option Held)) → List Frame → List (Option ℕ)
@@ -291,13 +308,14 @@ inside_with r list n fs = let kind = key_at (Some n) list in
     (inside_of kind (numbers_by (number_in r.around kind list) (value_with r list n) fs) (values_with r list n fs))
 
 -- a list under its name, where it has a value
-abbrev pub array_at : List ℕ → List (Option Held) → Forest → List Member
-array_at name [] inside = []
-array_at name (h ∷ hs) inside = group_of (Step.array name) (h ∷ hs) inside ∷ []
+abbrev pub array_at : List ℕ → Bool → List (Option Held) → Forest → List Member
+array_at name own [] inside = []
+array_at name own (h ∷ hs) inside = group_of (Step.array name) own (h ∷ hs) inside ∷ []
 
 abbrev pub arrays_of : Reading → Shape → Lists → List Frame → List Member
 arrays_of r list lists fs =
-    flat_map (λ l. array_at l.1 (values_with r list l.0 fs) (inside_with r list l.0 fs)) lists
+    flat_map (λ l. array_at l.1 (is_own_key (Some l.0) list) (values_with r list l.0 fs) (inside_with r list l.0 fs))
+    lists
 
 abbrev pub arrays_in : Reading → Shape → List Frame → List Member
 arrays_in r list fs = arrays_of r list (lists_in r.around list) fs
@@ -314,7 +332,7 @@ members_in r list fs =
 abbrev pub listed_in : Reading → Group → Shape → List Frame → List Member
 listed_in r group list fs =
     let hs = map (λ (m : Member). Some m.1) (named_in r list fs) in
-    group_of (values_step (group_name group)) hs (places hs)
+    group_of (values_step (group_name group)) (is_own_key None list) hs (places hs)
     ∷ others_at (rest_step (codes "other")) r list fs
 
 -- the objects in the attributes of number 1: as they are shown where they are told as a whole, and what stands inside
@@ -338,7 +356,8 @@ entries_inside r group fs = let list = Shapes.Entries group in let kind = key_at
 abbrev pub list_members : Reading → Shape → List Frame → List Member
 list_members r (Shapes.Listed group table) fs = listed_in r group (Shapes.Listed group table) fs
 list_members r (Shapes.Entries group) fs =
-    group_of (entries_step (group_name group)) (entries_in r (entry_list group) fs) (entries_inside r group fs) ∷ []
+    group_of (entries_step (group_name group)) false (entries_in r (entry_list group) fs) (entries_inside r group fs)
+    ∷ []
 list_members r (Shapes.Message family) fs = members_in r (Shapes.Message family) fs
 list_members r (Shapes.Own table) fs = members_in r (Shapes.Own table) fs
 list_members r (Shapes.Of place) fs = members_in r (Shapes.Of place) fs

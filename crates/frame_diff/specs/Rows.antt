@@ -8,7 +8,7 @@ use Rattle.shown.specs.Drafts.{Members}
 use Rattle.frame_shown.specs.Values.{hexadecimal}
 use Rattle.frame_shown.specs.declared.form.Around.{Around}
 use Rattle.frame_diff.specs.Forests.{Forest, field_step, find, is_text, left_of}
-use Rattle.frame_diff.specs.Members.{Inner, fields, named}
+use Rattle.frame_diff.specs.Members.{Inner, fields, named, slots_shown}
 use Rattle.frame_diff.specs.Values.{value_shown}
 use Rattle.frame_diff.specs.Walked.{last_items}
 use Rattle.frame_diff.specs.declared.counters.Cleared.{Cleared}
@@ -26,8 +26,17 @@ row_shown cx row = (row.name.now, value_shown (λ list p. hexadecimal p) cx row.
 abbrev pub inside_by : Inner → Around → Holds → Forest
 inside_by inner cx Holdings.Nothing = Forest.none
 inside_by inner cx Holdings.Passed = Forest.passed
+inside_by inner cx (Holdings.Slots plain p) = Forest.texts (slots_shown plain p.now)
 inside_by inner cx (Holdings.Fields rows is_any) = left_of is_any (named (map (row_shown cx) rows.items))
 inside_by inner cx (Holdings.List list p) = inner list p.now
+
+-- values that are their own keys
+abbrev pub is_slots : Holds → Bool
+is_slots Holdings.Nothing = false
+is_slots Holdings.Passed = false
+is_slots (Holdings.Slots plain p) = true
+is_slots (Holdings.Fields rows is_any) = false
+is_slots (Holdings.List list p) = false
 
 -- what becomes of a payload of which a part is cleared, or none
 abbrev pub clearing : Option Cleared → Action

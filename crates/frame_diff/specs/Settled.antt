@@ -1,11 +1,13 @@
 -- What is shown of a list that is told as a whole: of a state nothing that moves by itself.
-use Rattle.std.specs.Prelude.{ℕ, List, Bool, true, false, cond, not}
-use Rattle.std.specs.List.{filter, list_any}
+use Rattle.std.specs.Prelude.{ℕ, ◌==◌, List, [], ◌∷◌, Bool, true, false, cond, not}
+use Rattle.std.specs.List.{filter, flat_map, list_any}
 use Rattle.link_info.specs.Tables.{frames_in}
 use Rattle.link_state.specs.Table.{Action}
 use Rattle.nla_wire.specs.Canon.{canons}
 use Rattle.nla_wire.specs.Frames.{Frame, number}
 use Rattle.nla_wire.specs.Items.{items}
+use Rattle.frame_shown.specs.Tables.{entry_list}
+use Rattle.frame_shown.specs.declared.form.Group.{Group}
 use Rattle.frame_shown.specs.declared.form.List.{List as Shape}
 use Rattle.frame_diff.specs.Counters.{action_at, level_in}
 
@@ -28,3 +30,8 @@ still_of list p fs =
 abbrev pub settled : Bool → Shape → List ℕ → List ℕ
 settled false list p = p
 settled true list p = still_of list p (frames_in (items p))
+
+-- each entry of a list
+abbrev pub settled_in : Bool → Group → List Frame → List (List ℕ)
+settled_in is_state group fs =
+    flat_map (λ f. cond (number f == 1) (settled is_state (entry_list group) f.payload ∷ []) []) fs

@@ -20,6 +20,7 @@ abbrev pub shown_in : Forest → Members
 shown_in Forest.none = []
 shown_in Forest.passed = []
 shown_in (Forest.vlans runs) = []
+shown_in (Forest.texts vs) = []
 shown_in (Forest.tree s v i rest) = (step_text s, v) ∷ shown_in rest
 
 -- no two lists of values have one name

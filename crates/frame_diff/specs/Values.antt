@@ -1,5 +1,6 @@
 -- What values that hold no others are shown as, and attributes that are kept as they are.
 use Rattle.std.specs.Prelude.{◌≡◌, ℕ, zero, suc, List, [], ◌∷◌, Bool, Option, None, Some, bit_and}
+use Rattle.std.specs.Global.{Vec}
 use Rattle.std.specs.Prelude.{decimal}
 use Rattle.std.specs.List.{flat_map}
 use Rattle.json.specs.Token.{Token, number as number_token, string}
@@ -12,9 +13,10 @@ use Rattle.frame_shown.specs.Frames.{items_in, way_shown}
 use Rattle.frame_shown.specs.Items.{named_ones, values_of, values_with}
 use Rattle.frame_shown.specs.Kept.{frame_flags, frame_members}
 use Rattle.frame_shown.specs.Messages.{link_flag_names}
-use Rattle.frame_shown.specs.Tables.{row_in}
+use Rattle.frame_shown.specs.Tables.{entry_list, row_in}
 use Rattle.frame_shown.specs.Values.{Nesting, field_shown, hexadecimal, number_tokens, signed_value, spelled}
 use Rattle.frame_shown.specs.declared.form.Around.{Around}
+use Rattle.frame_shown.specs.declared.form.Group.{Group}
 use Rattle.frame_shown.specs.declared.form.List.{List as Shape}
 use Rattle.frame_diff.specs.Counters.{is_passed}
 use Rattle.frame_diff.specs.Forests.{Forest, Held}
@@ -24,6 +26,7 @@ use Rattle.frame_diff.specs.Vlans.{flags_shown, run_shown}
 use Rattle.frame_diff.specs.declared.kept.Entry.{Entry}
 use Rattle.frame_diff.specs.declared.kept.Entry.TheVariants as Entries
 use Rattle.frame_diff.specs.declared.kept.Kept.{Kept}
+use Rattle.frame_diff.specs.declared.keyed.Labelled.{Labelled}
 use Rattle.frame_diff.specs.declared.keys.Key.TheVariants as Keys
 use Rattle.frame_diff.specs.declared.leaf.Value.{Value}
 use Rattle.frame_diff.specs.declared.leaf.Value.TheVariants as Values
@@ -36,6 +39,18 @@ listed_shown nest cx list p = list_of (flat_map values_of (named_ones (items_in 
 -- the values of the list of a number
 abbrev pub array_shown : Nesting → Around → Shape → ℕ → List ℕ → List Token
 array_shown nest cx list n p = list_of (flat_map (λ tokens. tokens) (values_with n (items_in nest cx list (items p))))
+
+-- entries of a group
+abbrev pub entries_shown : Nesting → Group → List (Vec ℕ) → List Token
+entries_shown nest group es = list_of (flat_map (λ (e : Vec ℕ). nest (entry_list group) e.items) es)
+
+-- attributes that are kept as they are, but for those that are passed over
+abbrev pub other_shown : Option Kept → List Token
+other_shown None = []
+other_shown (Some k) = object_of (frame_members k.name.now k.kind k.payload.now)
+
+abbrev pub others_shown : List (Labelled (Option Kept)) → List Token
+others_shown ks = list_of (flat_map (λ (k : Labelled (Option Kept)). other_shown k.value) ks)
 
 abbrev pub value_shown : Nesting → Around → Value → List Token
 value_shown nest cx (Values.Payload way payload) = way_shown nest cx way payload.now
@@ -52,6 +67,8 @@ value_shown nest cx (Values.VlanFlags bits) = flags_shown bits
 value_shown nest cx (Values.Vlans run) = run_shown run
 value_shown nest cx (Values.Listed list p) = listed_shown nest cx list p.now
 value_shown nest cx (Values.Array list n p) = array_shown nest cx list n p.now
+value_shown nest cx (Values.Entries group es) = entries_shown nest group es.now
+value_shown nest cx (Values.Others ks) = others_shown ks.now
 value_shown nest cx (Values.Kept name kind p) = object_of (frame_members name.now kind p.now)
 
 -- two values are shown as the same, whatever they are shown by

@@ -75,4 +75,5 @@ abbrev pub flat : Forest → Forest
 flat Forest.none = Forest.none
 flat Forest.passed = Forest.passed
 flat (Forest.vlans runs) = runs_flat runs
+flat (Forest.texts vs) = Forest.none
 flat (Forest.tree s v i rest) = Forest.tree s v (flat i) (flat rest)

@@ -16,7 +16,7 @@ use Rattle.frame_shown.specs.declared.form.Way.{Way}
 use Rattle.frame_diff.specs.Beside.{held_of}
 use Rattle.frame_diff.specs.Counters.{action_in}
 use Rattle.frame_diff.specs.Forests.{AreApart, Forest, Held, Member, Step, comes, find, is_text}
-use Rattle.frame_diff.specs.Items.{further, items_told, member_items}
+use Rattle.frame_diff.specs.Items.{further, items_told, list_items, member_items, moved_items}
 use Rattle.frame_diff.specs.Members.{Inner, Reading, held_by, is_unnamed, named_in}
 use Rattle.frame_diff.specs.Shown.{HasNamesApart}
 use Rattle.frame_diff.specs.Wholes.{cut}
@@ -157,10 +157,16 @@ AreOfFrame (Some a) (Some g) = (a.number ≡ number g) × (a.payload.now ≡ g.p
 abbrev pub held_items : Side → List ℕ → Held → Option Held → List Members
 held_items side text held beside = member_items side text held.0 held.1 (items_told side text held.1) beside
 
+-- of a list, which may be in another order
+abbrev pub listed_items : Side → List ℕ → Held → Option Held → List Members
+listed_items side text held beside =
+    moved_items side text held.0 held.1 beside ++ held_items side text held beside
+
 -- of a value one step further: as a whole, where it has a label and stands alone
 abbrev pub step_items : Side → List ℕ → Step → Held → Option Held → List Members
 step_items side text s held beside =
-    member_items side (further text s) held.0 (cut s beside held.1) (items_told side (further text s) held.1) beside
+    list_items side (further text s) s held.0 held.1 beside
+    ++ member_items side (further text s) held.0 (cut s beside held.1) (items_told side (further text s) held.1) beside
 
 -- of a member: nothing, where another one of its step comes behind it
 abbrev pub last_items : Side → List ℕ → List Member → Member → Option Held → List Members

@@ -19,6 +19,7 @@ abbrev pub wholes : Forest → Forest → Forest
 wholes Forest.none others = Forest.none
 wholes Forest.passed others = Forest.passed
 wholes (Forest.vlans runs) others = Forest.vlans runs
+wholes (Forest.texts vs) others = Forest.texts vs
 wholes (Forest.tree s v i rest) others =
     Forest.tree s v (cut s (find s others) (wholes i (inside_in (find s others)))) (wholes rest others)
 
@@ -38,6 +39,7 @@ abbrev pub opened_by : (Path → List Token → Change) → Path → List Token 
 opened_by change path v Forest.none = change path v ∷ []
 opened_by change path v Forest.passed = []
 opened_by change path v (Forest.vlans runs) = []
+opened_by change path v (Forest.texts vs) = change path v ∷ []
 opened_by change path v (Forest.tree a b c d) = map (λ l. change (path ++ l.0) l.1) (leaves (Forest.tree a b c d))
 
 -- a change of two objects, leaf by leaf

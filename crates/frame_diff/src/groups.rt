@@ -1,7 +1,7 @@
 //! What a list of values tells beside another one, place by place.
 
-ghost use Rattle.std.specs.Prelude.{◌≡◌, ◌<◌, ◌+◌, ◌^◌, ◌∷◌, [], ℕ, Bool, IfOk, IfSome, None, OnOk, Some, decimal};
-ghost use Rattle.std.specs.Prelude.{false, map, not, option_map, true};
+ghost use Rattle.std.specs.Prelude.{◌≡◌, ◌<◌, ◌+◌, ◌++◌, ◌^◌, ◌∷◌, [], ℕ, Bool, IfOk, IfSome, None, OnOk, Some, decimal};
+ghost use Rattle.std.specs.Prelude.{Option as Maybe, false, map, not, option_map, true};
 ghost use Rattle.nla_wire.specs.Items.{items};
 ghost use Rattle.link_info.specs.Tables.{frames_in};
 ghost use Rattle.shown.specs.Drafts.{with_members};
@@ -10,7 +10,7 @@ ghost use Rattle.frame_shown.specs.Values.{Nesting};
 ghost use Rattle.frame_shown.specs.declared.form.Around.{Around as Beside};
 ghost use Rattle.frame_shown.specs.declared.form.List.{List as Shape};
 ghost use Rattle.frame_diff.specs.Differences.{inside_in, leaf_in};
-ghost use Rattle.frame_diff.specs.Forests.{Step, find};
+ghost use Rattle.frame_diff.specs.Forests.{Step, find, runs_inside};
 ghost use Rattle.frame_diff.specs.Groups.{all_of, flat_shown, is_valued, picked_by, first_by, first_of};
 ghost use Rattle.frame_diff.specs.Groups.{group_at, group_held, group_inside, group_step, is_entries};
 ghost use Rattle.frame_diff.specs.Groups.{labelled_inside, runs_at};
@@ -18,17 +18,21 @@ ghost use Rattle.frame_diff.specs.Groups.{IsFlat, IsSameEntry, is_group, is_same
 ghost use Rattle.frame_diff.specs.Groups.{next_place};
 ghost use Rattle.frame_diff.specs.Groups.{picked, place_items, rest_by, rest_of, value_at, values_by};
 ghost use Rattle.frame_diff.specs.Inside.{above, inside_list};
-ghost use Rattle.frame_diff.specs.Items.{alone_item, items_told, joined, leaf_items, step_text};
+ghost use Rattle.frame_diff.specs.Items.{alone_item, is_loose, items_told, joined, leaf_items, moved_items, step_text};
 ghost use Rattle.frame_diff.specs.Keyed.{FindsAt, StandsFor, picked_numbers};
 ghost use Rattle.frame_diff.specs.Keys.{key_at, number_in};
-ghost use Rattle.frame_diff.specs.Members.{are_plain, is_some, places, value_with};
+ghost use Rattle.frame_diff.specs.Each.{each_shown, whole_shown};
+ghost use Rattle.frame_diff.specs.Members.{are_plain, is_own_key, is_some, places, value_in, value_with};
 ghost use Rattle.frame_diff.specs.Values.{value_shown};
 ghost use Rattle.frame_diff.specs.Walked.{AreBeside, HasNames, Holding, Showing, StandBeside, held_items};
-ghost use Rattle.frame_diff.specs.Walked.{reading_at};
+ghost use Rattle.frame_diff.specs.Walked.{listed_items, reading_at};
+ghost use Rattle.frame_diff.specs.declared.side.Side.TheVariants as Sides;
+ghost use Rattle.frame_shown.specs.declared.form.List.TheVariants as Shapes;
 ghost use Rattle.frame_diff.specs.declared.keys.Key.{Key as Number};
 ghost use Rattle.frame_diff.specs.declared.walk.Attribute.{Attribute as One};
 ghost use Rattle.frame_diff.specs.declared.walk.Attributes.{Attributes as Lists};
 
+use crate::each::{Each, tell_alone, tell_both};
 use crate::keyed::{keyed_beside, tell_keyed};
 use crate::keys::{Key, key_in};
 use crate::leaf::{Texts, Value, is_same, put_alone, tell_leaf};
@@ -39,11 +43,13 @@ use crate::nests::is_nest;
 use crate::path::{join, join_place};
 use crate::ranges::{runs_beside, runs_of, tell_vlans};
 use crate::same::is_same_list;
+use crate::side::Side;
 use crate::value::tell_value;
 use crate::walk::{Attribute, Attributes, Pass, Walk};
-use crate::wholes::put_entry;
+use crate::wholes::{put_entry, settled_entries};
 use frame_shown::depth::Above;
-use frame_shown::form::{Form, List, Table, Way, row_in};
+use frame_shown::form::{Form, Group as Entries, List, Table, Way, row_in};
+use link_info::Place;
 use nla_wire::{NlaBuffer, NlasIterator};
 use shown::Page;
 use std::alloc::{AllocError, Global};
@@ -363,7 +369,7 @@ fn tell_entry<W: Walk>(
 }
 
 /// Tells of a value that is no entry beside another one.
-fn tell_alone<W: Walk>(
+fn tell_no_entry<W: Walk>(
     texts: &mut Texts,
     pass: Pass,
     page: &mut Page,
@@ -406,7 +412,7 @@ fn tell_picked<W: Walk>(
         let there = entry_beside(beside);
         return tell_entry::<W>(texts, pass, page, path, own, there);
     }
-    tell_alone::<W>(texts, pass, page, path, own, beside)
+    tell_no_entry::<W>(texts, pass, page, path, own, beside)
 }
 
 /// Adds the change of an attribute that one side alone has.
@@ -424,10 +430,90 @@ fn put_attribute<W: Walk>(
     put_alone::<W>(own.around, page, path, pass.side, value)
 }
 
+/// Tells of an old list of values beside a new one, where they are not shown as the same.
+fn tell_list<W: Walk>(
+    texts: &mut Texts,
+    is_state: bool,
+    page: &mut Page,
+    path: &str,
+    old: Attributes<'_>,
+    new: Attributes<'_>,
+) -> Result<(), AllocError>
+    requires entries { is_entries old.list ≡ false }
+    requires same { is_entries new.list ≡ is_entries old.list }
+    requires old { is_valued old.number old.list ≡ true }
+    requires new { is_valued new.number new.list ≡ true }
+    ensures { OnOk result (page.new ≡ with_members (objects (leaf_items Sides.Old path.now
+        (group_held W.nest W.inner is_state old.entry).0
+        (Some (group_held W.nest W.inner is_state new.entry).0))) page.old) }
+{
+    let was = flat_value(old);
+    let is = Some(flat_value(new));
+    tell_leaf::<W>(
+        texts,
+        old.around,
+        new.around,
+        page,
+        path,
+        Side::Old,
+        was,
+        is,
+    )
+}
+
+/// The group of a list of entries.
+fn group_of(list: List) -> Entries
+    requires { is_entries list ≡ true }
+    ensures { Shapes.Entries result ≡ list }
+{
+    match list {
+        List::Entries(group) => group,
+        _ => Entries::Info,
+    }
+}
+
+/// Tells of old entries beside new ones, where they are not shown as the same.
+fn tell_entries<W: Walk>(
+    texts: &mut Texts,
+    is_state: bool,
+    page: &mut Page,
+    path: &str,
+    old: Attributes<'_>,
+    new: Attributes<'_>,
+) -> Result<(), AllocError>
+    requires number { old.number ≡ None }
+    requires new_number { new.number ≡ None }
+    requires entries { is_entries old.list ≡ true }
+    requires new_entries { is_entries new.list ≡ true }
+    ensures { OnOk result (page.new ≡ with_members (objects (leaf_items Sides.Old path.now
+        (group_held W.nest W.inner is_state old.entry).0
+        (Some (group_held W.nest W.inner is_state new.entry).0))) page.old) }
+{
+    let group = group_of(old.list);
+    let other = group_of(new.list);
+    let own = settled_entries(texts.alloc, is_state, group, old.bytes)?;
+    let there = settled_entries(texts.alloc, is_state, other, new.bytes)?;
+    let was = Value::Entries(group, own.as_slice());
+    let is = Some(Value::Entries(other, there.as_slice()));
+    tell_leaf::<Above<W>>(
+        texts,
+        old.around,
+        new.around,
+        page,
+        path,
+        Side::Old,
+        was,
+        is,
+    )
+}
+
 /// What the values of a list are.
 pub(crate) trait Values {
     /// Which lists they may be of.
     ghost fits: { Shape → Type 0 };
+
+    /// Which of the attributes of a list they may be.
+    ghost picks: { Maybe ℕ → Type 0 };
 
     /// Tells of one of them beside another one, if there is one.
     fn tell_one<W: Walk>(
@@ -445,6 +531,25 @@ pub(crate) trait Values {
         ensures { OnOk result (page.new ≡ with_members (objects (held_items pass.side path.now
             (value_at W.nest W.inner pass.is_state own.entry)
             (option_map (value_at W.nest W.inner pass.is_state) beside.entry))) page.old) };
+
+    /// Tells of an old list beside a new one, where they are not shown as the same.
+    fn tell_list<W: Walk>(
+        texts: &mut Texts,
+        is_state: bool,
+        page: &mut Page,
+        path: &str,
+        old: Attributes<'_>,
+        new: Attributes<'_>,
+    ) -> Result<(), AllocError>
+        requires fits { fits old.list }
+        requires picks { picks old.number }
+        requires others { picks new.number }
+        requires entries { is_entries new.list ≡ is_entries old.list }
+        requires old { is_valued old.number old.list ≡ true }
+        requires new { is_valued new.number new.list ≡ true }
+        ensures { OnOk result (page.new ≡ with_members (objects (leaf_items Sides.Old path.now
+            (group_held W.nest W.inner is_state old.entry).0
+            (Some (group_held W.nest W.inner is_state new.entry).0))) page.old) };
 
     /// Tells of one of them that one side alone has, as a whole.
     fn tell_whole<W: Walk>(
@@ -466,6 +571,8 @@ pub(crate) struct Group {}
 impl Values for Group {
     ghost fits = { λ list. Unit {0} };
 
+    ghost picks = { λ number. number ≡ None };
+
     fn tell_one<W: Walk>(
         texts: &mut Texts,
         pass: Pass,
@@ -475,6 +582,20 @@ impl Values for Group {
         beside: Option<Attribute<'_>>,
     ) -> Result<(), AllocError> {
         tell_picked::<W>(texts, pass, page, path, own, beside)
+    }
+
+    fn tell_list<W: Walk>(
+        texts: &mut Texts,
+        is_state: bool,
+        page: &mut Page,
+        path: &str,
+        old: Attributes<'_>,
+        new: Attributes<'_>,
+    ) -> Result<(), AllocError> {
+        if is_entries(old.list) {
+            return tell_entries::<W>(texts, is_state, page, path, old, new);
+        }
+        tell_list::<W>(texts, is_state, page, path, old, new)
     }
 
     fn tell_whole<W: Walk>(
@@ -498,6 +619,8 @@ pub(crate) struct Array {}
 impl Values for Array {
     ghost fits = { λ list. is_entries list ≡ false };
 
+    ghost picks = { λ number. Unit {0} };
+
     fn tell_one<W: Walk>(
         texts: &mut Texts,
         pass: Pass,
@@ -506,7 +629,18 @@ impl Values for Array {
         own: Attribute<'_>,
         beside: Option<Attribute<'_>>,
     ) -> Result<(), AllocError> {
-        tell_alone::<W>(texts, pass, page, path, own, beside)
+        tell_no_entry::<W>(texts, pass, page, path, own, beside)
+    }
+
+    fn tell_list<W: Walk>(
+        texts: &mut Texts,
+        is_state: bool,
+        page: &mut Page,
+        path: &str,
+        old: Attributes<'_>,
+        new: Attributes<'_>,
+    ) -> Result<(), AllocError> {
+        tell_list::<W>(texts, is_state, page, path, old, new)
     }
 
     fn tell_whole<W: Walk>(
@@ -646,6 +780,7 @@ fn plain_beside<'a, W: Walk>(
         ≡ leaf_in (option_map (group_held W.nest W.inner is_state) beside.entry) }
     ensures plain { IfSome result (λ a. (is_valued a.number a.list ≡ true)
         × (are_plain (group_at W.nest W.inner is_state a) ≡ true)) }
+    ensures same { IfSome result (λ a. beside.entry ≡ Some a) }
 {
     match beside {
         Some(other) => {
@@ -670,6 +805,124 @@ fn flat_value<'a>(own: Attributes<'a>) -> Value<'a>
     }
 }
 
+/// Whether the values of a list are their own keys.
+pub(crate) fn is_own_key(number: Option<u16>, list: List) -> bool
+    ensures { is_own_key number list ≡ result }
+{
+    match (number, list) {
+        (None, List::Listed(_, Table::Props)) => true,
+        (Some(_), List::Of(Place::MacvlanAddresses)) => true,
+        _ => false,
+    }
+}
+
+/// Adds a value, if there is one.
+fn push_each<'a>(
+    values: &mut Vec<Value<'a>>,
+    value: Option<Attribute<'a>>,
+) -> Result<(), AllocError>
+    requires { IfSome value (λ a. is_entries a.list ≡ false) }
+    ensures { OnOk result ((nest : Showing) (inner : Holding) (is_state : Bool) (cx : Beside)
+        → IfSome value.entry (λ a. a.around.now ≡ cx)
+        → map (value_shown (nest cx) cx) values.new.items
+        ≡ map (value_shown (nest cx) cx) values.old.items
+        ++ map value_in (picked nest inner is_state value.entry)) }
+{
+    let Some(own) = value else {
+        return Ok(());
+    };
+    values.push(Value::Payload(own.way, own.payload))?;
+    Ok(())
+}
+
+/// The values of a list, none of which is an object or a list.
+fn each_of<'a>(
+    alloc: Global,
+    is_state: bool,
+    list: Attributes<'a>,
+) -> Result<Each<'a>, AllocError>
+    requires key { is_own_key list.number list.list ≡ true }
+    ensures whole { IfOk result (λ each. (nest : Showing) (inner : Holding)
+        → are_plain (group_at nest inner is_state list.entry) ≡ true
+        → whole_shown nest each ≡ (group_held nest inner is_state list.entry).0) }
+    ensures values { IfOk result (λ each. (nest : Showing) (inner : Holding)
+        → each_shown nest each ≡ map value_in (group_at nest inner is_state list.entry)) }
+{
+    let mut values = Vec::new(alloc);
+    for item in NlasIterator::new(list.bytes) {
+        let Ok(frame) = item else {
+            break;
+        };
+        push_each(&mut values, pick(is_state, list, &frame))?;
+    }
+    Ok(Each {
+        around: list.around,
+        whole: flat_value(list),
+        values,
+    })
+}
+
+/// Tells of a list whose values are their own keys beside another list, none of which is an object or a list.
+fn tell_keys<W: Walk>(
+    texts: &mut Texts,
+    pass: Pass,
+    page: &mut Page,
+    path: &str,
+    own: Attributes<'_>,
+    other: Attributes<'_>,
+) -> Result<(), AllocError>
+    requires key { is_own_key own.number own.list ≡ true }
+    requires plain { are_plain (group_at W.nest W.inner pass.is_state own) ≡ true }
+    requires valued { is_valued other.number other.list ≡ true }
+    requires others { are_plain (group_at W.nest W.inner pass.is_state other) ≡ true }
+    ensures { OnOk result (page.new ≡ with_members (objects (held_items pass.side path.now
+        (group_held W.nest W.inner pass.is_state own.entry)
+        (Some (group_held W.nest W.inner pass.is_state other.entry)))) page.old) }
+{
+    if is_own_key(other.number, other.list) {
+        let each = each_of(texts.alloc, pass.is_state, own)?;
+        let theirs = each_of(texts.alloc, pass.is_state, other)?;
+        return tell_both::<W>(texts, page, path, pass.side, &each, &theirs);
+    }
+    let value = flat_value(own);
+    let there = Some(flat_value(other));
+    tell_leaf::<W>(
+        texts,
+        own.around,
+        other.around,
+        page,
+        path,
+        pass.side,
+        value,
+        there,
+    )
+}
+
+/// Tells of a list whose values are their own keys beside another list, if there is one.
+fn tell_own_keys<W: Walk>(
+    texts: &mut Texts,
+    pass: Pass,
+    page: &mut Page,
+    path: &str,
+    own: Attributes<'_>,
+    beside: Option<Attributes<'_>>,
+) -> Result<(), AllocError>
+    requires key { is_own_key own.number own.list ≡ true }
+    requires plain { are_plain (group_at W.nest W.inner pass.is_state own) ≡ true }
+    requires beside { IfSome beside (λ a. is_valued a.number a.list ≡ true) }
+    ensures { OnOk result (page.new ≡ with_members (objects (held_items pass.side path.now
+        (group_held W.nest W.inner pass.is_state own.entry)
+        (option_map (group_held W.nest W.inner pass.is_state) beside.entry))) page.old) }
+{
+    match plain_beside::<W>(pass.is_state, beside) {
+        Some(other) => tell_keys::<W>(texts, pass, page, path, own, other),
+        None => {
+            let each = each_of(texts.alloc, pass.is_state, own)?;
+            tell_alone::<W>(texts, page, path, pass.side, &each)
+        }
+    }
+}
+
 /// Tells of a list of values as one value beside another list.
 fn tell_flat<W: Walk>(
     texts: &mut Texts,
@@ -680,6 +933,7 @@ fn tell_flat<W: Walk>(
     beside: Option<Attributes<'_>>,
 ) -> Result<(), AllocError>
     requires own { is_valued own.number own.list ≡ true }
+    requires key { is_own_key own.number own.list ≡ false }
     requires plain { are_plain (group_at W.nest W.inner pass.is_state own) ≡ true }
     requires beside { IfSome beside (λ a. is_valued a.number a.list ≡ true) }
     ensures { OnOk result (page.new ≡ with_members (objects (leaf_items pass.side path.now
@@ -712,8 +966,10 @@ fn values_beside<'a, W: Walk>(
     requires names { HasNames own.around.now }
     requires same { IfSome beside (λ a. is_entries a.list ≡ is_entries own.list) }
     requires alike { pass.is_alike ≡ true → AreBeside own beside }
-    ensures inside { group_inside W.nest W.inner pass.is_state result.0
-        ≡ inside_in (option_map (group_held W.nest W.inner pass.is_state) beside.entry) }
+    ensures found { (s : Step) → find s (group_inside W.nest W.inner pass.is_state result.0)
+        ≡ find s (inside_in (option_map (group_held W.nest W.inner pass.is_state) beside.entry)) }
+    ensures runs { runs_inside (group_inside W.nest W.inner pass.is_state result.0)
+        ≡ runs_inside (inside_in (option_map (group_held W.nest W.inner pass.is_state) beside.entry)) }
     ensures same { is_entries result.0.list ≡ is_entries own.entry.list }
     ensures alike { result.1 ≡ true → AreBeside own.entry (Some result.0) }
 {
@@ -863,6 +1119,77 @@ fn tell_inside<W: Walk, V: Values>(
     }
 }
 
+/// Tells of a list of values, none of which is an object or a list, beside another list.
+fn tell_plain<W: Walk>(
+    texts: &mut Texts,
+    pass: Pass,
+    page: &mut Page,
+    path: &str,
+    own: Attributes<'_>,
+    beside: Option<Attributes<'_>>,
+) -> Result<(), AllocError>
+    requires own { is_valued own.number own.list ≡ true }
+    requires plain { are_plain (group_at W.nest W.inner pass.is_state own) ≡ true }
+    requires beside { IfSome beside (λ a. is_valued a.number a.list ≡ true) }
+    ensures { OnOk result (page.new ≡ with_members (objects (held_items pass.side path.now
+        (group_held W.nest W.inner pass.is_state own.entry)
+        (option_map (group_held W.nest W.inner pass.is_state) beside.entry))) page.old) }
+{
+    if is_own_key(own.number, own.list) {
+        return tell_own_keys::<W>(texts, pass, page, path, own, beside);
+    }
+    tell_flat::<W>(texts, pass, page, path, own, beside)
+}
+
+/// Whether the values of a list that are no texts are told by what they say, and not by their places.
+fn is_loose(alloc: Global, list: Attributes<'_>) -> Result<bool, AllocError>
+    ensures { IfOk result (λ loose. (nest : Showing) (inner : Holding) (is_state : Bool)
+        → are_plain (group_at nest inner is_state list.entry) ≡ false
+        → is_loose (group_inside nest inner is_state list.entry) ≡ loose) }
+{
+    match key_in(list) {
+        Some(_key) => Ok(true),
+        None => {
+            let runs = runs_of(alloc, list)?;
+            Ok(runs.is_some())
+        }
+    }
+}
+
+/// Tells of a list that the other message has in another order, or written otherwise, if this is to be told.
+fn tell_moved<W: Walk, V: Values>(
+    texts: &mut Texts,
+    pass: Pass,
+    page: &mut Page,
+    path: &str,
+    own: Attributes<'_>,
+    beside: Option<Attributes<'_>>,
+) -> Result<(), AllocError>
+    requires fits { V.fits own.list }
+    requires picks { V.picks own.number }
+    requires others { IfSome beside (λ a. V.picks a.number) }
+    requires own { is_valued own.number own.list ≡ true }
+    requires plain { are_plain (group_at W.nest W.inner pass.is_state own) ≡ false }
+    requires group { IfSome beside (λ a. is_valued a.number a.list ≡ true) }
+    requires same { IfSome beside (λ a. is_entries a.list ≡ is_entries own.list) }
+    ensures { OnOk result (page.new ≡ with_members (objects (moved_items pass.side path.now
+        (group_held W.nest W.inner pass.is_state own.entry).0
+        (group_held W.nest W.inner pass.is_state own.entry).1
+        (option_map (group_held W.nest W.inner pass.is_state) beside.entry))) page.old) }
+{
+    let Some(other) = beside else {
+        return Ok(());
+    };
+    if !pass.side.is_moved() {
+        return Ok(());
+    }
+    let loose = is_loose(texts.alloc, own)?;
+    if !loose {
+        return Ok(());
+    }
+    V::tell_list::<W>(texts, pass.is_state, page, path, own, other)
+}
+
 /// Tells of a list of values beside another one, if there is one.
 pub(crate) fn tell_values<W: Walk, V: Values>(
     texts: &mut Texts,
@@ -873,18 +1200,21 @@ pub(crate) fn tell_values<W: Walk, V: Values>(
     beside: Option<Attributes<'_>>,
 ) -> Result<(), AllocError>
     requires fits { V.fits own.list }
+    requires picks { V.picks own.number }
+    requires others { IfSome beside (λ a. V.picks a.number) }
     requires own { is_valued own.number own.list ≡ true }
     requires names { HasNames own.around.now }
     requires group { IfSome beside (λ a. is_valued a.number a.list ≡ true) }
     requires same { IfSome beside (λ a. is_entries a.list ≡ is_entries own.list) }
     requires alike { pass.is_alike ≡ true → AreBeside own beside }
-    ensures { OnOk result (page.new ≡ with_members (objects (held_items pass.side path.now
+    ensures { OnOk result (page.new ≡ with_members (objects (listed_items pass.side path.now
         (group_held W.nest W.inner pass.is_state own.entry)
         (option_map (group_held W.nest W.inner pass.is_state) beside.entry))) page.old) }
 {
     if are_plain::<W>(pass.is_state, own) {
-        return tell_flat::<W>(texts, pass, page, path, own, beside);
+        return tell_plain::<W>(texts, pass, page, path, own, beside);
     }
+    tell_moved::<W, V>(texts, pass, page, path, own, beside)?;
     let (others, is_alike) = values_beside::<W>(pass, own, beside);
     let pass = Pass { is_alike, ..pass };
     tell_inside::<W, V>(texts, pass, page, path, own, others)
@@ -918,6 +1248,7 @@ fn group_beside<'a>(own: List, beside: Option<Attributes<'a>>) -> Option<Attribu
         → option_map (group_held nest inner is_state) result
         ≡ find (group_step own) (inside_list (above nest inner) is_state beside.entry) }
     ensures group { IfSome result (λ a. is_valued a.number a.list ≡ true) }
+    ensures picks { IfSome result (λ a. a.number ≡ None) }
     ensures same { IfSome result (λ a. is_entries a.list ≡ is_entries own) }
     ensures alike { (list : Lists) → AreBeside list beside.entry → AreBeside list result }
 {
@@ -947,7 +1278,7 @@ pub(crate) fn tell_group<W: Walk>(
     requires names { HasNames own.around.now }
     requires name { name.now ≡ step_text (group_step own.list) }
     requires alike { pass.is_alike ≡ true → AreBeside own beside }
-    ensures { OnOk result (page.new ≡ with_members (objects (held_items pass.side
+    ensures { OnOk result (page.new ≡ with_members (objects (listed_items pass.side
         (joined path.now (step_text (group_step own.entry.list)))
         (group_held W.nest W.inner pass.is_state (all_of own.entry))
         (find (group_step own.entry.list)

@@ -1,6 +1,6 @@
 //! What attributes tell that are kept as they are.
 
-ghost use Rattle.std.specs.Prelude.{◌≡◌, ◌++◌, [], ◌∷◌, IfOk, OnOk, Option as Maybe, Some, codes, map, not};
+ghost use Rattle.std.specs.Prelude.{◌≡◌, ◌++◌, [], ◌∷◌, Bool, IfOk, OnOk, Option as Maybe, Some, codes, map, not};
 ghost use Rattle.std.specs.Prelude.{option_and_then, true};
 ghost use Rattle.nla_wire.specs.Frames.{number};
 ghost use Rattle.shown.specs.Drafts.{object_of, with_members};
@@ -11,11 +11,12 @@ ghost use Rattle.frame_shown.specs.Values.{hexadecimal};
 ghost use Rattle.frame_shown.specs.declared.form.Around.{Around as Beside};
 ghost use Rattle.frame_diff.specs.Forests.{Held};
 ghost use Rattle.frame_diff.specs.Items.{alone_item, items_told, joined};
-ghost use Rattle.frame_diff.specs.Keyed.{AreKept, label_items, labels_now, values_now};
+ghost use Rattle.frame_diff.specs.Keyed.{AreKept, are_any, kept_moved, label_items, labels_now, others_items};
+ghost use Rattle.frame_diff.specs.Keyed.{values_now};
 ghost use Rattle.frame_diff.specs.Labels.{first_labels, label_step, labels_of};
 ghost use Rattle.frame_diff.specs.Members.{as_object, fields};
 ghost use Rattle.frame_diff.specs.Rows.{row_shown};
-ghost use Rattle.frame_diff.specs.Values.{IsSameKept, entry_held, kept_held, kept_inside_at, kept_members, kept_one};
+ghost use Rattle.frame_diff.specs.Values.{IsSameKept, entry_held, kept_held, kept_members, kept_one};
 ghost use Rattle.frame_diff.specs.Values.{value_shown};
 ghost use Rattle.frame_diff.specs.Walked.{step_items};
 ghost use Rattle.frame_diff.specs.declared.keys.Key.TheVariants as Keys;
@@ -24,7 +25,7 @@ use crate::counters::is_passed;
 use crate::keyed::{Labelled, label_all, places_unless_along, push_labelled, value_beside};
 use crate::keys::Key;
 use crate::labels::Label;
-use crate::leaf::{Texts, Value, is_same, put_alone};
+use crate::leaf::{Texts, Value, is_same, put_alone, tell_leaf};
 use crate::path::{join, join_label};
 use crate::rows::{Row, tell_rows};
 use crate::side::Side;
@@ -245,6 +246,9 @@ fn tell_kept(
         (kept_held beside.entry))) page.old) }
 {
     let Some(other) = beside else {
+        if side.is_moved() {
+            return Ok(());
+        }
         let text = join_label(texts.alloc, path, Key::Number.name(), label)?;
         return put_kept(cx, page, text.as_str(), side, own);
     };
@@ -280,6 +284,54 @@ fn tell_labelled(
     tell_kept(texts, cx, theirs, page, path, side, own.label, kept, other)
 }
 
+/// Whether some attributes are not passed over.
+fn is_any(others: &[Labelled<Option<Kept<'_>>>]) -> bool
+    ensures { result ≡ are_any others.now }
+{
+    for one in others {
+        if one.value.is_some() {
+            return true;
+        }
+    }
+    false
+}
+
+/// Tells of the attributes of a list that are kept, where the other message has them in another order, if this is to be
+/// told.
+fn tell_moved(
+    texts: &mut Texts,
+    side: Side,
+    own: Attributes<'_>,
+    others: Attributes<'_>,
+    page: &mut Page,
+    path: &str,
+    values: &[Labelled<Option<Kept<'_>>>],
+    theirs: &[Labelled<Option<Kept<'_>>>],
+) -> Result<(), AllocError>
+    ensures { OnOk result ((is_state : Bool) → AreKept is_state own.entry labels_of values.now
+        → AreKept is_state others.entry labels_of theirs.now → page.new ≡ with_members
+        (objects (kept_moved side path.now is_state own.entry others.entry)) page.old) }
+{
+    if !side.is_moved() {
+        return Ok(());
+    }
+    if !is_any(values) || !is_any(theirs) {
+        return Ok(());
+    }
+    let was = Value::Others(values);
+    let is = Some(Value::Others(theirs));
+    tell_leaf::<Bottom>(
+        texts,
+        own.around,
+        others.around,
+        page,
+        path,
+        Side::Old,
+        was,
+        is,
+    )
+}
+
 /// Tells of the attributes of a list that are kept, each beside the one of its number in another list, as members of a
 /// list of their own.
 pub(crate) fn tell_others(
@@ -291,9 +343,8 @@ pub(crate) fn tell_others(
     others: Attributes<'_>,
 ) -> Result<(), AllocError>
     ensures { OnOk result (page.new
-        ≡ with_members (objects (items_told pass.side (joined path.now (codes "other"))
-        (kept_inside_at pass.is_state own.entry) (kept_inside_at pass.is_state others.entry)))
-        page.old) }
+        ≡ with_members (objects (others_items pass.side (joined path.now (codes "other"))
+        pass.is_state own.entry others.entry)) page.old) }
 {
     let values = kept_in(texts.alloc, pass.is_state, own)?;
     if values.is_empty() {
@@ -302,6 +353,16 @@ pub(crate) fn tell_others(
     let theirs = kept_in(texts.alloc, pass.is_state, others)?;
     let places = places_unless_along(texts.alloc, values.as_slice(), theirs.as_slice())?;
     let list = join(texts.alloc, path, "other")?;
+    tell_moved(
+        texts,
+        pass.side,
+        own,
+        others,
+        page,
+        list.as_str(),
+        values.as_slice(),
+        theirs.as_slice(),
+    )?;
     let mut place = 0;
     for one in values.as_slice() {
         let beside = value_beside(&places, one.label, place, theirs.as_slice());

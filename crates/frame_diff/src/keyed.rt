@@ -268,10 +268,12 @@ fn tell_labelled<W: Walk, V: Values>(
 {
     let text = join_label(texts.alloc, path, key.name(), own.label)?;
     if beside.is_some() {
-        V::tell_one::<W>(texts, pass, page, text.as_str(), own.value, beside)
-    } else {
-        V::tell_whole::<W>(texts, pass, page, text.as_str(), own.value)
+        return V::tell_one::<W>(texts, pass, page, text.as_str(), own.value, beside);
     }
+    if pass.side.is_moved() {
+        return Ok(());
+    }
+    V::tell_whole::<W>(texts, pass, page, text.as_str(), own.value)
 }
 
 /// Tells of the values of a list, each beside the one with its label in another list with the same key.

@@ -5,6 +5,7 @@ pub mod again;
 pub mod arrays;
 pub mod counters;
 pub mod depth;
+mod each;
 pub mod fields;
 pub mod groups;
 pub mod kept;

@@ -12,7 +12,7 @@ ghost use Rattle.frame_shown.specs.Plain.{plain};
 ghost use Rattle.frame_shown.specs.declared.form.Around.{Around as Beside};
 ghost use Rattle.frame_diff.specs.Forests.{forest};
 ghost use Rattle.frame_diff.specs.Items.{items_told};
-ghost use Rattle.frame_diff.specs.Laws.{messages_by};
+ghost use Rattle.frame_diff.specs.Laws.{messages_by, messages_moved};
 ghost use Rattle.frame_diff.specs.Members.{attributes_in, fields, message_made, refused_in, whole};
 ghost use Rattle.frame_diff.specs.Messages.{parts_of, with_order};
 ghost use Rattle.frame_diff.specs.Ranges.{told_items};
@@ -108,7 +108,7 @@ fn tell_header(
             let there = header_rows(texts.alloc, others)?;
             tell_rows(texts, cx, theirs, page, "", side, &rows, &there)
         }
-        Side::New => Ok(()),
+        Side::New | Side::Moved => Ok(()),
     }
 }
 
@@ -279,6 +279,50 @@ pub(crate) fn tell_messages(
         ..pass
     };
     tell_side(texts, pass, &theirs, cx, page, new, old)
+}
+
+/// Tells of the lists whose values two messages, or two states, have in another order, or which one of both writes
+/// otherwise: of each as a whole.
+pub(crate) fn tell_moved_by(
+    texts: &mut Texts,
+    is_state: bool,
+    cx: &Around<'_>,
+    order: Order,
+    page: &mut Page,
+    old: Message<'_>,
+    new: Message<'_>,
+) -> Result<(), AllocError>
+    requires { AreAllRows cx.now.tables.now }
+    ensures { OnOk result (page.new ≡ with_members (objects (flat_map told_items
+        (messages_moved is_state cx.now (with_order cx.now order)
+        (parts_of old.entry) (parts_of new.entry)))) page.old) }
+{
+    let theirs = Around { order, ..*cx };
+    let pass = Pass {
+        is_state,
+        side: Side::Moved,
+        is_alike: is_same_order(cx.order, order),
+    };
+    tell_side(texts, pass, cx, &theirs, page, old, new)
+}
+
+/// Tells of the lists whose values two messages, or two states, have in another order, or which one of both writes
+/// otherwise, by the rows of all places: of each as a whole. Where `tell` tells nothing, this may be what differs.
+pub fn tell_moved(
+    texts: &mut Texts,
+    is_state: bool,
+    orders: (Order, Order),
+    page: &mut Page,
+    old: Message<'_>,
+    new: Message<'_>,
+) -> Result<(), AllocError>
+    ensures { OnOk result (page.new ≡ with_members (objects (flat_map told_items
+        (messages_moved is_state (plain orders.0) (plain orders.1)
+        (parts_of old.entry) (parts_of new.entry)))) page.old) }
+{
+    let tables = all_rows();
+    let cx = Around::plain(&tables, orders.0);
+    tell_moved_by(texts, is_state, &cx, orders.1, page, old, new)
 }
 
 /// Tells of all that differs between two messages, or between two states, by the rows of all places; each has an order

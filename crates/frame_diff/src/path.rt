@@ -1,6 +1,6 @@
 //! The texts of paths.
 
-ghost use Rattle.std.specs.Prelude.{◌≡◌, ◌++◌, IfOk, OnOk, decimal, string_bytes};
+ghost use Rattle.std.specs.Prelude.{◌≡◌, ◌++◌, IfOk, OnOk, codes, decimal, string_bytes};
 ghost use Rattle.frame_diff.specs.Items.{joined};
 ghost use Rattle.frame_diff.specs.Labels.{again_text, label_text, number_text};
 ghost use Rattle.frame_diff.specs.Vlans.{end_text, range_text};
@@ -20,6 +20,16 @@ pub(crate) fn join(alloc: Global, text: &str, step: &str) -> Result<String, Allo
         path.push('.')?;
     }
     path.push_str(step)?;
+    Ok(path)
+}
+
+/// The text of a path that goes on at a value that is its own key.
+pub(crate) fn join_each(alloc: Global, text: &str) -> Result<String, AllocError>
+    ensures { IfOk result (λ path. string_bytes path ≡ text.now ++ codes "[]") }
+{
+    let mut path = String::with_capacity(alloc, text.len() + 2)?;
+    path.push_str(text)?;
+    path.push_str("[]")?;
     Ok(path)
 }
 

@@ -10,7 +10,7 @@ ghost use Rattle.shown.specs.Drafts.{with_members};
 ghost use Rattle.frame_shown.specs.Items.{objects};
 ghost use Rattle.frame_diff.specs.Groups.{group_inside, runs_at};
 ghost use Rattle.frame_diff.specs.Members.{unless_empty};
-ghost use Rattle.frame_diff.specs.Items.{id_items, piece_items, vlan_items};
+ghost use Rattle.frame_diff.specs.Items.{id_items, piece_items, runs_items, vlan_items};
 ghost use Rattle.frame_diff.specs.Forests.{runs_inside};
 ghost use Rattle.frame_diff.specs.Walked.{Holding, Showing};
 
@@ -169,8 +169,11 @@ pub(crate) fn tell_vlans(
     requires own { are_apart None own.now ≡ true }
     requires others { are_apart None others.now ≡ true }
     ensures { OnOk result (page.new ≡ with_members (objects
-        (flat_map (piece_items side path.now) (pieces_of own.now others.now))) page.old) }
+        (runs_items side path.now own.now others.now)) page.old) }
 {
+    if side.is_moved() {
+        return Ok(());
+    }
     let pieces = pieces_of(texts.alloc, own, others)?;
     for piece in pieces.as_slice() {
         tell_piece(texts, list, page, path, side, *piece)?;

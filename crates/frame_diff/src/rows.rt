@@ -32,7 +32,7 @@ use frame_shown::depth::Bottom;
 use frame_shown::form::{Around, Form, List, Order, Record, Settings, Way, Words};
 use frame_shown::value::info_of;
 use link_info::read::read;
-use link_info::{Member, Style, Value as Meant};
+use link_info::{Member, Plain, Style, Value as Meant};
 use shown::Page;
 use std::alloc::{AllocError, Global};
 
@@ -56,6 +56,8 @@ pub enum Holds<'a> {
     Fields(Vec<Row<'a>>, bool),
     /// A list of attributes.
     List(List, &'a [u8]),
+    /// Values that are the payloads of attributes: a leaf too.
+    Slots(Plain, &'a [u8]),
 }
 
 /// Fields of which none is passed over.
@@ -192,6 +194,7 @@ fn style_holds<'a>(
     match read(style, payload) {
         Meant::Record(members, bytes) => members_held(alloc, members, part, bytes),
         Meant::Nest(place, bytes) => Ok(Holds::List(List::Of(place), bytes)),
+        Meant::List(plain, bytes) => Ok(Holds::Slots(plain, bytes)),
         _ => Ok(Holds::Nothing),
     }
 }
@@ -441,7 +444,7 @@ fn tell_same_names(
 {
     match side {
         Side::Old => tell_firsts(texts, cx, theirs, page, path, own, others),
-        Side::New => Ok(()),
+        Side::New | Side::Moved => Ok(()),
     }
 }
 

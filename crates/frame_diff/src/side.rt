@@ -2,7 +2,7 @@
 
 ghost use Rattle.std.specs.Prelude.{◌≡◌};
 ghost use Rattle.shown.specs.Keys.{IsKey};
-ghost use Rattle.frame_diff.specs.Sides.{is_new, side_name};
+ghost use Rattle.frame_diff.specs.Sides.{is_moved, side_name};
 
 /// Which of two messages is gone through.
 #[derive(Clone, Copy, Drop)]
@@ -11,16 +11,18 @@ pub enum Side {
     Old,
     /// The new one: what it alone has came.
     New,
+    /// The old one, where nothing of that is told: lists of which both say the same in another order are told as a whole.
+    Moved,
 }
 
 impl Side {
-    /// Whether it is the new one.
-    pub(crate) fn is_new(self) -> bool
-        ensures { result ≡ is_new self }
+    /// Whether lists in another order alone are told.
+    pub(crate) fn is_moved(self) -> bool
+        ensures { result ≡ is_moved self }
     {
         match self {
-            Side::Old => false,
-            Side::New => true,
+            Side::Old | Side::New => false,
+            Side::Moved => true,
         }
     }
 
@@ -30,7 +32,7 @@ impl Side {
         ensures key { IsKey result.now }
     {
         match self {
-            Side::Old => "old",
+            Side::Old | Side::Moved => "old",
             Side::New => "new",
         }
     }

@@ -3,21 +3,27 @@
 ghost use Rattle.std.specs.Prelude.{◌≡◌, ℕ, Bool, IfOk, IfSome, List as Seq, OnOk, Some, false, map, option_map, true};
 ghost use Rattle.shown.specs.Drafts.{with_members};
 ghost use Rattle.frame_shown.specs.Items.{objects};
+ghost use Rattle.frame_shown.specs.Values.{Nesting};
 ghost use Rattle.frame_shown.specs.declared.form.Around.{Around as Beside};
 ghost use Rattle.frame_diff.specs.Differences.{inside_in, leaf_in};
-ghost use Rattle.frame_diff.specs.Forests.{Step, field_step, find, left_of};
+ghost use Rattle.frame_diff.specs.Forests.{Forest, Step, field_step, find, left_of};
 ghost use Rattle.frame_diff.specs.Inside.{HoldsNoField, has_none, inside_list, is_field};
-ghost use Rattle.frame_diff.specs.Items.{items_told, leaf_items};
-ghost use Rattle.frame_diff.specs.Members.{fields, named};
-ghost use Rattle.frame_diff.specs.Rows.{inside_by, row_shown};
+ghost use Rattle.frame_diff.specs.Items.{items_told, leaf_items, texts_items};
+ghost use Rattle.frame_diff.specs.Each.{each_shown, whole_shown};
+ghost use Rattle.frame_diff.specs.Members.{fields, named, slots_shown};
+ghost use Rattle.frame_diff.specs.Rows.{inside_by, is_slots, row_shown};
+ghost use Rattle.frame_diff.specs.Values.{value_shown};
 ghost use Rattle.frame_diff.specs.Walked.{AreBeside, HasNames, HasRowOf, Holding, Showing, StandsInside, held_at};
 ghost use Rattle.frame_diff.specs.Walked.{held_items};
 ghost use Rattle.frame_diff.specs.declared.walk.Attributes.{Attributes as Lists};
 
+use crate::each::{Each, tell_alone, tell_both};
 use crate::leaf::{Texts, Value, tell_leaf};
 use crate::rows::{Holds, Row, held_in, tell_rows};
 use crate::walk::{Attribute, Attributes, Pass, Walk};
 use frame_shown::form::Around;
+use link_info::Plain;
+use nla_wire::NlasIterator;
 use shown::Page;
 use std::alloc::{AllocError, Global};
 
@@ -34,7 +40,7 @@ fn holds_none<W: Walk>(own: Attribute<'_>, held: &Holds<'_>) -> bool
         (inside_by (W.inner is_state own.entry.around.now) own.entry.around.now held.now) ≡ result }
 {
     match held {
-        Holds::Nothing => true,
+        Holds::Nothing | Holds::Slots(_, _) => true,
         Holds::Passed => false,
         Holds::Fields(rows, is_any) => are_none(rows, *is_any),
         Holds::List(list, bytes) => W::is_bare(Attributes {
@@ -101,6 +107,101 @@ fn tell_plain<W: Walk>(
     }
 }
 
+/// The payloads of attributes as values.
+fn payloads_in<'a>(
+    alloc: Global,
+    plain: Plain,
+    bytes: &'a [u8],
+) -> Result<Vec<Value<'a>>, AllocError>
+    ensures { IfOk result (λ values. (nest : Nesting) (cx : Beside)
+        → map (value_shown nest cx) values.items ≡ slots_shown plain bytes.now) }
+{
+    let mut values = Vec::new(alloc);
+    for item in NlasIterator::new(bytes) {
+        let Ok(frame) = item else {
+            break;
+        };
+        values.push(Value::Spelled(plain, frame.value()))?;
+    }
+    Ok(values)
+}
+
+/// The payloads of attributes as values, which are their own keys.
+fn slots_of<'a>(
+    alloc: Global,
+    own: Attribute<'a>,
+    plain: Plain,
+    bytes: &'a [u8],
+) -> Result<Each<'a>, AllocError>
+    ensures whole { IfOk result (λ each. (nest : Showing) (inner : Holding) (is_state : Bool)
+        → whole_shown nest each ≡ (held_at nest inner is_state own.entry).0) }
+    ensures values { IfOk result (λ each. (nest : Showing)
+        → each_shown nest each ≡ slots_shown plain bytes.now) }
+{
+    let values = payloads_in(alloc, plain, bytes)?;
+    Ok(Each {
+        around: own.around,
+        whole: Value::Payload(own.way, own.payload),
+        values,
+    })
+}
+
+/// Tells of values that are their own keys beside an attribute that is no list of such.
+fn tell_beside<W: Walk>(
+    texts: &mut Texts,
+    pass: Pass,
+    page: &mut Page,
+    path: &str,
+    own: &Each<'_>,
+    other: Attribute<'_>,
+    held: &Holds<'_>,
+) -> Result<(), AllocError>
+    requires held { (held_at W.nest W.inner pass.is_state other).1
+        ≡ inside_by (W.inner pass.is_state other.around.now) other.around.now held.now }
+    requires plain { is_slots held.now ≡ false }
+    ensures { OnOk result (page.new ≡ with_members (objects (texts_items pass.side path.now
+        (whole_shown W.nest own.now) (each_shown W.nest own.now)
+        (Some (held_at W.nest W.inner pass.is_state other.entry)))) page.old) }
+{
+    W::laws();
+    if !holds_none::<W>(other, held) {
+        return tell_alone::<W>(texts, page, path, pass.side, own);
+    }
+    let there = Some(Value::Payload(other.way, other.payload));
+    let (cx, theirs) = (own.around, other.around);
+    tell_leaf::<W>(texts, cx, theirs, page, path, pass.side, own.whole, there)
+}
+
+/// Tells of values that are their own keys beside another attribute, if there is one.
+fn tell_slots<W: Walk>(
+    texts: &mut Texts,
+    pass: Pass,
+    page: &mut Page,
+    path: &str,
+    own: Attribute<'_>,
+    plain: Plain,
+    bytes: &[u8],
+    beside: Option<Attribute<'_>>,
+) -> Result<(), AllocError>
+    requires { (held_at W.nest W.inner pass.is_state own).1 ≡ Forest.texts (slots_shown plain bytes.now) }
+    ensures { OnOk result (page.new ≡ with_members (objects (held_items pass.side path.now
+        (held_at W.nest W.inner pass.is_state own.entry)
+        (option_map (held_at W.nest W.inner pass.is_state) beside.entry))) page.old) }
+{
+    let each = slots_of(texts.alloc, own, plain, bytes)?;
+    let Some(other) = beside else {
+        return tell_alone::<W>(texts, page, path, pass.side, &each);
+    };
+    let held = held_in(texts.alloc, pass.is_state, other)?;
+    match &held {
+        Holds::Slots(plain, bytes) => {
+            let theirs = slots_of(texts.alloc, other, *plain, bytes)?;
+            tell_both::<W>(texts, page, path, pass.side, &each, &theirs)
+        }
+        _ => tell_beside::<W>(texts, pass, page, path, &each, other, &held),
+    }
+}
+
 /// The fields that an attribute holds.
 fn rows_in<'a>(
     alloc: Global,
@@ -114,7 +215,9 @@ fn rows_in<'a>(
 {
     match held_in(alloc, is_state, other)? {
         Holds::Fields(rows, _) => Ok(rows),
-        Holds::Nothing | Holds::Passed | Holds::List(_, _) => Ok(Vec::new(alloc)),
+        Holds::Nothing | Holds::Passed | Holds::List(_, _) | Holds::Slots(_, _) => {
+            Ok(Vec::new(alloc))
+        }
     }
 }
 
@@ -167,7 +270,7 @@ fn list_of<'a>(around: &'a Around<'a>, held: Holds<'a>) -> Option<Attributes<'a>
             number: None,
             bytes,
         }),
-        Holds::Nothing | Holds::Passed | Holds::Fields(_, _) => None,
+        Holds::Nothing | Holds::Passed | Holds::Fields(_, _) | Holds::Slots(_, _) => None,
     }
 }
 
@@ -244,7 +347,7 @@ fn tell_held<W: Walk>(
         (inside_in (option_map (held_at W.nest W.inner pass.is_state) beside.entry)))) page.old) }
 {
     match held {
-        Holds::Nothing | Holds::Passed => Ok(()),
+        Holds::Nothing | Holds::Passed | Holds::Slots(_, _) => Ok(()),
         Holds::Fields(rows, _) => tell_fields::<W>(texts, pass, page, path, own, rows, beside),
         Holds::List(list, bytes) => {
             let own = Attributes {
@@ -256,6 +359,32 @@ fn tell_held<W: Walk>(
             tell_inside::<W>(texts, pass, page, path, own, beside)
         }
     }
+}
+
+/// Tells of an attribute that holds no values that are their own keys beside another one, if there is one.
+fn tell_other<W: Walk>(
+    texts: &mut Texts,
+    pass: Pass,
+    page: &mut Page,
+    path: &str,
+    own: Attribute<'_>,
+    held: &Holds<'_>,
+    beside: Option<Attribute<'_>>,
+) -> Result<(), AllocError>
+    requires names { HasNames own.around.now }
+    requires alike { pass.is_alike ≡ true → HasRowOf own beside }
+    requires held { (held_at W.nest W.inner pass.is_state own).1
+        ≡ inside_by (W.inner pass.is_state own.around.now) own.around.now held.now }
+    requires plain { is_slots held.now ≡ false }
+    ensures { OnOk result (page.new ≡ with_members (objects (held_items pass.side path.now
+        (held_at W.nest W.inner pass.is_state own.entry)
+        (option_map (held_at W.nest W.inner pass.is_state) beside.entry))) page.old) }
+{
+    W::laws();
+    if holds_none::<W>(own, held) {
+        return tell_plain::<W>(texts, pass, page, path, own, beside);
+    }
+    tell_held::<W>(texts, pass, page, path, own, held, beside)
 }
 
 /// Tells of an attribute beside another one, if there is one.
@@ -274,8 +403,10 @@ pub(crate) fn tell_value<W: Walk>(
         (option_map (held_at W.nest W.inner pass.is_state) beside.entry))) page.old) }
 {
     let held = held_in(texts.alloc, pass.is_state, own)?;
-    if holds_none::<W>(own, &held) {
-        return tell_plain::<W>(texts, pass, page, path, own, beside);
+    match &held {
+        Holds::Slots(plain, bytes) => {
+            tell_slots::<W>(texts, pass, page, path, own, *plain, bytes, beside)
+        }
+        _ => tell_other::<W>(texts, pass, page, path, own, &held, beside),
     }
-    tell_held::<W>(texts, pass, page, path, own, &held, beside)
 }

@@ -1,6 +1,7 @@
 //! Entries that are told as a whole: of a state nothing that moves by itself.
 
-ghost use Rattle.std.specs.Prelude.{◌≡◌, ◌∷◌, [], IfOk, OnOk, not, option_map, unwrap_or};
+ghost use Rattle.std.specs.Prelude.{◌≡◌, ◌∷◌, [], ℕ, IfOk, OnOk, map, not, option_map, unwrap_or};
+ghost use Rattle.std.specs.Global.{Vec as VecOf};
 ghost use Rattle.std.specs.List.{filter, list_any};
 ghost use Rattle.link_info.specs.Tables.{frames_in};
 ghost use Rattle.nla_wire.specs.Canon.{canons};
@@ -11,7 +12,7 @@ ghost use Rattle.frame_shown.specs.Items.{objects};
 ghost use Rattle.frame_shown.specs.Tables.{entry_list};
 ghost use Rattle.frame_diff.specs.Counters.{action_at, level_in};
 ghost use Rattle.frame_diff.specs.Items.{alone_item};
-ghost use Rattle.frame_diff.specs.Settled.{is_still, settled, stands_still};
+ghost use Rattle.frame_diff.specs.Settled.{is_still, settled, settled_in, stands_still};
 
 use crate::leaf::{Texts, Value, put_alone};
 use crate::side::Side;
@@ -82,6 +83,46 @@ fn settled(
     }
     let out = still_ones(alloc, group, entry)?;
     Ok(Some(out))
+}
+
+/// What is shown of an entry that is told as a whole.
+fn settled_entry(
+    alloc: Global,
+    is_state: bool,
+    group: Group,
+    entry: &[u8],
+) -> Result<Vec<u8>, AllocError>
+    ensures { IfOk result (λ left. left.items ≡ settled is_state (entry_list group) entry.now) }
+{
+    if let Some(left) = settled(alloc, is_state, group, entry)? {
+        return Ok(left);
+    }
+    let mut whole = Vec::new(alloc);
+    whole.extend_from_slice(entry)?;
+    Ok(whole)
+}
+
+/// The entries of a list, each as it is shown where it is told as a whole.
+pub(crate) fn settled_entries(
+    alloc: Global,
+    is_state: bool,
+    group: Group,
+    bytes: &[u8],
+) -> Result<Vec<Vec<u8>>, AllocError>
+    ensures { IfOk result (λ out. map (λ (p : VecOf ℕ). p.items) out.items
+        ≡ settled_in is_state group (frames_in (items bytes.now))) }
+{
+    let mut out = Vec::new(alloc);
+    for item in NlasIterator::new(bytes) {
+        let Ok(frame) = item else {
+            break;
+        };
+        if frame.kind() == 1 {
+            let entry = settled_entry(alloc, is_state, group, frame.value())?;
+            out.push(entry)?;
+        }
+    }
+    Ok(out)
 }
 
 /// Adds the change of a list that is shown as an object, and that one side alone has.

@@ -14,34 +14,39 @@ use Rattle.shown.proofs.Pages.{whole_text}
 use Rattle.shown.proofs.Printed.{ends_push, print_from-append}
 use Rattle.frame_shown.specs.Items.{objects}
 use Rattle.frame_shown.specs.Plain.{plain}
+use Rattle.frame_shown.specs.declared.form.Around.{Around}
 use Rattle.frame_shown.specs.declared.form.Order.{Order}
 use Rattle.frame_diff.specs.Items.{change_item}
-use Rattle.frame_diff.specs.Laws.{messages_by}
 use Rattle.frame_diff.specs.Members.{Parts, leniently, whole}
-use Rattle.frame_diff.specs.Ranges.{told_items}
+use Rattle.frame_diff.specs.Ranges.{Told, told_items}
 use Rattle.message_diff.specs.declared.snapshot.Compared.{Compared}
 use Rattle.message_diff.specs.Changed.{AddsChanged, AddsList, change_tokens, changed_line, changed_members}
-use Rattle.message_diff.specs.Changed.{items_between, items_or, list_text, state_change, written_items}
+use Rattle.message_diff.specs.Changed.{items_between, items_moved, items_or, list_text, state_change, written_items}
 use Rattle.message_diff.specs.Compared.{is_lenient, is_state, parts_by}
 use Rattle.message_diff.specs.Shots.{Shot}
 
 -- ** what is compared
 
-module _ (by : Compared) (old new : Shot) (state : Bool) (m n : Order) (p q : Parts) (states : state ≡ is_state by)
-    (first : m ≡ old.order) (second : n ≡ new.order) where
-  told_by : p ≡ parts_by by old.text → q ≡ parts_by by new.text
-      → flat_map told_items (messages_by state (plain m) (plain n) p q) ≡ items_between by old new
-  told_by was is i = flat_map told_items (messages_by (states i) (plain (first i)) (plain (second i)) (was i) (is i))
+module _ (told : Bool → Around → Around → Parts → Parts → List Told) (by : Compared) (old new : Shot) (state : Bool)
+    (m n : Order) (p q : Parts) (states : state ≡ is_state by) (first : m ≡ old.order) (second : n ≡ new.order) where
+  -- by what is given, and by what it is
+  abbrev given : List Members
+  given = flat_map told_items (told state (plain m) (plain n) p q)
+
+  abbrev compared : List Members
+  compared = flat_map told_items
+      (told (is_state by) (plain old.order) (plain new.order) (parts_by by old.text) (parts_by by new.text))
+
+  told_by : p ≡ parts_by by old.text → q ≡ parts_by by new.text → given ≡ compared
+  told_by was is i = flat_map told_items (told (states i) (plain (first i)) (plain (second i)) (was i) (is i))
 
   -- where messages are read leniently, and where they are not
-  pub told_leniently : is_lenient by ≡ true → p ≡ leniently old.text → q ≡ leniently new.text
-      → flat_map told_items (messages_by state (plain m) (plain n) p q) ≡ items_between by old new
+  pub told_leniently : is_lenient by ≡ true → p ≡ leniently old.text → q ≡ leniently new.text → given ≡ compared
   told_leniently lenient was is =
       let apart = λ (text : List ℕ). ap (λ b. cond b (leniently text) (whole text)) (sym lenient) in
       told_by (was ∙ apart old.text) (is ∙ apart new.text)
 
-  pub told_whole : is_lenient by ≡ false → p ≡ whole old.text → q ≡ whole new.text
-      → flat_map told_items (messages_by state (plain m) (plain n) p q) ≡ items_between by old new
+  pub told_whole : is_lenient by ≡ false → p ≡ whole old.text → q ≡ whole new.text → given ≡ compared
   told_whole whole_too was is =
       let one = λ (text : List ℕ). ap (λ b. cond b (leniently text) (whole text)) (sym whole_too) in
       told_by (was ∙ one old.text) (is ∙ one new.text)
@@ -69,34 +74,48 @@ pub list_begun : (name : List ℕ) (page new : Draft) → new ≡ with_begun nam
 list_begun name page new is =
     ap (λ (d : Draft). ends_value d.tokens) is ∙ ends_push false (named page.inside name page.tokens) begin_array
 
-module _ (other : Members) (old new : Draft) (empty : ends_value old.tokens ≡ false) where
+module _ (others : List Members) (old new : Draft) (empty : ends_value old.tokens ≡ false) where
   some_told : (os : List Members) → new ≡ with_objects os old → ends_value new.tokens ≡ true
-      → new ≡ with_objects (items_or other os) old
+      → new ≡ with_objects (items_or others os) old
   some_told [] is some =
       let clash : false ≡ true = sym empty ∙ ap (λ (d : Draft). ends_value d.tokens) (sym is) ∙ some in absurd cc
   some_told (o ∷ os) is some = is
 
   none_told : (last : Draft) (os : List Members) → new ≡ with_objects os old → ends_value new.tokens ≡ false
-      → last ≡ with_objects (other ∷ []) new → last ≡ with_objects (items_or other os) old
-  none_told last [] is none more = more ∙ ap (with_objects (other ∷ [])) is
+      → last ≡ with_objects others new → last ≡ with_objects (items_or others os) old
+  none_told last [] is none more = more ∙ ap (with_objects others) is
   none_told last (o ∷ os) is none more =
       let clash : true ≡ false =
       sym (objects_end o os old) ∙ ap (λ (d : Draft). ends_value d.tokens) (sym is) ∙ none in absurd cc
 
 module _ (by : Compared) (old new : Shot) (page told : Draft) (empty : ends_value page.tokens ≡ false)
     (is : told ≡ with_objects (items_between by old new) page) where
-  abbrev texts : Members
-  texts = change_item (state_change old.text new.text)
+  abbrev texts : List Members
+  texts = change_item (state_change old.text new.text) ∷ []
 
-  -- some changes were told, or none, and then both encodings
+  abbrev lists : List Members
+  lists = items_or texts (items_moved by old new)
+
+  -- some changes were told
   pub any_told : ends_value told.tokens ≡ true → told ≡ with_objects (written_items by old new) page
   unfolding written_items
-  any_told some = some_told texts page told empty (items_between by old new) is some
+  any_told some = some_told lists page told empty (items_between by old new) is some
 
-  pub texts_told : (last : Draft) → ends_value told.tokens ≡ false → last ≡ with_objects (texts ∷ []) told
-      → last ≡ with_objects (written_items by old new) page
-  unfolding written_items
-  texts_told last none more = none_told texts page told empty last (items_between by old new) is none more
+  -- none, and then lists in another order, or none of them, and then both encodings
+  module _ (moved : Draft) (none : ends_value told.tokens ≡ false)
+      (more : moved ≡ with_objects (items_moved by old new) told) where
+    pub lists_told : ends_value moved.tokens ≡ true → moved ≡ with_objects (written_items by old new) page
+    unfolding written_items
+    lists_told some =
+        none_told lists page told empty moved (items_between by old new) is none
+        (some_told texts told moved none (items_moved by old new) more some)
+
+    pub texts_told : (last : Draft) → ends_value moved.tokens ≡ false → last ≡ with_objects texts moved
+        → last ≡ with_objects (written_items by old new) page
+    unfolding written_items
+    texts_told last no_lists both =
+        none_told lists page told empty last (items_between by old new) is none
+        (none_told texts told moved none last (items_moved by old new) more no_lists both)
 
 -- ** the list
 

@@ -11,7 +11,7 @@ use Rattle.frame_shown.specs.declared.form.Order.{Order}
 use Rattle.frame_diff.specs.Differences.{Change}
 use Rattle.frame_diff.specs.Forests.{Forest, Step}
 use Rattle.frame_diff.specs.Items.{change_item}
-use Rattle.frame_diff.specs.Laws.{messages_by}
+use Rattle.frame_diff.specs.Laws.{messages_by, messages_moved}
 use Rattle.frame_diff.specs.Members.{message_forest}
 use Rattle.frame_diff.specs.Ranges.{Told, told_items}
 use Rattle.frame_diff.specs.Wholes.{between}
@@ -55,13 +55,22 @@ ranges_between by old new = messages_by (is_state by) (plain old.order) (plain n
 abbrev pub items_between : Compared → Shot → Shot → List Members
 items_between by old new = flat_map told_items (ranges_between by old new)
 
-abbrev pub items_or : Members → List Members → List Members
-items_or other [] = other ∷ []
-items_or other (o ∷ os) = o ∷ os
+-- lists of which both say the same in another order, or which one of both writes otherwise, each as a whole
+abbrev pub lists_between : Compared → Shot → Shot → List Told
+lists_between by old new = messages_moved (is_state by) (plain old.order) (plain new.order) (parts_by by old.text)
+    (parts_by by new.text)
 
--- what is written of two whose encodings differ
+abbrev pub items_moved : Compared → Shot → Shot → List Members
+items_moved by old new = flat_map told_items (lists_between by old new)
+
+abbrev pub items_or : List Members → List Members → List Members
+items_or others [] = others
+items_or others (o ∷ os) = o ∷ os
+
+-- what is written of two whose encodings differ: lists in another order where nothing else is, or both encodings
 unfoldable pub written_items : Compared → Shot → Shot → List Members
-written_items by old new = items_or (change_item (state_change old.text new.text)) (items_between by old new)
+written_items by old new = items_or (items_or (change_item (state_change old.text new.text) ∷ [])
+    (items_moved by old new)) (items_between by old new)
 
 -- ** the line
 

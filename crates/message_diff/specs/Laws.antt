@@ -6,18 +6,19 @@ use Rattle.link_msg.specs.Lenient.{MeansLeniently}
 use Rattle.link_msg.specs.declared.message.LinkMessage.{LinkMessage}
 use Rattle.frame_diff.specs.Differences.{changes}
 use Rattle.frame_diff.specs.Forests.{leaves}
-use Rattle.frame_diff.specs.Laws.{AreOnce, is_empty}
+use Rattle.frame_diff.specs.Laws.{AreOnce}
 use Rattle.frame_diff.specs.Ranges.{apart}
 use Rattle.frame_diff.specs.Wholes.{opened, wholes}
 use Rattle.message_diff.specs.declared.snapshot.Compared.{Compared}
 use Rattle.message_diff.specs.Alone.{head_in}
-use Rattle.message_diff.specs.Changed.{changes_between, forest_by, items_between, ranges_between}
+use Rattle.message_diff.specs.Changed.{changes_between, forest_by, items_between, items_moved, ranges_between}
 use Rattle.message_diff.specs.Named.{head_of}
 use Rattle.message_diff.specs.Shots.{Shot}
 
 -- a value with a label that stands alone is one leaf; leaf by leaf, what is told is what differs between all leaves. Of
 -- an encoding beside itself, in one order, nothing is told; and each path is told once. VLAN by VLAN, what is written
--- is what is told; and nothing is written exactly where nothing is told
+-- is what is told. Nothing is written where nothing is told; and where neither that is written nor a list in another
+-- order, nothing is told
 pub record ChangesAreTold : Type 0 where
   pub all : (by : Compared) (old new : Shot) → changes_between by old new
       ≡ changes (leaves (wholes (forest_by by old) (forest_by by new)))
@@ -29,8 +30,10 @@ pub record ChangesAreTold : Type 0 where
   pub silent : (by : Compared) (shot : Shot) → changes_between by shot shot ≡ []
   pub written : (by : Compared) (old new : Shot)
       → flat_map apart (ranges_between by old new) ≡ changes_between by old new
-  pub empty : (by : Compared) (old new : Shot)
-      → is_empty (items_between by old new) ≡ is_empty (changes_between by old new)
+  pub silent_written : (by : Compared) (old new : Shot)
+      → changes_between by old new ≡ [] → items_between by old new ≡ []
+  pub moved : (by : Compared) (old new : Shot)
+      → items_between by old new ≡ [] → items_moved by old new ≡ [] → changes_between by old new ≡ []
 
 -- of each message that an encoding means, read leniently or not
 abbrev pub HeadsAreMeant : Type 0

@@ -7,13 +7,14 @@ ghost use Rattle.frame_shown.specs.Items.{objects};
 ghost use Rattle.frame_diff.specs.Items.{change_item};
 ghost use Rattle.frame_diff.specs.Members.{leniently};
 ghost use Rattle.frame_diff.specs.Messages.{parts_of};
-ghost use Rattle.message_diff.specs.Changed.{change_tokens, items_between, state_change, written_items};
+ghost use Rattle.message_diff.specs.Changed.{change_tokens, items_between, items_moved, state_change};
+ghost use Rattle.message_diff.specs.Changed.{written_items};
 ghost use Rattle.message_diff.specs.Compared.{is_lenient};
 ghost use Rattle.message_diff.specs.Split.{parts_in};
 
 use crate::snapshot::{Compared, Snapshot};
 use frame_diff::leaf::Texts;
-use frame_diff::message::{Message, tell};
+use frame_diff::message::{Message, tell, tell_moved};
 use frame_shown::accepted::parted;
 use frame_shown::message::rest_of;
 use nla_wire::fields::u8_at;
@@ -99,6 +100,52 @@ fn tell_changes(
     tell(texts, by.is_state(), orders, page, was, is)
 }
 
+/// Adds the lists that two encodings, read leniently, have in another order, or that one of both writes otherwise, as
+/// values of a list.
+fn tell_lists_leniently(
+    texts: &mut Texts,
+    by: Compared,
+    old: &Snapshot,
+    new: &Snapshot,
+    page: &mut Page,
+) -> Result<(), AllocError>
+    requires { is_lenient by ≡ true }
+    ensures { OnOk result (page.new ≡ with_members
+        (objects (items_moved by old.now new.now)) page.old) }
+{
+    let was = Split::of(texts.alloc, old.text())?;
+    let is = Split::of(texts.alloc, new.text())?;
+    let orders = (old.order(), new.order());
+    tell_moved(
+        texts,
+        by.is_state(),
+        orders,
+        page,
+        was.message(),
+        is.message(),
+    )
+}
+
+/// Adds the lists that two encodings have in another order, or that one of both writes otherwise, as values of a list.
+fn tell_lists(
+    texts: &mut Texts,
+    by: Compared,
+    old: &Snapshot,
+    new: &Snapshot,
+    page: &mut Page,
+) -> Result<(), AllocError>
+    ensures { OnOk result (page.new ≡ with_members
+        (objects (items_moved by old.now new.now)) page.old) }
+{
+    if by.is_lenient() {
+        return tell_lists_leniently(texts, by, old, new, page);
+    }
+    let orders = (old.order(), new.order());
+    let was = Message::whole(old.text());
+    let is = Message::whole(new.text());
+    tell_moved(texts, by.is_state(), orders, page, was, is)
+}
+
 /// Adds both encodings in hexadecimal, as a change.
 fn show_texts(page: &mut Page, old: &[u8], new: &[u8]) -> Result<(), AllocError>
     ensures { OnOk result (page.new ≡ with_members
@@ -111,8 +158,8 @@ fn show_texts(page: &mut Page, old: &[u8], new: &[u8]) -> Result<(), AllocError>
     page.end()
 }
 
-/// Adds what differs between two encodings, as values of a list that holds none yet: both of them, where nothing else
-/// does.
+/// Adds what differs between two encodings, as values of a list that holds none yet: lists in another order, where
+/// nothing else does, or both encodings.
 fn tell_all(
     texts: &mut Texts,
     by: Compared,
@@ -125,6 +172,10 @@ fn tell_all(
         (objects (written_items by old.now new.now)) page.old) }
 {
     tell_changes(texts, by, old, new, page)?;
+    if page.ends_value() {
+        return Ok(());
+    }
+    tell_lists(texts, by, old, new, page)?;
     if page.ends_value() {
         return Ok(());
     }

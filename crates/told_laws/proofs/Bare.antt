@@ -9,7 +9,7 @@ use Rattle.frame_diff.specs.Forests.{Forest, Held, Leaf, Member, Step, comes, fo
 use Rattle.frame_diff.specs.Forests.{left_of}
 use Rattle.frame_diff.specs.Labels.{count, label_step, labelled, labels_behind, labels_of}
 use Rattle.frame_diff.specs.Members.{alone, earlier, group_of, inside_of, is_nest, list_at, placed, places}
-use Rattle.frame_diff.specs.Members.{are_plain, unless_none, value_in, values_inside}
+use Rattle.frame_diff.specs.Members.{are_plain, flat_inside, unless_none, value_in, values_inside}
 use Rattle.frame_diff.specs.Vlans.{flat}
 use Rattle.frame_diff.specs.declared.keys.Key.{Key}
 use Rattle.frame_diff.specs.declared.labels.Label.{Label}
@@ -19,6 +19,7 @@ abbrev pub is_leaf : Forest → Bool
 is_leaf Forest.none = true
 is_leaf Forest.passed = false
 is_leaf (Forest.vlans runs) = false
+is_leaf (Forest.texts vs) = true
 is_leaf (Forest.tree s v i rest) = false
 
 -- so it is with each VLAN as a member
@@ -36,6 +37,7 @@ abbrev pub bare : Forest → Forest
 bare Forest.none = Forest.none
 bare Forest.passed = Forest.passed
 bare (Forest.vlans runs) = Forest.vlans runs
+bare (Forest.texts vs) = Forest.none
 bare (Forest.tree s v i rest) = Forest.tree s (bare_value v i) (bare i) (bare rest)
 
 abbrev pub bare_held : Held → Held
@@ -69,6 +71,7 @@ value_kept : (s : Step) (v : List Token) (f : Forest) (ls : List Leaf)
 value_kept s v Forest.none ls = ap (λ w. (s ∷ [], w) ∷ []) (value_there v)
 value_kept s v Forest.passed ls = refl
 value_kept s v (Forest.vlans runs) ls = refl
+value_kept s v (Forest.texts vs) ls = ap (λ w. (s ∷ [], w) ∷ []) (value_there v)
 value_kept s v (Forest.tree a b c d) ls = refl
 
 inside_kept : (s : Step) (v : List Token) (i : Forest) (ls : List Leaf)
@@ -76,12 +79,14 @@ inside_kept : (s : Step) (v : List Token) (i : Forest) (ls : List Leaf)
 inside_kept s v Forest.none ls = refl
 inside_kept s v Forest.passed ls = refl
 inside_kept s v (Forest.vlans runs) ls = refl
+inside_kept s v (Forest.texts vs) ls = refl
 inside_kept s v (Forest.tree a b c d) ls = refl
 
 pub leaves_bare : (f : Forest) → leaves (flat (bare f)) ≡ leaves (flat f)
 leaves_bare Forest.none = refl
 leaves_bare Forest.passed = refl
 leaves_bare (Forest.vlans runs) = refl
+leaves_bare (Forest.texts vs) = refl
 leaves_bare (Forest.tree s v i rest) =
     (λ k. (inside_kept s (bare_value v i) i (leaves (flat (bare i)))
     ∙ value_kept s v (flat i) (leaves (flat (bare i)))
@@ -176,6 +181,7 @@ pub unless_bare : (s : Step) (v : List Token) (f : Forest) → is_nest v ≡ tru
 unless_bare s v Forest.none nest = refl
 unless_bare s v Forest.passed nest = refl
 unless_bare s v (Forest.vlans runs) nest = refl
+unless_bare s v (Forest.texts vs) nest = refl
 unless_bare s v (Forest.tree a b c d) nest =
     ap (λ t. (s, (cond t (begin_object ∷ []) v, bare (Forest.tree a b c d))) ∷ []) nest
 
@@ -239,6 +245,7 @@ none_bare : (f : Forest) → is_none (bare f) ≡ is_none f
 none_bare Forest.none = refl
 none_bare Forest.passed = refl
 none_bare (Forest.vlans runs) = refl
+none_bare (Forest.texts vs) = refl
 none_bare (Forest.tree s v i rest) = refl
 
 -- a forest of some members holds some
@@ -271,12 +278,21 @@ plain_bare [] = refl
 plain_bare (None ∷ hs) = plain_bare hs
 plain_bare (Some held ∷ hs) = λ k. not (nest_bare held.0 held.1 k) && plain_bare hs k
 
-inside_bare : (hs : List (Option Held)) (f : Forest)
-    → bare (values_inside hs f) ≡ values_inside (bare_opts hs) (bare f)
-inside_bare hs f = by (are_plain hs) ∙ ap (λ b. cond b Forest.none (bare f)) (sym (plain_bare hs))
+-- values that are their own keys are no members
+flat_bare : (own : Bool) (hs : List (Option Held)) → bare (flat_inside own hs) ≡ Forest.none
+flat_bare true hs = refl
+flat_bare false hs = refl
+
+flat_is : (own : Bool) (hs : List (Option Held)) → is_none (flat_inside own hs) ≡ true
+flat_is true hs = refl
+flat_is false hs = refl
+
+inside_bare : (own : Bool) (hs : List (Option Held)) (f : Forest)
+    → bare (values_inside own hs f) ≡ values_inside false (bare_opts hs) (bare f)
+inside_bare own hs f = by (are_plain hs) ∙ ap (λ b. cond b Forest.none (bare f)) (sym (plain_bare hs))
   where
-    by : (b : Bool) → bare (cond b Forest.none f) ≡ cond b Forest.none (bare f)
-    by true = refl
+    by : (b : Bool) → bare (cond b (flat_inside own hs) f) ≡ cond b Forest.none (bare f)
+    by true = flat_bare own hs
     by false = refl
 
 -- of values of which one is an object or a list there are some inside
@@ -303,39 +319,42 @@ pub of_some : (key : Option Key) (ns : List (Option ℕ)) (hs : List (Option Hel
 of_some None ns hs many some = placed_some 0 hs some
 of_some (Some key) ns hs many some = labelled_some key [] ns hs many some
 
-inside_is : (hs : List (Option Held)) (f : Forest) → HoldsSome hs f → is_none (values_inside hs f) ≡ are_plain hs
-inside_is hs f there = by (are_plain hs) refl
+inside_is : (own : Bool) (hs : List (Option Held)) (f : Forest) → HoldsSome hs f
+    → is_none (values_inside own hs f) ≡ are_plain hs
+inside_is own hs f there = by (are_plain hs) refl
   where
-    by : (b : Bool) → are_plain hs ≡ b → is_none (cond b Forest.none f) ≡ b
-    by true is = refl
+    by : (b : Bool) → are_plain hs ≡ b → is_none (cond b (flat_inside own hs) f) ≡ b
+    by true is = flat_is own hs
     by false is = there is
 
-abbrev pub list_value : List (Option Held) → Forest → List Token
-list_value hs f = nest_value (list_of (values hs)) (values_inside hs f)
+abbrev pub list_value : Bool → List (Option Held) → Forest → List Token
+list_value own hs f = nest_value (list_of (values hs)) (values_inside own hs f)
 
-list_value_bare : (hs : List (Option Held)) (f : Forest) → HoldsSome hs f
-    → list_value hs f ≡ list_value (bare_opts hs) (bare f)
-list_value_bare hs f there =
-    by (is_none (values_inside hs f)) refl
+list_value_bare : (own : Bool) (hs : List (Option Held)) (f : Forest) → HoldsSome hs f
+    → list_value own hs f ≡ list_value false (bare_opts hs) (bare f)
+list_value_bare own hs f there =
+    by (is_none (values_inside own hs f)) refl
     ∙ ap (λ b. cond b (list_of (values (bare_opts hs))) (begin_object ∷ []))
-    (sym (ap is_none (sym (inside_bare hs f)) ∙ none_bare (values_inside hs f)))
+    (sym (ap is_none (sym (inside_bare own hs f)) ∙ none_bare (values_inside own hs f)))
   where
-    by : (b : Bool) → is_none (values_inside hs f) ≡ b
+    by : (b : Bool) → is_none (values_inside own hs f) ≡ b
         → cond b (list_of (values hs)) (begin_object ∷ [])
         ≡ cond b (list_of (values (bare_opts hs))) (begin_object ∷ [])
-    by true none = ap list_of (plain_values hs (sym (inside_is hs f there) ∙ none))
+    by true none = ap list_of (plain_values hs (sym (inside_is own hs f there) ∙ none))
     by false some = refl
 
-group_bare : (s : Step) (hs : List (Option Held)) (f : Forest) → HoldsSome hs f → bare_one (group_of s hs f)
-    ≡ (s, (list_value (bare_opts hs) (bare f), values_inside (bare_opts hs) (bare f)))
-group_bare s hs f there = λ k. (s, (list_value_bare hs f there k, inside_bare hs f k))
+group_bare : (s : Step) (own : Bool) (hs : List (Option Held)) (f : Forest) → HoldsSome hs f
+    → bare_one (group_of s own hs f)
+    ≡ (s, (list_value false (bare_opts hs) (bare f), values_inside false (bare_opts hs) (bare f)))
+group_bare s own hs f there = λ k. (s, (list_value_bare own hs f there k, inside_bare own hs f k))
 
-pub group_same : (s : Step) (hs js : List (Option Held)) (f g : Forest) → HoldsSome hs f → HoldsSome js g
-    → bare_opts hs ≡ bare_opts js → bare f ≡ bare g → bare_one (group_of s hs f) ≡ bare_one (group_of s js g)
-group_same s hs js f g there here same inside =
-    group_bare s hs f there
-    ∙ (λ k. (s, (list_value (same k) (inside k), values_inside (same k) (inside k))))
-    ∙ sym (group_bare s js g here)
+pub group_same : (s : Step) (own : Bool) (hs js : List (Option Held)) (f g : Forest) → HoldsSome hs f
+    → HoldsSome js g → bare_opts hs ≡ bare_opts js → bare f ≡ bare g
+    → bare_one (group_of s own hs f) ≡ bare_one (group_of s own js g)
+group_same s own hs js f g there here same inside =
+    group_bare s own hs f there
+    ∙ (λ k. (s, (list_value false (same k) (inside k), values_inside false (same k) (inside k))))
+    ∙ sym (group_bare s own js g here)
 
 -- ** an object, and the members inside it
 

@@ -8,7 +8,7 @@ use Rattle.frame_diff.specs.Forests.{Forest, Leaf, Path, Step, is_path, leaves, 
 use Rattle.frame_diff.specs.Members.{message_forest}
 use Rattle.frame_diff.specs.Wholes.{opened}
 use Rattle.frame_diff.specs.declared.side.Side.{Side}
-use Rattle.frame_diff.specs.declared.side.Side.TheVariants.{Old, New}
+use Rattle.frame_diff.specs.declared.side.Side.TheVariants.{Old, New, Moved}
 use Rattle.frame_diff.proofs.Flat.{message_apart}
 use Rattle.frame_diff.proofs.Messages.{messages_told}
 use Rattle.frame_diff.proofs.Once.{StandOnce, leaves_once}
@@ -58,6 +58,7 @@ leaf_off q o Old p v (Some w) other = by (is_shown_same v w)
     by false = other_leads q o (Change.turned p v w) other
 leaf_off q o New p v None other = other_leads q o (Change.came p v) other
 leaf_off q o New p v (Some w) other = none_lead q o
+leaf_off q o Moved p v beside other = none_lead q o
 
 -- a leaf at this path or at another one, before others
 abbrev pub IsOff : Leaf → List Leaf → Path → Type 0

@@ -43,7 +43,7 @@ use Rattle.frame_diff.specs.Members.{Inner, Parts, Reading, attributes_in, earli
 use Rattle.frame_diff.specs.Members.{entry_of}
 use Rattle.frame_diff.specs.Members.{entry_with, form_inside, group_of, inside_of, inside_with, numbers_by, places}
 use Rattle.frame_diff.specs.Members.{is_unnamed, array_at, arrays_in, arrays_of, value_with, values_with}
-use Rattle.frame_diff.specs.Members.{frame_member, held_by, inner_by, is_nest, is_some, others_at}
+use Rattle.frame_diff.specs.Members.{frame_member, held_by, inner_by, is_nest, is_own_key, is_some, others_at}
 use Rattle.frame_diff.specs.Members.{list_at, listed_in}
 use Rattle.frame_diff.specs.Members.{list_members, meaning_inside, members_in, message_forest, message_made}
 use Rattle.frame_diff.specs.Members.{message_members, runs_by, runs_or, way_inside}
@@ -108,6 +108,7 @@ runs_there (r ∷ rs) apart = by (vlan_trees (vlans_of (r ∷ rs))) (runs_have r
     by Forest.none h = absurd h
     by Forest.passed h = absurd h
     by (Forest.vlans runs) h = absurd h
+    by (Forest.texts vs) h = absurd h
     by (Forest.tree s v i rest) h = refl
 
 runs_some : (n : ℕ) (list : Shape) (fs : List Frame) (hs : List (Option Held)) (f : Forest) → HoldsSome hs f
@@ -358,21 +359,22 @@ module _ (cx : Around) (order : Order) (nest other : Nesting) (inner theirs : In
         runs_some n list fs (flat_map F fs) (inside_of key (numbers_by (number_in cx key list) F fs) (flat_map F fs))
         (inside_some cx key list F fs)
 
-    array_same : (name : List ℕ) (hs js : List (Option Held)) (f g : Forest) → HoldsSome hs f → HoldsSome js g
-        → bare_opts hs ≡ bare_opts js → bare f ≡ bare g
-        → bare_all (array_at name hs f) ≡ bare_all (array_at name js g)
-    array_same name [] [] f g there here same inside = refl
-    array_same name [] (j ∷ js) f g there here same inside = absurd cc
-    array_same name (h ∷ hs) [] f g there here same inside = absurd cc
-    array_same name (h ∷ hs) (j ∷ js) f g there here same inside =
-        ap (λ m. m ∷ []) (group_same (Step.array name) (h ∷ hs) (j ∷ js) f g there here same inside)
+    array_same : (name : List ℕ) (own : Bool) (hs js : List (Option Held)) (f g : Forest) → HoldsSome hs f
+        → HoldsSome js g → bare_opts hs ≡ bare_opts js → bare f ≡ bare g
+        → bare_all (array_at name own hs f) ≡ bare_all (array_at name own js g)
+    array_same name own [] [] f g there here same inside = refl
+    array_same name own [] (j ∷ js) f g there here same inside = absurd cc
+    array_same name own (h ∷ hs) [] f g there here same inside = absurd cc
+    array_same name own (h ∷ hs) (j ∷ js) f g there here same inside =
+        ap (λ m. m ∷ []) (group_same (Step.array name) own (h ∷ hs) (j ∷ js) f g there here same inside)
 
     arrays_same : (list : Shape) (lists : Lists) (fs : List Frame) → is_shape list ≡ true
         → bare_all (arrays_of r list lists fs) ≡ bare_all (arrays_of s list lists fs)
     arrays_same list lists fs h =
-        bare_flat (λ l. array_at l.1 (values_with r list l.0 fs) (inside_with r list l.0 fs))
-        (λ l. array_at l.1 (values_with s list l.0 fs) (inside_with s list l.0 fs)) lists
-        (λ l. array_same l.1 (values_with r list l.0 fs) (values_with s list l.0 fs)
+        bare_flat
+        (λ l. array_at l.1 (is_own_key (Some l.0) list) (values_with r list l.0 fs) (inside_with r list l.0 fs))
+        (λ l. array_at l.1 (is_own_key (Some l.0) list) (values_with s list l.0 fs) (inside_with s list l.0 fs)) lists
+        (λ l. array_same l.1 (is_own_key (Some l.0) list) (values_with r list l.0 fs) (values_with s list l.0 fs)
         (inside_with r list l.0 fs) (inside_with s list l.0 fs)
         (with_some cx list l.0 (value_with r list l.0) fs)
         (with_some (with_order cx order) list l.0 (value_with s list l.0) fs)
@@ -411,8 +413,8 @@ module _ (cx : Around) (order : Order) (nest other : Nesting) (inner theirs : In
         let hs = map (λ (m : Member). Some m.1) own in
         let js = map (λ (m : Member). Some m.1) ones in
         let same = opts_same own ones (named_same list fs h) in
-        (λ k. group_same (values_step (group_name group)) hs js (places hs) (places js) (placed_some 0 hs)
-        (placed_some 0 js) same (of_same None [] [] hs js refl same) k
+        (λ k. group_same (values_step (group_name group)) (is_own_key None list) hs js (places hs) (places js)
+        (placed_some 0 hs) (placed_some 0 js) same (of_same None [] [] hs js refl same) k
         ∷ bare_all (others_at (rest_step (codes "other")) r list fs))
 
     -- objects in a list
@@ -446,14 +448,14 @@ module _ (cx : Around) (order : Order) (nest other : Nesting) (inner theirs : In
         by false = refl
 
     entries_same : (group : Group) (fs : List Frame) → is_shape (entry_list group) ≡ true
-        → bare_one (group_of (entries_step (group_name group)) (entries_in r (entry_list group) fs)
+        → bare_one (group_of (entries_step (group_name group)) false (entries_in r (entry_list group) fs)
         (entries_inside r group fs))
-        ≡ bare_one (group_of (entries_step (group_name group)) (entries_in s (entry_list group) fs)
+        ≡ bare_one (group_of (entries_step (group_name group)) false (entries_in s (entry_list group) fs)
         (entries_inside s group fs))
     entries_same group fs h =
         let list = entry_list group in
         let key = key_at None (Shapes.Entries group) in
-        group_same (entries_step (group_name group)) (entries_in r list fs) (entries_in s list fs)
+        group_same (entries_step (group_name group)) false (entries_in r list fs) (entries_in s list fs)
         (entries_inside r group fs) (entries_inside s group fs)
         (inside_some cx key (Shapes.Entries group) (entry_with r list) fs)
         (inside_some (with_order cx order) key (Shapes.Entries group) (entry_with s list) fs)

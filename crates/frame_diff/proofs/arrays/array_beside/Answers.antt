@@ -5,7 +5,7 @@ use Rattle.link_info.specs.Tables.{frames_in}
 use Rattle.frame_shown.specs.Tables.{lists_of}
 use Rattle.frame_diff.specs.Forests.{Step, find, forest}
 use Rattle.frame_diff.specs.Groups.{group_by, group_held}
-use Rattle.frame_diff.specs.Members.{arrays_of, inside_with, values_with}
+use Rattle.frame_diff.specs.Members.{arrays_of, inside_with, is_own_key, values_with}
 use Rattle.frame_diff.specs.Walked.{reading_at}
 use Rattle.frame_diff.proofs.ArraysTold.{array_found}
 use Rattle.frame_diff.proofs.arrays.array_beside.Goals as goal
@@ -25,7 +25,8 @@ returns-in-Some-clause-held c nest inner is_state =
     let fs = frames_in (items others.bytes.now) in
     let name = c.args.name.now in
     ap (λ a. Some (group_held nest inner is_state a)) c.of_number.ensures
-    ∙ ap (option_map (λ n. group_by (values_with r others.list n fs) (inside_with r others.list n fs)))
+    ∙ ap (option_map (λ n. group_by (is_own_key (Some n) others.list) (values_with r others.list n fs)
+    (inside_with r others.list n fs)))
     (sym c.in-Some.is ∙ c.find_array.ensures)
     ∙ sym (array_found r others.list fs name c.data_rows-rows.result.now)
     ∙ ap (λ rows. find (Step.array name) (forest (arrays_of r others.list (lists_of rows) fs))) c.data_rows-rows.ensures
@@ -36,7 +37,8 @@ returns-in-None-clause-held c nest inner is_state =
     let r = reading_at nest inner is_state others.around.now in
     let fs = frames_in (items others.bytes.now) in
     let name = c.args.name.now in
-    ap (option_map (λ n. group_by (values_with r others.list n fs) (inside_with r others.list n fs)))
+    ap (option_map (λ n. group_by (is_own_key (Some n) others.list) (values_with r others.list n fs)
+    (inside_with r others.list n fs)))
     (sym c.in-None.is ∙ c.find_array.ensures)
     ∙ sym (array_found r others.list fs name c.data_rows-rows.result.now)
     ∙ ap (λ rows. find (Step.array name) (forest (arrays_of r others.list (lists_of rows) fs))) c.data_rows-rows.ensures

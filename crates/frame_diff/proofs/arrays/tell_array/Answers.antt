@@ -1,4 +1,4 @@
-use Rattle.std.proofs.Common.{◌≡◌, ◌∷◌, [], ◌∙◌, ap, rules, subst, sym, true, false}
+use Rattle.std.proofs.Common.{◌≡◌, ◌∷◌, [], ◌∙◌, Some, ap, rules, subst, sym, true, false}
 use Rattle.std.proofs.lemmas.Result.{on_ok_weaker}
 use Rattle.std.specs.Prelude.{option_map}
 use Rattle.nla_wire.specs.Items.{items}
@@ -10,8 +10,8 @@ use Rattle.frame_diff.specs.Arrays.{arrays_at, has_values}
 use Rattle.frame_diff.specs.Forests.{Step, find, forest}
 use Rattle.frame_diff.specs.Groups.{group_by, group_held, is_entries}
 use Rattle.frame_diff.specs.Items.{items_told, joined}
-use Rattle.frame_diff.specs.Members.{arrays_of, inside_with, values_with}
-use Rattle.frame_diff.specs.Walked.{HasNames, held_items, reading_at}
+use Rattle.frame_diff.specs.Members.{arrays_of, inside_with, is_own_key, values_with}
+use Rattle.frame_diff.specs.Walked.{HasNames, listed_items, reading_at}
 use Rattle.frame_diff.specs.declared.walk.Attributes.{Attributes}
 use Rattle.frame_diff.proofs.ArraysTold.{empty, nothing_told, row_told, same_kind, stand_beside, unlisted}
 use Rattle.frame_diff.proofs.Inside.{same_written}
@@ -62,17 +62,17 @@ returns g c =
     let listed : is_listed row.2 ≡ true = cc (c.is_listed.ensures, c.if-not-is_listed.false) in
     let some : has_values own.around.now own.list fs row.0 ≡ true =
     cc (c.has_values.ensures, c.if-not-has_values.false) in
-    let held = group_by (values_with r own.list row.0 fs) (inside_with r own.list row.0 fs) in
+    let held = group_by (is_own_key (Some row.0) own.list) (values_with r own.list row.0 fs) (inside_with r own.list row.0 fs) in
     let path : c.as_str.result.now ≡ joined text row.1.now = search rules in
     let picked : group_held nest inner is_state c.of_number.result ≡ held =
     ap (group_held nest inner is_state) c.of_number.ensures in
     let beside : option_map (group_held nest inner is_state) c.array_beside-there.result
     ≡ find (Step.array row.1.now) others = c.array_beside-there.ensures.held nest inner is_state in
     on_ok_weaker c.tell_values.result (λ is. same_written
-    (held_items side (joined text row.1.now) held (find (Step.array row.1.now) others))
+    (listed_items side (joined text row.1.now) held (find (Step.array row.1.now) others))
     (items_told side text (forest (arrays_of r own.list (lists_of (row ∷ [])) fs)) others) c.args.page.now
     c.tell_values.new.page (row_told side text r own.list fs others row listed some)
-    (is ∙ (λ k. with_members (objects (held_items side (path k) (picked k) (beside k))) c.args.page.now)))
+    (is ∙ (λ k. with_members (objects (listed_items side (path k) (picked k) (beside k))) c.args.page.now)))
     c.tell_values.ensures
 
 pub tell_values-requires-clause-names : goal.tell_values-requires-clause-names

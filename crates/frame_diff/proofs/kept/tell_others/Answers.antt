@@ -1,17 +1,18 @@
-use Rattle.std.proofs.Common.{◌≡◌, ◌<◌, ◌+◌, ◌∙◌, List, [], ap, codes, get_or, length, refl, rules, subst, sym}
+use Rattle.std.proofs.Common.{◌≡◌, ◌<◌, ◌+◌, ◌∙◌, ◌++◌, List, [], ap, codes, false, get_or, length, refl, rules}
+use Rattle.std.proofs.Common.{subst, sym}
 use Rattle.std.proofs.lemmas.List.{nil_from_length}
 use Rattle.std.specs.Prelude.{None, Option, Some, option_and_then}
 use Rattle.shown.specs.Drafts.{Draft, with_members}
 use Rattle.frame_shown.specs.Items.{objects}
-use Rattle.frame_diff.specs.Forests.{forest}
 use Rattle.frame_diff.specs.Items.{items_told, joined}
-use Rattle.frame_diff.specs.Keyed.{AreKept, label_items, labels_now, value_of}
+use Rattle.frame_diff.specs.Keyed.{AreKept, are_any, kept_moved, label_items, labels_now, others_items, value_of}
 use Rattle.frame_diff.specs.Labels.{IsIndex, label_step, labels_of, place_of}
 use Rattle.frame_diff.specs.Values.{kept_held, kept_inside_at}
 use Rattle.frame_diff.specs.declared.kept.Kept.{Kept}
 use Rattle.frame_diff.specs.declared.keyed.Labelled.{Labelled}
 use Rattle.frame_diff.specs.declared.keys.Key.TheVariants as Keys
-use Rattle.frame_diff.proofs.KeyedTold.{forest_told, kept_apart, kept_are, label_place, members, one_further}
+use Rattle.frame_diff.proofs.KeyedTold.{forest_told, kept_apart, kept_are, label_place, one_further}
+use Rattle.frame_diff.proofs.Moved.{behind_moved, moved_none, nothing_kept}
 use Rattle.frame_diff.proofs.kept.tell_others.Goals as goal
 
 pub loop-one-init : goal.loop-one-init
@@ -25,6 +26,13 @@ loop-one-init c =
     let own : AreKept is_state c.args.own labels_of vs =
     subst (AreKept is_state c.args.own labels_of) (sym items) c.in_ok-values.ensures in
     let others : AreKept is_state c.args.others labels_of ws = c.in_ok-theirs.ensures in
+    let path : c.as_str.result.now ≡ text = search rules in
+    let moved : c.tell_moved.new.page ≡ with_members (objects (kept_moved side text is_state c.args.own c.args.others))
+    c.args.page.now =
+    c.in_ok-tell_moved.ensures is_state
+    (subst (AreKept is_state c.args.own labels_of) (sym c.as_slice-3.ensures.value) c.in_ok-values.ensures)
+    (subst (AreKept is_state c.args.others labels_of) (sym c.as_slice-4.ensures.value) c.in_ok-theirs.ensures)
+    ∙ ap (λ p. with_members (objects (kept_moved side p is_state c.args.own c.args.others)) c.args.page.now) path in
     record {
       place = refl;
       own = own;
@@ -32,11 +40,14 @@ loop-one-init c =
           (c.as_slice.ensures.value ∙ sym items)
           (subst (λ xs. IsIndex c.in_ok-places.places (labels_now c.as_slice.result.now) (labels_now xs))
           (c.as_slice-2.ensures.value ∙ sym is) c.in_ok-places.ensures);
-      told = sym (ap (λ os. with_members (objects os) c.args.page.now)
+      told = sym (ap (λ os. with_members (objects os) c.tell_moved.new.page)
           ((λ k. items_told side text (kept_are is_state c.args.own vs own k)
           (kept_are is_state c.args.others ws others k))
           ∙ forest_told Keys.Number kept_held side text vs ws (kept_apart is_state c.args.own vs own)
-          (kept_apart is_state c.args.others ws others)));
+          (kept_apart is_state c.args.others ws others)))
+          ∙ behind_moved (kept_moved side text is_state c.args.own c.args.others)
+          (items_told side text (kept_inside_at is_state c.args.own) (kept_inside_at is_state c.args.others))
+          c.args.page.now c.tell_moved.new.page moved;
     }
 
 pub loop-one-preserved : goal.loop-one-preserved
@@ -44,7 +55,7 @@ loop-one-preserved c =
     let is_state = c.args.pass.is_state in
     let side = c.args.pass.side in
     let text = joined c.args.path.now (codes "other") in
-    let path : c.as_str-text.result.now ≡ joined c.args.path.now (codes "other") = search rules in
+    let path : c.as_str-text.result.now ≡ text = search rules in
     let vs : List (Labelled (Option Kept)) = c.as_slice-one-items.result.now in
     let ws : List (Labelled (Option Kept)) = c.in_ok-theirs.theirs.items in
     let i = c.loop-one.one-index in
@@ -54,8 +65,8 @@ loop-one-preserved c =
     let place : place_of v.label (labels_now vs) ≡ Some c.loop-one.place =
     label_place vs i v d (kept_apart is_state c.args.own vs c.loop-one.invariant.own) within refl
     ∙ ap Some (sym c.loop-one.invariant.place) in
-    let all : Draft = with_members (objects (items_told side text (kept_inside_at is_state c.args.own)
-    (kept_inside_at is_state c.args.others))) c.args.page.now in
+    let all : Draft = with_members (objects (others_items side text is_state c.args.own c.args.others))
+    c.args.page.now in
     let beside = option_and_then kept_held c.value_beside-beside.result in
     record {
       place = ap (λ n. n + 1) c.loop-one.invariant.place;
@@ -76,8 +87,11 @@ pub returns-then-is_empty : goal.returns-then-is_empty
 returns-then-is_empty c =
     let vs : List (Labelled (Option Kept)) = c.in_ok-values.values.items in
     let none : vs ≡ [] = nil_from_length vs (search rules) in
+    let is_state = c.args.pass.is_state in
+    let side = c.args.pass.side in
     let text = joined c.args.path.now (codes "other") in
-    sym (ap (λ f. with_members (objects (items_told c.args.pass.side text f
-    (kept_inside_at c.args.pass.is_state c.args.others))) c.args.page.now)
-    (kept_are c.args.pass.is_state c.args.own vs c.in_ok-values.ensures
-    ∙ ap (λ (ws : List (Labelled (Option Kept))). forest (members Keys.Number kept_held ws)) none))
+    let any : are_any vs ≡ false = ap are_any none in
+    sym (λ k. with_members (objects (
+    moved_none side text is_state c.args.own c.args.others vs c.in_ok-values.ensures any k
+    ++ items_told side text (nothing_kept is_state c.args.own vs c.in_ok-values.ensures any k)
+    (kept_inside_at is_state c.args.others))) c.args.page.now)

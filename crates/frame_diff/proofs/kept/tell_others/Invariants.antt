@@ -2,10 +2,10 @@ use Rattle.std.proofs.Common.{◌≡◌, List, codes, drop}
 use Rattle.std.specs.Prelude.{Option}
 use Rattle.shown.specs.Drafts.{with_members}
 use Rattle.frame_shown.specs.Items.{objects}
-use Rattle.frame_diff.specs.Items.{items_told, joined}
-use Rattle.frame_diff.specs.Keyed.{AreKept, labels_now}
+use Rattle.frame_diff.specs.Items.{joined}
+use Rattle.frame_diff.specs.Keyed.{AreKept, labels_now, others_items}
 use Rattle.frame_diff.specs.Labels.{IsIndex, labels_of}
-use Rattle.frame_diff.specs.Values.{kept_held, kept_inside_at}
+use Rattle.frame_diff.specs.Values.{kept_held}
 use Rattle.frame_diff.specs.declared.kept.Kept.{Kept}
 use Rattle.frame_diff.specs.declared.keyed.Labelled.{Labelled}
 use Rattle.frame_diff.specs.declared.keys.Key.TheVariants as Keys
@@ -23,6 +23,5 @@ invariant-loop-one l =
           → IsIndex l.places (labels_now l.one-items) (labels_now others);
       told : with_members (objects (all_told Keys.Number kept_held l.pass.side text l.theirs.items
           (drop l.one-index l.one-items))) l.page
-          ≡ with_members (objects (items_told l.pass.side text (kept_inside_at is_state l.own)
-          (kept_inside_at is_state l.others))) l.fn.page;
+          ≡ with_members (objects (others_items l.pass.side text is_state l.own l.others)) l.fn.page;
     }

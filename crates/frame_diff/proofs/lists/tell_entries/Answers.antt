@@ -6,7 +6,7 @@ use Rattle.frame_diff.specs.Forests.{find}
 use Rattle.frame_diff.specs.Groups.{all_of, group_held, group_step}
 use Rattle.frame_diff.specs.Inside.{above, inside_list}
 use Rattle.frame_diff.specs.Items.{items_told, joined, step_text}
-use Rattle.frame_diff.specs.Walked.{held_items, reading_at}
+use Rattle.frame_diff.specs.Walked.{listed_items, reading_at}
 use Rattle.frame_diff.proofs.Grouped.{entries_told}
 use Rattle.frame_diff.proofs.Inside.{same_written}
 use Rattle.frame_diff.proofs.lists.tell_entries.Goals as goal
@@ -21,7 +21,7 @@ returns g c =
     let own = c.args.own in
     let beside = inside_list (above nest inner) is_state c.args.beside in
     on_ok_weaker c.tell_group.result (same_written
-    (held_items side (joined text (step_text (group_step own.list))) (group_held nest inner is_state (all_of own))
+    (listed_items side (joined text (step_text (group_step own.list))) (group_held nest inner is_state (all_of own))
     (find (group_step own.list) beside))
     (items_told side text (inside_list (above nest inner) is_state (Some own)) beside)
     c.args.page.now c.tell_group.new.page

@@ -6,7 +6,7 @@ use Rattle.frame_diff.specs.Forests.{find}
 use Rattle.frame_diff.specs.Groups.{all_of, group_held, group_step, rest_forest}
 use Rattle.frame_diff.specs.Inside.{above, inside_list}
 use Rattle.frame_diff.specs.Items.{items_told, joined, step_text}
-use Rattle.frame_diff.specs.Walked.{held_items, reading_at}
+use Rattle.frame_diff.specs.Walked.{listed_items, reading_at}
 use Rattle.frame_diff.proofs.Entries.{both_told}
 use Rattle.frame_diff.proofs.Grouped.{listed_told}
 use Rattle.frame_diff.proofs.Inside.{same_written}
@@ -21,7 +21,7 @@ returns g c =
     let text = c.args.path.now in
     let own = c.args.own in
     let beside = inside_list (above nest inner) is_state c.args.beside in
-    let values = held_items side (joined text (step_text (group_step own.list)))
+    let values = listed_items side (joined text (step_text (group_step own.list)))
     (group_held nest inner is_state (all_of own))
     (find (group_step own.list) beside) in
     let kept = items_told side text (rest_forest is_state own) beside in

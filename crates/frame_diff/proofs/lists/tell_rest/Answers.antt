@@ -3,6 +3,7 @@ use Rattle.std.proofs.lemmas.Result.{on_ok_weaker}
 use Rattle.frame_diff.specs.Groups.{rest_forest}
 use Rattle.frame_diff.specs.Inside.{above, inside_list}
 use Rattle.frame_diff.specs.Items.{items_told, joined}
+use Rattle.frame_diff.specs.Keyed.{others_items}
 use Rattle.frame_diff.specs.Values.{kept_at, kept_inside_at}
 use Rattle.frame_diff.proofs.Grouped.{kept_runless, kept_told}
 use Rattle.frame_diff.proofs.Inside.{same_written}
@@ -21,7 +22,7 @@ returns g c =
     let other = kept_inside_at is_state c.listed_beside-others.result in
     let beside = inside_list (above nest inner) is_state c.args.beside in
     on_ok_weaker c.tell_others.result (same_written
-    (items_told side (joined text (codes "other")) inside other)
+    (others_items side (joined text (codes "other")) is_state c.args.own c.listed_beside-others.result)
     (items_told side text (rest_forest is_state c.args.own) beside) c.args.page.now c.tell_others.new.page
     (kept_told side text hs gs inside other beside (kept_runless is_state c.args.own)
     (kept_runless is_state c.listed_beside-others.result) (c.listed_beside-others.ensures nest inner is_state)))

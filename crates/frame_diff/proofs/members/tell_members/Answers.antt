@@ -8,9 +8,9 @@ use Rattle.frame_shown.specs.Items.{objects}
 use Rattle.frame_diff.specs.Arrays.{arrays_at}
 use Rattle.frame_diff.specs.Forests.{forest}
 use Rattle.frame_diff.specs.Items.{items_told, joined}
+use Rattle.frame_diff.specs.Keyed.{others_items}
 use Rattle.frame_diff.specs.Members.{places}
 use Rattle.frame_diff.specs.Repeated.{earlier_at}
-use Rattle.frame_diff.specs.Values.{kept_inside_at}
 use Rattle.frame_diff.specs.Walked.{named_at, reading_at}
 use Rattle.frame_diff.proofs.Entries.{both_told}
 use Rattle.frame_diff.proofs.Parts.{members_told}
@@ -31,8 +31,7 @@ returns g c =
     (forest (arrays_at nest inner is_state others)) in
     let again = items_told side (joined path (codes "repeated")) (places (earlier_at nest inner is_state own))
     (places (earlier_at nest inner is_state others)) in
-    let kept = items_told side (joined path (codes "other")) (kept_inside_at is_state own)
-    (kept_inside_at is_state others) in
+    let kept = others_items side (joined path (codes "other")) is_state own others in
     on_ok_weaker c.tell_others.result (λ last.
     both_told named (lists ++ (again ++ kept)) c.args.page.now c.tell_named.new.page c.tell_others.new.page
     c.in_ok-tell_named.ensures

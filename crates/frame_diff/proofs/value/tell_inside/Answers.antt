@@ -24,6 +24,6 @@ returns g c =
     on_ok_weaker c.tell_list.result (same_written (items_told side text f there) (items_told side text f beside)
     c.args.page.now c.tell_list.new.page
     (list_beside side text f there beside (c.laws.ensures.apart is_state own.around.now own.list own.bytes.now)
-    (c.laws.ensures.runless is_state own.around.now own.list own.bytes.now)
+    (c.laws.ensures.runless is_state own.around.now own.list own.bytes.now).0
     (c.laws.ensures.fieldless is_state own.around.now own.list own.bytes.now)
     (c.in_ok-there.ensures.held nest inner))) c.tell_list.ensures

@@ -16,6 +16,8 @@ returns c = record {
   silent = λ by shot. messages_told.silent (is_state by) (plain shot.order) (parts_by by shot.text);
   written = λ by old new. ranges_are (is_state by) (plain old.order) (plain new.order) (parts_by by old.text)
       (parts_by by new.text);
-  empty = λ by old new. written_is (is_state by) (plain old.order) (plain new.order) (parts_by by old.text)
+  silent_written = λ by old new. written_is.silent (is_state by) (plain old.order) (plain new.order)
+      (parts_by by old.text) (parts_by by new.text);
+  moved = λ by old new. written_is.moved (is_state by) (plain old.order) (plain new.order) (parts_by by old.text)
       (parts_by by new.text);
 }
