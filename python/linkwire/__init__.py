@@ -15,7 +15,7 @@ from .views import Settling, Told, View, flat, vlans
 from .watching import Event, Line, Watch, read_line
 from .wording import Words, escaped, width
 
-__version__ = "0.3.0"
+__version__ = "0.4.0"
 __all__ = [
     "CANONICAL_FORM", "HEADER_SIZE", "LENIENT_FORM", "STATE_FORM", "Announcement", "Attribute", "Bytes", "Change",
     "Event", "Fault", "KernelError", "Line", "Links", "LostMessages", "Refusal", "Settling", "Stream", "Told", "Value",

@@ -343,7 +343,8 @@ inside_with_apart r list n fs h =
 arrays_apart : (r : Reading) (list : Shape) (lists : Lists) (fs : List Frame) → InnerApart r.inner
     → AllApart (arrays_of r list lists fs)
 arrays_apart r list lists fs h =
-    each_apart (λ l. array_at l.1 (is_own_key (Some l.0) list) (values_with r list l.0 fs) (inside_with r list l.0 fs)) lists
+    each_apart
+    (λ l. array_at l.1 (is_own_key (Some l.0) list) (values_with r list l.0 fs) (inside_with r list l.0 fs)) lists
     (λ l. array_apart l.1 (is_own_key (Some l.0) list) (values_with r list l.0 fs) (inside_with r list l.0 fs)
     (inside_with_apart r list l.0 fs h))
 

@@ -352,7 +352,8 @@ inside_with_made r list n fs h =
 arrays_made : (r : Reading) (list : Shape) (lists : Lists) (fs : List Frame) → InnerMade r.inner
     → AllMade (arrays_of r list lists fs)
 arrays_made r list lists fs h =
-    each_made (λ l. array_at l.1 (is_own_key (Some l.0) list) (values_with r list l.0 fs) (inside_with r list l.0 fs)) lists
+    each_made
+    (λ l. array_at l.1 (is_own_key (Some l.0) list) (values_with r list l.0 fs) (inside_with r list l.0 fs)) lists
     (λ l. array_made l.1 (is_own_key (Some l.0) list) (values_with r list l.0 fs) (inside_with r list l.0 fs)
     (inside_with_made r list l.0 fs h))
 

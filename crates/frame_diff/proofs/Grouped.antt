@@ -556,7 +556,8 @@ module _ (r : Reading) where
   rest_there (Shapes.Listed group table) fs h =
       let list = Shapes.Listed group table in
       sym (find_back rest_step_now
-      (group_of (values_step (group_name group)) (is_own_key None list) (group_values r list fs) (places (group_values r list fs)) ∷ [])
+      (group_of (values_step (group_name group)) (is_own_key None list) (group_values r list fs)
+      (places (group_values r list fs)) ∷ [])
       (others_at rest_step_now r list fs) refl)
   rest_there (Shapes.Entries group) fs h = absurd cc
   rest_there (Shapes.Message family) fs h = absurd cc
@@ -1032,7 +1033,8 @@ module _ (nest : Showing) (inner : Holding) (is_state : Bool) where
       → us ++ values_left_in list next ≡ map value_in (group_at nest inner is_state list)
   each_further list f e it next ts us here looked pushed was =
       let one = picked nest inner is_state e in
-      let rest = picked_values (reading_at nest inner is_state list.around.now) list.number list.list (frames_in next) in
+      let reading = reading_at nest inner is_state list.around.now in
+      let rest = picked_values reading list.number list.list (frames_in next) in
       ap (λ l. l ++ map value_in rest) pushed
       ∙ append_assoc ts (map value_in one) (map value_in rest)
       ∙ ap (λ l. ts ++ l) (sym (map-append value_in one rest)

@@ -86,7 +86,8 @@ member_is side path v Forest.none beside inner false =
     leaf_is side path v (leaf_in beside) ∙ sym (ones_are (leaf_change side path v (leaf_in beside)))
 member_is side path v Forest.passed beside inner false = refl
 member_is side path v (Forest.vlans runs) beside inner false = inner
-member_is side path v (Forest.texts vs) beside inner false = sym (append-nil (texts_items side (path_text path) v vs beside))
+member_is side path v (Forest.texts vs) beside inner false =
+    sym (append-nil (texts_items side (path_text path) v vs beside))
 member_is side path v (Forest.tree a b c d) beside inner false = inner
 
 -- of a list that both write otherwise

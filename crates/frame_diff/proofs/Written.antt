@@ -272,7 +272,8 @@ joined_empty h ts us = ap is_empty (flat_map-append h ts us) ∙ empty_append (f
 
 parts_empty : {X : Type 0} (h : Told → List X) (ts us : List Told) → is_empty (flat_map h (ts ++ us)) ≡ true
     → (is_empty (flat_map h ts) ≡ true) × (is_empty (flat_map h us) ≡ true)
-parts_empty h ts us is = and_parts (is_empty (flat_map h ts)) (is_empty (flat_map h us)) (sym (joined_empty h ts us) ∙ is)
+parts_empty h ts us is =
+    and_parts (is_empty (flat_map h ts)) (is_empty (flat_map h us)) (sym (joined_empty h ts us) ∙ is)
 
 both_are_empty : {X : Type 0} (h : Told → List X) (ts us : List Told) → is_empty (flat_map h ts) ≡ true
     → is_empty (flat_map h us) ≡ true → is_empty (flat_map h (ts ++ us)) ≡ true
@@ -398,8 +399,8 @@ list_empty h side telling path s v i beside =
 old_member : (path : Path) (v : List Token) (i : Forest) (beside : Option Held)
     → (is_empty (flat_map told_items (told_by Moved path i (inside_in beside))) ≡ true
     → IsHeard (told_by Old path i (inside_in beside))) → (b : Bool)
-    → is_empty (flat_map told_items (member_by Moved path v (cond b Forest.none i) (told_by Moved path i) beside)) ≡ true
-    → IsHeard (member_by Old path v (cond b Forest.none i) (told_by Old path i) beside)
+    → is_empty (flat_map told_items (member_by Moved path v (cond b Forest.none i) (told_by Moved path i) beside))
+    ≡ true → IsHeard (member_by Old path v (cond b Forest.none i) (told_by Old path i) beside)
 old_member path v i beside inner true moved =
     alike_heard (ones Old path v (leaf_in beside)) (ones_alike (leaf_change Old path v (leaf_in beside)))
 old_member path v Forest.none beside inner false moved =
@@ -425,7 +426,8 @@ old_heard path (Forest.tree s v i rest) g h h_too moved =
     let at = path ++ s ∷ [] in
     let one = member_by Old at v (cut s beside i) (told_by Old at i) beside in
     let one_moved = member_by Moved at v (cut s beside i) (told_by Moved at i) beside in
-    let parts = parts_empty told_items (list_told Moved at s v i beside) (one_moved ++ told_by Moved path rest g) moved in
+    let rest_moved = told_by Moved path rest g in
+    let parts = parts_empty told_items (list_told Moved at s v i beside) (one_moved ++ rest_moved) moved in
     let both = parts_empty told_items one_moved (told_by Moved path rest g) parts.1 in
     heard_append (list_told Old at s v i beside) (one ++ told_by Old path rest g)
     (λ is. list_empty apart Old refl at s v i beside)
@@ -578,9 +580,10 @@ at_beside : (path : Path) (s : Step) (w : List Token) (j f all : Forest) → Old
 at_beside path s w j f all silent here None found = (refl, λ ws is. tt)
 at_beside path s w j f all silent here (Some own) found =
     let at = path ++ s ∷ [] in
-    let one : MemberIsSilent at s own (w, j) = silent_at path f all silent s own (w, j) found here in
-    (silent_inside at s own.0 own.1 (w, j) one,
-    λ ws is. new_same at s own.0 w own.1 ws (subst (λ k. MemberIsSilent at s own (w, k)) is one))
+    let one : MemberIsSilent at s own (w, j) = silent_at path f all silent s own (w, j) found here in (
+      silent_inside at s own.0 own.1 (w, j) one,
+      λ ws is. new_same at s own.0 w own.1 ws (subst (λ k. MemberIsSilent at s own (w, k)) is one),
+    )
 
 new_quiet : (path : Path) (g f all : Forest) → AreApart g → AreMade g → AreMade f → Has g all
     → OldIsSilent path f all → IsQuiet (told_by New path g f)
@@ -594,7 +597,8 @@ new_quiet path (Forest.tree s w j rest) f all apart made_is made_too has silent 
     let at = path ++ s ∷ [] in
     let beside = find s f in
     let one = member_by New at w (cut s beside j) (told_by New at j) beside in
-    let inside : OldIsSilent at (inside_in beside) j × ((ws : List (List Token)) → j ≡ Forest.texts ws → AreSame w beside) =
+    let inside : OldIsSilent at (inside_in beside) j
+    × ((ws : List (List Token)) → j ≡ Forest.texts ws → AreSame w beside) =
     at_beside path s w j f all silent (has s (w, j) (found_first s w j rest)) beside refl in
     quiet_append (list_told New at s w j beside) (one ++ told_by New path rest f)
     (λ is. list_empty told_items New refl at s w j beside)

@@ -80,8 +80,8 @@ is_path (s ∷ p) (t ∷ q) = is_step s t && is_path p q
 -- ** members
 
 -- members beside each other: the step to each, its value as it is shown, and those inside it; a value inside which
--- there are none is a leaf, unless it has some that are all passed over; or the runs of the VLANs of a port; or the values
--- of a list that are their own keys, which is a leaf too
+-- there are none is a leaf, unless it has some that are all passed over; or the runs of the VLANs of a port; or the
+-- values of a list that are their own keys, which is a leaf too
 pub data Forest : Type 0 where
   none : Forest
   passed : Forest

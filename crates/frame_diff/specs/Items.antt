@@ -62,7 +62,8 @@ change_item (Change.turned path was is) = turned_item (path_text path) was is
 
 -- ** as they are told member by member, behind the text of a path
 
--- a value is shown as the one beside it, or what turned is told of the old one, or lists in another order alone are told
+-- a value is shown as the one beside it, or what turned is told of the old one, or lists in another order alone are
+-- told
 abbrev pub is_leaf_untold : Side → List Token → Option (List Token) → Bool
 is_leaf_untold side v None = is_moved side
 is_leaf_untold Old v (Some w) = is_shown_same v w

@@ -72,8 +72,8 @@ is_empty (x ∷ xs) = false
 -- another order, nothing is told
 pub record WrittenIsTold : Type 0 where
   pub silent : (is_state : Bool) (cx other : Around) (old new : Parts)
-      → messages_told is_state cx other old new ≡ []
-      → flat_map told_items (messages_by is_state cx other old new) ≡ []
+      → messages_told is_state cx other old new ≡ [] → flat_map told_items
+      (messages_by is_state cx other old new) ≡ []
   pub moved : (is_state : Bool) (cx other : Around) (old new : Parts)
       → flat_map told_items (messages_by is_state cx other old new) ≡ []
       → flat_map told_items (messages_moved is_state cx other old new) ≡ []

@@ -1,7 +1,7 @@
 //! What a list of values tells beside another one, place by place.
 
-ghost use Rattle.std.specs.Prelude.{◌≡◌, ◌<◌, ◌+◌, ◌++◌, ◌^◌, ◌∷◌, [], ℕ, Bool, IfOk, IfSome, None, OnOk, Some, decimal};
-ghost use Rattle.std.specs.Prelude.{Option as Maybe, false, map, not, option_map, true};
+ghost use Rattle.std.specs.Prelude.{◌≡◌, ◌<◌, ◌+◌, ◌++◌, ◌^◌, ◌∷◌, [], ℕ, Bool, IfOk, IfSome, None, OnOk, Some};
+ghost use Rattle.std.specs.Prelude.{Option as Maybe, decimal, false, map, not, option_map, true};
 ghost use Rattle.nla_wire.specs.Items.{items};
 ghost use Rattle.link_info.specs.Tables.{frames_in};
 ghost use Rattle.shown.specs.Drafts.{with_members};
@@ -836,11 +836,7 @@ fn push_each<'a>(
 }
 
 /// The values of a list, none of which is an object or a list.
-fn each_of<'a>(
-    alloc: Global,
-    is_state: bool,
-    list: Attributes<'a>,
-) -> Result<Each<'a>, AllocError>
+fn each_of<'a>(alloc: Global, is_state: bool, list: Attributes<'a>) -> Result<Each<'a>, AllocError>
     requires key { is_own_key list.number list.list ≡ true }
     ensures whole { IfOk result (λ each. (nest : Showing) (inner : Holding)
         → are_plain (group_at nest inner is_state list.entry) ≡ true

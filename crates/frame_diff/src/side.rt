@@ -11,7 +11,7 @@ pub enum Side {
     Old,
     /// The new one: what it alone has came.
     New,
-    /// The old one, where nothing of that is told: lists of which both say the same in another order are told as a whole.
+    /// The old one, where nothing of that is told: lists of which both say the same in another order are told whole.
     Moved,
 }
 

@@ -54,7 +54,8 @@ fn moves(group: Group, entry: &[u8]) -> bool
 /// The attributes of an entry of which a state clears nothing, spelled one after the other.
 fn still_ones(alloc: Global, group: Group, entry: &[u8]) -> Result<Vec<u8>, AllocError>
     ensures { IfOk result (λ out. out.items
-        ≡ canons (λ f. f) (filter (stands_still (entry_list group)) (frames_in (items entry.now)))) }
+        ≡ canons (λ f. f)
+        (filter (stands_still (entry_list group)) (frames_in (items entry.now)))) }
 {
     let mut out = Vec::new(alloc);
     for item in NlasIterator::new(entry) {
@@ -112,17 +113,17 @@ pub(crate) fn settled_entries(
     ensures { IfOk result (λ out. map (λ (p : VecOf ℕ). p.items) out.items
         ≡ settled_in is_state group (frames_in (items bytes.now))) }
 {
-    let mut out = Vec::new(alloc);
+    let mut entries = Vec::new(alloc);
     for item in NlasIterator::new(bytes) {
         let Ok(frame) = item else {
             break;
         };
         if frame.kind() == 1 {
             let entry = settled_entry(alloc, is_state, group, frame.value())?;
-            out.push(entry)?;
+            entries.push(entry)?;
         }
     }
-    Ok(out)
+    Ok(entries)
 }
 
 /// Adds the change of a list that is shown as an object, and that one side alone has.

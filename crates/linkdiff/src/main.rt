@@ -40,7 +40,7 @@ does not have went.
 ";
 
 /// What `--version` writes.
-const VERSION: &str = "linkdiff 0.3.0\n";
+const VERSION: &str = "linkdiff 0.4.0\n";
 
 fn main(rt: HostRuntime) -> ExitCode {
     let words = match env::args(&rt) {

@@ -37,7 +37,7 @@ ok right before the digits is passed over.
 ";
 
 /// What `--version` writes.
-const VERSION: &str = "linkshow 0.3.0\n";
+const VERSION: &str = "linkshow 0.4.0\n";
 
 /// Where the kernel at hand says its release.
 const OSRELEASE: &str = "/proc/sys/kernel/osrelease";

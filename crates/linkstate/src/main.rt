@@ -32,7 +32,7 @@ the digits is passed over.
 ";
 
 /// What `--version` writes.
-const VERSION: &str = "linkstate 0.3.0\n";
+const VERSION: &str = "linkstate 0.4.0\n";
 
 fn main(rt: HostRuntime) -> ExitCode {
     let mut words = match env::args(&rt) {

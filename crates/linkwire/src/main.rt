@@ -30,7 +30,7 @@ No words stand in front of the digits.
 ";
 
 /// What `--version` writes.
-const VERSION: &str = "linkwire 0.3.0\n";
+const VERSION: &str = "linkwire 0.4.0\n";
 
 fn main(rt: HostRuntime) -> ExitCode {
     let Ok(words) = env::args(&rt) else {

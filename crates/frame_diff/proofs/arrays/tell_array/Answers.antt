@@ -62,7 +62,8 @@ returns g c =
     let listed : is_listed row.2 ≡ true = cc (c.is_listed.ensures, c.if-not-is_listed.false) in
     let some : has_values own.around.now own.list fs row.0 ≡ true =
     cc (c.has_values.ensures, c.if-not-has_values.false) in
-    let held = group_by (is_own_key (Some row.0) own.list) (values_with r own.list row.0 fs) (inside_with r own.list row.0 fs) in
+    let held =
+    group_by (is_own_key (Some row.0) own.list) (values_with r own.list row.0 fs) (inside_with r own.list row.0 fs) in
     let path : c.as_str.result.now ≡ joined text row.1.now = search rules in
     let picked : group_held nest inner is_state c.of_number.result ≡ held =
     ap (group_held nest inner is_state) c.of_number.ensures in

@@ -19,7 +19,8 @@ loop-item-preserved c nest inner =
 pub returns-clause-whole : goal.returns-clause-whole
 returns-clause-whole c nest inner plain =
     c.flat_value.ensures (nest c.args.list.around.now) c.args.list.around.now
-    ∙ shown_flat nest inner c.args.is_state c.args.list (key_valued c.args.list.number c.args.list.list c.requires.key) plain
+    ∙ shown_flat nest inner c.args.is_state c.args.list
+    (key_valued c.args.list.number c.args.list.list c.requires.key) plain
 
 pub returns-clause-values : goal.returns-clause-values
 returns-clause-values c nest inner =

@@ -10,4 +10,5 @@ returns-in-Some c nest inner is_state some =
 pub returns-in_ok-runs-in-None : goal.returns-in_ok-runs-in-None
 returns-in_ok-runs-in-None c nest inner is_state some =
     place_tight nest inner is_state c.args.list (sym c.key_in.ensures ∙ c.in-None.is)
-    ∙ ap is_some (sym c.in_ok-runs-in-None.ensures.runs) ∙ mapped_some _ c.in_ok-runs-in-None.runs ∙ sym c.is_some.ensures
+    ∙ ap is_some (sym c.in_ok-runs-in-None.ensures.runs) ∙ mapped_some _ c.in_ok-runs-in-None.runs
+    ∙ sym c.is_some.ensures

@@ -7,5 +7,5 @@ use Rattle.frame_diff.proofs.wholes.settled_entries.Given as goal
 
 abbrev pub invariant-loop-item : goal.invariant-loop-item
 invariant-loop-item l =
-    map (λ (p : Vec ℕ). p.items) l.out.items ++ settled_in l.is_state l.group (frames_in l.item-iterator)
+    map (λ (p : Vec ℕ). p.items) l.entries.items ++ settled_in l.is_state l.group (frames_in l.item-iterator)
     ≡ settled_in l.is_state l.group (frames_in (items l.bytes))
