@@ -2,6 +2,7 @@
 //! written again, and the frames of that are shown. It is what linkshow writes of those that are messages, and of
 //! others what can be read of them. A word `before` or `since` says which order the counters of IPv6 have, and a word
 //! `lenient` that attributes which are refused do not hide the others.
+// Tests: `stdin` and `stdout` beside `src`. Edits: edits/beside.txt.
 #![tactic(auto)]
 
 ghost use Rattle.std.specs.Prelude.{OnOk};

@@ -1,4 +1,5 @@
 //! What the test crates share: each call tells whether something holds, so that the test itself can end.
+// Tests: the test crates, which call it. Edits: edits/expected.txt.
 #![tactic(auto)]
 
 mod bytes;

@@ -1,4 +1,5 @@
 //! What differs between two link messages, attribute by attribute: their frames, by the rows of `frame_shown`.
+// Tests: the crate `diff_checks`, and tests/linkdiff. Edits: edits/frame_diff.txt.
 #![tactic(auto)]
 
 pub mod again;

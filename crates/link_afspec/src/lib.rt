@@ -1,4 +1,5 @@
 //! Settings of links by family: members of IFLA_AF_SPEC and of IFLA_PROTINFO.
+// Tests: the crate `place_tests`. Edits: edits/link_afspec.txt.
 #![tactic(auto)]
 
 pub mod bridge;

@@ -2,6 +2,7 @@
 //!
 //! `specs/Headline.antt` states it, over the tables of `specs/Kernel.antt`, which have the kernel's own numbers. Its
 //! proof cites the public contracts of `link_msg` and no other code. `docs/HEADLINE.md` leads through it.
+// Tests: none, since it has laws alone. Edits: crates/link_headline/must-fail.
 #![tactic(auto)]
 
 ghost use Rattle.link_headline.specs.Headline.{Headline};

@@ -1,4 +1,5 @@
 //! What the attributes of a kind of link say: tables of rows, one reader and one writer that go by any table.
+// Tests: the crate `info_tests`. Edits: edits/link_info.txt.
 #![tactic(auto)]
 
 pub mod field;

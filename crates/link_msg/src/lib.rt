@@ -1,6 +1,7 @@
 //! Link messages of route netlink (rtnetlink(7)): read, written, and brought into one canonical encoding.
 //!
 //! It gives the public names of the crates below it again, so that a user names this crate alone.
+// Tests: the crates `message_tests` and `attribute_tests`. Edits: edits/link_msg.txt, tests/edits/link_msg.txt.
 #![tactic(auto)]
 
 pub mod attribute;

@@ -1,5 +1,6 @@
 //! Inner lists of link messages: names, devlink ports, clock pins, reasons, express data paths, link information; and
 //! wireless events.
+// Tests: the crate `place_tests`. Edits: edits/link_nest.txt.
 #![tactic(auto)]
 
 mod attached;

@@ -1,4 +1,5 @@
 //! Virtual functions and ports of link messages: statistics, vlans, and the lists of functions and of ports.
+// Tests: the crate `place_tests`. Edits: edits/link_vf.txt.
 #![tactic(auto)]
 
 pub mod entry;

@@ -1,7 +1,6 @@
 //! Lists of VLANs and tunnels of bridge ports (`IFLA_BRIDGE_VLAN_INFO` and `IFLA_BRIDGE_VLAN_TUNNEL_INFO` in
 //! `IFLA_AF_SPEC`, linux/if_bridge.h): the VLANs that a list has, and where two lists say otherwise.
-//!
-//! The tests are those of `diff_checks`, the edits stand in `edits/link_vlans.txt`.
+// Tests: the crate `diff_checks`, and tests/linkdiff. Edits: edits/link_vlans.txt.
 #![tactic(auto)]
 
 mod pieces;

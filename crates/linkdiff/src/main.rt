@@ -1,4 +1,5 @@
 //! Tells of each interface that came, went or changed in lines of hexadecimal link messages.
+// Tests: `stdin` and `stdout` beside `src`. Edits: those of the crates that it calls.
 #![tactic(auto)]
 
 mod arguments;

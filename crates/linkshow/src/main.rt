@@ -1,4 +1,5 @@
 //! Shows lines of hexadecimal link messages as lines of JSON.
+// Tests: `stdin` and `stdout` beside `src`. Edits: edits/linkshow.txt.
 #![tactic(auto)]
 
 mod arguments;

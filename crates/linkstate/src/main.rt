@@ -1,4 +1,5 @@
 //! Answers lines of hexadecimal link messages by their state encodings.
+// Tests: `stdin` and `stdout` beside `src`. Edits: edits/linkstate.txt.
 #![tactic(auto)]
 
 mod arguments;

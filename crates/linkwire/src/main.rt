@@ -1,4 +1,5 @@
 //! Answers lines of hexadecimal link messages by their canonical encodings.
+// Tests: `stdin` and `stdout` beside `src`. Edits: edits/linkwire.txt.
 #![tactic(auto)]
 
 mod arguments;

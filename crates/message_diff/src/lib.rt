@@ -1,5 +1,6 @@
 //! What differs between two link messages, by the members that linkshow shows of them, and what lines of messages tell
 //! of interfaces.
+// Tests: the crate `diff_checks`, and tests/linkdiff. Edits: edits/message_diff.txt.
 #![tactic(auto)]
 
 mod alone;

@@ -1,4 +1,5 @@
 //! What is shown of a link message: one JSON object for the header and each attribute, and for a fault.
+// Tests: the lines of `linkshow`, and `beside`. Edits: edits/message_shown.txt.
 #![tactic(auto)]
 
 pub mod answers;

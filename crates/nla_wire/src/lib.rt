@@ -1,4 +1,5 @@
 //! Attribute frames of netlink messages, read and written.
+// Tests: the crate `value_tests`. Edits: edits/nla_wire.txt.
 #![tactic(auto)]
 
 pub mod buffer;

@@ -1,4 +1,5 @@
 //! Values shown as JSON: objects that are written member by member, each on one line.
+// Tests: the lines of `linkshow`, and `beside`. Edits: edits/shown.txt.
 #![tactic(auto)]
 
 mod address;

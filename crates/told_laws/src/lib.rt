@@ -1,6 +1,7 @@
 //! Laws of what linkdiff tells, over whole runs.
 //!
 //! `specs/` states them over the definitions that the contract of a run names, in `message_diff`.
+// Tests: none, since it has laws alone. Edits: edits/told_laws.txt.
 #![tactic(auto)]
 
 ghost use Rattle.told_laws.specs.Fewer.{FewerLines};
