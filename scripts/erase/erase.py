@@ -126,7 +126,7 @@ def erase(path, text, crate, mode):
         imported += [f"alloc::{path}" for name, path in paths.OF_ALLOC.items() if re.search(rf"\b{name}\b", text)]
     if not mode.is_tests:
         rules.apply(s, "older")
-    text = s.rust()
+    text = re.sub(r"(?m)^// Tests: .*\n(?:// .*\n)*", "", s.rust())       # of the repository, and not of what is made
     # behind the comments and attributes of the whole file
     front = re.match(r"(?:(?://!|#!\[).*\n)*\n?", text).end()
     gap = "\n" * (bool(imported) and not text.startswith("use ", front))
