@@ -83,7 +83,7 @@ abbrev pub LeadsAt : Compared → Path → Shot → List Turn → Type 0
 LeadsAt by q shot ts = (last : Shot) → IsAgain by (last_shot shot ts) last
     → Lead q (text_at by shot q) (text_at by last q) (told_by by ts)
 
--- at each path but `state`, at which a line tells both encodings where no leaf differs
+-- at each path but `state`, at which a line may tell both encodings where no leaf differs
 abbrev pub AllLead : Compared → Shot → List Turn → Type 0
 AllLead by shot ts = (q : Path) → is_path (Step.name (codes "state") ∷ []) q ≡ false → LeadsAt by q shot ts
 
