@@ -9,12 +9,18 @@ use Rattle.shown.specs.Drafts.{Members, object_of}
 use Rattle.shown.specs.Values.{BitNames, flags_of, numbered}
 use Rattle.frame_diff.specs.Forests.{Forest, Step, field_step, forest}
 use Rattle.frame_diff.specs.declared.labels.Label.{Label}
-use Rattle.frame_diff.specs.declared.leaf.TheConstants.{VLAN_FLAGS}
 
 -- ** as they are shown
 
+-- the flags, BRIDGE_VLAN_INFO_* in linux/if_bridge.h, without those of the ends of a range
 unfoldable pub vlan_flag_names : BitNames
-vlan_flag_names = map (λ row. (row.0, row.1.now)) VLAN_FLAGS
+vlan_flag_names =
+    (1, codes "master") ∷
+    (2, codes "pvid") ∷
+    (4, codes "untagged") ∷
+    (32, codes "brentry") ∷
+    (64, codes "only-opts") ∷
+    []
 
 abbrev pub flags_shown : ℕ → List Token
 flags_shown flags = flags_of vlan_flag_names flags
