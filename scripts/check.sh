@@ -80,6 +80,7 @@ python3 scripts/test/lines.py
 python3 scripts/release/version.py
 python3 scripts/test/edits.py --fit
 python3 scripts/test/rows.py
+python3 scripts/test/named.py
 scripts/make/sums.sh check
 python3 scripts/erase/test_erase.py
 python3 scripts/erase/erase.py check rust

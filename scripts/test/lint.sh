@@ -22,6 +22,7 @@ looks lines true python3 scripts/test/lines.py
 looks version true python3 scripts/release/version.py
 looks 'edits that fit' true python3 scripts/test/edits.py --fit
 looks 'rows beside' true python3 scripts/test/rows.py
+looks 'functions that are named' true python3 scripts/test/named.py
 looks shellcheck 'shellcheck --version' shellcheck "${shell[@]}"
 pyflakes=$(command -v pyflakes3 || command -v pyflakes || true)
 looks pyflakes "test -n $pyflakes" "$pyflakes" "${python[@]}"

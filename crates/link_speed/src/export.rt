@@ -25,15 +25,6 @@ fn emitted(message: &LinkMessage, out: &mut [u8]) -> isize {
     len as isize
 }
 
-/// Reads a message and writes it again: the length of its text, or -1.
-#[unsafe(no_mangle)]
-pub extern "C" fn bench_round(alloc: Global, bytes: &[u8], out: &mut [u8]) -> isize {
-    match LinkMessage::parse(alloc, bytes) {
-        Ok(message) => emitted(&message, out),
-        Err(_) => -1,
-    }
-}
-
 /// Reads a message once, and writes it so many times: the length of its text, or -1.
 #[unsafe(no_mangle)]
 pub extern "C" fn bench_emits(alloc: Global, bytes: &[u8], out: &mut [u8], times: usize) -> isize {
