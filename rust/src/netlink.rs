@@ -1,4 +1,5 @@
-//! Link messages in netlink's envelope, for any release of netlink-packet-core, of which the crate has none.
+//! Link messages in netlink's envelope, for the release of netlink-packet-core that a program has: the crate depends on
+//! none. Release 0.4 is tried.
 
 /// Makes an enum of messages of links that `NetlinkMessage` of this netlink-packet-core can hold: with
 /// `NetlinkSerializable` and `NetlinkDeserializable`, so that netlink-sys and netlink-proto send and receive it.

@@ -120,7 +120,7 @@ def erase(path, text, crate, mode):
         rules.apply(s, "never")
         owed.check(s, found, mode.public)
         words.docs(s, lambda name, call: owed.told(
-            call, found.get(name, []), mode.memory_names, mode.examples.pop(name, None)), mode.public)
+            call, found.get(name, []), mode.examples.pop(name, None)), mode.public)
         surface.must_use(s, mode.public)
         text = s.plain(s.text)
         imported += [f"alloc::{path}" for name, path in paths.OF_ALLOC.items() if re.search(rf"\b{name}\b", text)]

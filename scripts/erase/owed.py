@@ -37,11 +37,11 @@ def check(s, found, public):
     s.put(CALL + r" /[^{;]*\{./", put)
 
 
-def told(call, found, names, example):
+def told(call, found, example):
     """Paragraphs for the docs of a call: of what a Result tells, where the call panics, and of its example."""
     wheres = list(dict.fromkeys(where for where, _ in found))
     panics = [["# Panics"], ["Where " + ", or ".join(wheres) + "."]] if wheres else []
-    is_result = re.match(r"->\s*Result\b", call["to"]) or call["name"] in names
+    is_result = re.match(r"->\s*Result\b", call["to"])
     return [[]] * bool(is_result) + panics + ([example] if example else [])
 
 

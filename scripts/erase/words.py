@@ -15,6 +15,7 @@ DOCS = "|".join(rf"[{marks}](?:[^\S\n]*\n[^\S\n]*[{marks}])*" for marks in map(l
 # The lines of docs, and the call that stands behind them and its attributes.
 BLOCK = rf"/(?P<docs>{DOCS})(?=\s*(?:#\[(?P<q>{PAIR}).*?\](?P=q)\s*)*{CALL[1:-1]}|)/"
 
+REFUSES = re.compile(r"(?<=\. )Refuses (?:[^.]|\.(?! [A-Z]|$))*\.")
 EXAMPLE = re.compile(r"^## (\S+)\n\n(?:Besides: ([^`]+)\.\n\n)?```rust\n(.*?)\n```$", re.M | re.S)
 
 
@@ -92,10 +93,24 @@ def written(s, found, paragraphs_):
     return f"\n{indent}".join(f"{mark} {line}".rstrip() for line in lines)
 
 
+def refusal_last(found):
+    """A sentence that says what is refused, within a paragraph, is a paragraph behind all."""
+    if any(one[0].startswith("Refuses") for one in found):
+        return found
+    for n, one in enumerate(found):
+        text = " ".join(line.strip() for line in one)
+        sentence = REFUSES.search(text)
+        if sentence and not one[0].startswith(("```", "- ", "|")):
+            rest = text[:sentence.start()] + text[sentence.end():].removeprefix(" ")
+            return found[:n] + [[rest.strip()]] + found[n + 1:] + [[sentence[0].strip()]]
+    return found
+
+
 def with_told(found, told):
     """The paragraph that says what is refused goes under its heading, a link to an example above the headings; what
     else is told comes after all."""
     if [] in told:                                      # the mark of a call that returns a Result
+        found = refusal_last(found)
         at = next((n for n, one in enumerate(found) if one[0].startswith("Refuses")), None)
         refused = ["The first fault: its cause, and where it is."] if at is None else found[at]
         at = len(found) if at is None else at
