@@ -15,10 +15,11 @@ ghost use Rattle.frame_diff.specs.Members.{arrays_of};
 ghost use Rattle.frame_diff.specs.Shown.{AreListsApart};
 ghost use Rattle.frame_diff.specs.Walked.{AreAlike, HasNames, Holding, Showing, reading_at};
 
-use crate::groups::{Array, tell_values};
+use crate::groups::tell_values;
 use crate::leaf::Texts;
 use crate::named::is_each;
 use crate::path::join;
+use crate::values::Array;
 use crate::walk::{Attributes, Pass, Walk};
 use frame_shown::form::{List, data_rows, is_listed, row_in};
 use link_info::Row;

@@ -15,12 +15,13 @@ ghost use Rattle.frame_diff.specs.Walked.{AreBeside, HasNames, Holding, Showing,
 ghost use Rattle.frame_diff.specs.declared.labels.Label.{Label as Mark};
 ghost use Rattle.frame_diff.specs.declared.walk.Attributes.{Attributes as Lists};
 
-use crate::groups::{Values, pick};
 use crate::keys::{Key, is_key, key_in, number_of};
 use crate::labels::{Counts, Label, Places, count, is_above};
 use crate::leaf::Texts;
 use crate::lists::none_of;
 use crate::path::join_label;
+use crate::picked::pick;
+use crate::values::Values;
 use crate::walk::{Attribute, Attributes, Pass, Walk};
 use nla_wire::NlasIterator;
 use shown::Page;
