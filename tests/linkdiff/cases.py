@@ -650,6 +650,15 @@ def orders_hold(program):
     holds("what stands before a fault by kernel=", [str(found[0] == found[1])], ["False"])
 
 
+def port_holds(program):
+    """The VLANs of a bridge's port, as a kernel announced them, are told as one says what was done."""
+    with open(TOP + "/tests/linkdiff/bridge_port.txt", encoding="ascii") as it:
+        rows = [row for row in it.read().splitlines() if not row.startswith("#")]
+    told_of = [json.loads(line) for line in run(program, [], rows[0::2])]
+    holds("VLANs of a kernel's port", [str(it.get("changes", it["change"])) for it in told_of],
+          [str(json.loads(it)) for it in rows[1::2]])
+
+
 def hosts_go(program):
     """A hundred thousand hosts that came and went leave so little that ten megabytes are enough."""
     line = link(NAME)
@@ -668,9 +677,10 @@ def main(program):
     wholes_hold(program)
     files_hold(program)
     orders_hold(program)
+    port_holds(program)
     hosts_go(program)
     statuses_hold(program)
-    count = len(STREAMS) + len(WHOLES) + len(ORDERS) + 4
+    count = len(STREAMS) + len(WHOLES) + len(ORDERS) + 5
     print(f"linkdiff cases: {count} of {count}")
 
 
