@@ -18,8 +18,8 @@ ghost use Rattle.frame_diff.specs.Walked.{AreAlike, HasNames, Holding, Showing, 
 use crate::groups::tell_values;
 use crate::leaf::Texts;
 use crate::named::is_each;
+use crate::one_value::Array;
 use crate::path::join;
-use crate::values::Array;
 use crate::walk::{Attributes, Pass, Walk};
 use frame_shown::form::{List, data_rows, is_listed, row_in};
 use link_info::Row;

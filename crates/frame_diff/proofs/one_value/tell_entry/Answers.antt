@@ -8,7 +8,7 @@ use Rattle.frame_diff.specs.Walked.{held_items}
 use Rattle.frame_diff.proofs.Alike.{entry_silent}
 use Rattle.frame_diff.proofs.Classes.{above_runless}
 use Rattle.frame_diff.proofs.Inside.{held_leaf, same_written}
-use Rattle.frame_diff.proofs.values.tell_entry.Goals as goal
+use Rattle.frame_diff.proofs.one_value.tell_entry.Goals as goal
 
 pub returns-then-is_same_entry : goal.returns-then-is_same_entry
 returns-then-is_same_entry g c =

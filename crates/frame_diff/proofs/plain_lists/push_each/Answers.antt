@@ -1,5 +1,5 @@
 use Rattle.frame_diff.proofs.Grouped.{none_pushed, one_pushed}
-use Rattle.frame_diff.proofs.plain.push_each.Goals as goal
+use Rattle.frame_diff.proofs.plain_lists.push_each.Goals as goal
 
 pub returns : goal.returns
 returns c nest inner is_state cx around =

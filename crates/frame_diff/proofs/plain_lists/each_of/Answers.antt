@@ -2,8 +2,8 @@ use Rattle.std.proofs.Common.{◌≡◌, [], ◌∷◌, ◌∙◌, Ok, ap, map}
 use Rattle.link_info.specs.Tables.{frames_in}
 use Rattle.frame_diff.specs.Values.{value_shown}
 use Rattle.frame_diff.proofs.Grouped.{each_further, each_over, key_entries, key_valued, list_entries, shown_flat}
-use Rattle.frame_diff.proofs.plain.each_of.Goals.{in-None, in-Some+in_default}
-use Rattle.frame_diff.proofs.plain.each_of.Goals as goal
+use Rattle.frame_diff.proofs.plain_lists.each_of.Goals.{in-None, in-Some+in_default}
+use Rattle.frame_diff.proofs.plain_lists.each_of.Goals as goal
 
 pub loop-item-preserved : goal.loop-item-preserved
 loop-item-preserved c nest inner =

@@ -4,7 +4,7 @@ use Rattle.frame_diff.specs.Groups.{group_held}
 use Rattle.frame_diff.specs.Values.{value_shown}
 use Rattle.frame_diff.specs.declared.side.Side.TheVariants.{Old}
 use Rattle.frame_diff.proofs.Grouped.{leaf_written, whole_shown_is}
-use Rattle.frame_diff.proofs.values.tell_list.Goals as goal
+use Rattle.frame_diff.proofs.one_value.tell_list.Goals as goal
 
 pub returns : goal.returns
 returns g c =

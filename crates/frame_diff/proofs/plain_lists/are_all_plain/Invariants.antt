@@ -3,7 +3,7 @@ use Rattle.link_info.specs.Tables.{frames_in}
 use Rattle.frame_diff.specs.Groups.{group_at, picked_values}
 use Rattle.frame_diff.specs.Members.{are_plain}
 use Rattle.frame_diff.specs.Walked.{reading_at}
-use Rattle.frame_diff.proofs.plain.are_all_plain.Given as goal
+use Rattle.frame_diff.proofs.plain_lists.are_all_plain.Given as goal
 
 abbrev pub invariant-loop-item : goal.invariant-loop-item
 invariant-loop-item g l =

@@ -5,7 +5,7 @@ use Rattle.frame_diff.specs.Groups.{group_held}
 use Rattle.frame_diff.specs.Values.{entries_shown}
 use Rattle.frame_diff.specs.declared.side.Side.TheVariants.{Old}
 use Rattle.frame_diff.proofs.Grouped.{entries_are, leaf_written}
-use Rattle.frame_diff.proofs.values.tell_entries.Goals as goal
+use Rattle.frame_diff.proofs.one_value.tell_entries.Goals as goal
 
 pub returns : goal.returns
 returns g c =

@@ -3,7 +3,7 @@ use Rattle.std.specs.Prelude.{not}
 use Rattle.frame_diff.specs.Groups.{group_at}
 use Rattle.frame_diff.specs.Members.{are_plain}
 use Rattle.frame_diff.proofs.Grouped.{not_plain, plain_next}
-use Rattle.frame_diff.proofs.plain.are_all_plain.Goals as goal
+use Rattle.frame_diff.proofs.plain_lists.are_all_plain.Goals as goal
 
 pub returns-then-is_deep : goal.returns-then-is_deep
 returns-then-is_deep g c =

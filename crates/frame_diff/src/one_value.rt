@@ -20,7 +20,7 @@ ghost use Rattle.frame_shown.specs.declared.form.List.TheVariants as Shapes;
 use crate::leaf::{Texts, Value, is_same, put_alone, tell_leaf};
 use crate::lists::{is_without, tell_object};
 use crate::picked::{bare_beside, entry_beside, entry_list, is_entries};
-use crate::plain::flat_value;
+use crate::plain_lists::flat_value;
 use crate::same::is_same_list;
 use crate::side::Side;
 use crate::value::tell_value;

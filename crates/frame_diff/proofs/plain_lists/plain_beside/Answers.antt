@@ -4,7 +4,7 @@ use Rattle.frame_diff.specs.Differences.{leaf_in}
 use Rattle.frame_diff.specs.Groups.{group_held}
 use Rattle.frame_diff.proofs.Grouped.{group_plain}
 use Rattle.frame_diff.proofs.Inside.{leaf_here, leaf_not}
-use Rattle.frame_diff.proofs.plain.plain_beside.Goals as goal
+use Rattle.frame_diff.proofs.plain_lists.plain_beside.Goals as goal
 
 pub returns-then-are_plain-clause-value : goal.returns-then-are_plain-clause-value
 returns-then-are_plain-clause-value g c =

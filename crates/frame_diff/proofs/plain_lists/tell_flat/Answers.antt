@@ -7,7 +7,7 @@ use Rattle.frame_diff.specs.Differences.{leaf_in}
 use Rattle.frame_diff.specs.Groups.{group_held}
 use Rattle.frame_diff.specs.Items.{leaf_items}
 use Rattle.frame_diff.proofs.Grouped.{flat_none, flat_some}
-use Rattle.frame_diff.proofs.plain.tell_flat.Goals as goal
+use Rattle.frame_diff.proofs.plain_lists.tell_flat.Goals as goal
 
 pub returns-in-Some : goal.returns-in-Some
 returns-in-Some g c =

@@ -1,6 +1,6 @@
 use Rattle.std.proofs.Common.{subst, sym}
 use Rattle.frame_diff.specs.Walked.{HasNames}
-use Rattle.frame_diff.proofs.values.tell_picked.Goals as goal
+use Rattle.frame_diff.proofs.one_value.tell_picked.Goals as goal
 
 pub tell_entry-requires-clause-alike : goal.tell_entry-requires-clause-alike
 tell_entry-requires-clause-alike g c h =

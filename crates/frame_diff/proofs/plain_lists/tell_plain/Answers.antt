@@ -7,7 +7,7 @@ use Rattle.frame_diff.specs.Items.{leaf_items}
 use Rattle.frame_diff.specs.Walked.{held_items}
 use Rattle.frame_diff.proofs.Grouped.{flat_told}
 use Rattle.frame_diff.proofs.Inside.{same_written}
-use Rattle.frame_diff.proofs.plain.tell_plain.Goals as goal
+use Rattle.frame_diff.proofs.plain_lists.tell_plain.Goals as goal
 
 pub returns : goal.returns
 returns g c =

@@ -8,7 +8,7 @@ use Rattle.frame_diff.specs.Members.{value_in}
 use Rattle.frame_diff.specs.Walked.{held_items}
 use Rattle.frame_diff.proofs.Grouped.{alone_written, beside_written, keys_alone, none_leaf, same_beside, subst_some}
 use Rattle.frame_diff.proofs.Inside.{same_written}
-use Rattle.frame_diff.proofs.plain.tell_own_keys.Goals as goal
+use Rattle.frame_diff.proofs.plain_lists.tell_own_keys.Goals as goal
 
 pub returns-in-Some : goal.returns-in-Some
 returns-in-Some g c =

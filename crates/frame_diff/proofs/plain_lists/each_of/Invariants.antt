@@ -4,7 +4,7 @@ use Rattle.frame_diff.specs.Groups.{group_at, picked_values}
 use Rattle.frame_diff.specs.Members.{value_in}
 use Rattle.frame_diff.specs.Values.{value_shown}
 use Rattle.frame_diff.specs.Walked.{Holding, Showing, reading_at}
-use Rattle.frame_diff.proofs.plain.each_of.Given as goal
+use Rattle.frame_diff.proofs.plain_lists.each_of.Given as goal
 
 abbrev pub invariant-loop-item : goal.invariant-loop-item
 invariant-loop-item l = (nest : Showing) (inner : Holding)

@@ -10,7 +10,7 @@ use Rattle.frame_diff.specs.Values.{value_shown}
 use Rattle.frame_diff.specs.Walked.{held_items}
 use Rattle.frame_diff.proofs.Grouped.{both_written, key_valued, keys_both, keys_flat, leaf_written, shown_flat}
 use Rattle.frame_diff.proofs.Inside.{same_written}
-use Rattle.frame_diff.proofs.plain.tell_keys.Goals as goal
+use Rattle.frame_diff.proofs.plain_lists.tell_keys.Goals as goal
 
 pub returns-then-is_own_key : goal.returns-then-is_own_key
 returns-then-is_own_key g c =
