@@ -1,13 +1,8 @@
 #!/usr/bin/env python3
-"""Fills in the values over borrowed bytes of crates/link_view, of the rows of `LinkAttribute`, of those of the enums of
-inner lists, and of the lines of their tables. A variant, the arm that reads it and the line that says what it stands
-for are made of one row, and the proof refuses a row that does not fit the table. What else is written of an enum of an
-inner list is made of what stands there of the first one, with other names.
-
-    python3 scripts/erase/borrowed.py       fills in `borrowed`, `nest`, `afspec` and `vf` of crates/link_view
-
-`erase.py check` says whether what stands there is what this would make, but for its layout.
-"""
+"""Fills in the values over borrowed bytes of crates/link_view, `borrowed`, `nest`, `afspec` and `vf`, of the rows of
+`LinkAttribute`, of those of the enums of inner lists, and of the lines of their tables. What else is written of an enum
+of an inner list is made of what stands there of the first one, with other names. The proof refuses a row that does not
+fit its table."""
 import functools
 import re
 

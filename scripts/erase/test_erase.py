@@ -1,8 +1,5 @@
 #!/usr/bin/env python3
-"""Makes of each form in forms.txt what stands there: of what is refused it has to say which form, with file and line.
-
-    python3 scripts/erase/test_erase.py
-"""
+"""Makes of each form in forms.txt what stands there: of what is refused it has to say which form, and where."""
 import re
 import sys
 from collections import Counter

@@ -1,16 +1,7 @@
 """Proves and builds the program or static library in the current folder for each processor of targets.txt, and writes
 the assembly text that the compiler makes of it, as FOLDER/PROCESSOR/NAME.s: text.py FOLDER [JOBS]. What it built for
-x86-64 stays as out/NAME.o, and of a library as out/libNAME.a. JOBS is in how many processes it proves, which the
-toolchain else chooses: one takes the least of the processors, and where these have other work the least time too.
-With --by-rattle in the place of FOLDER it has the toolchain's own compiler make the static library, for x86-64, as
-out/libNAME.by-rattle.a: the gate makes programs a second time, and no library.
-
-It begins with what was kept here, as `rt check` does, and if the toolchain shares kept work between checkouts, with
-what was kept there. It stands over the libraries that the gate left; where one lacks it takes them as `rt lib` built
-them of the same files, if it finds all. No command of the toolchain does this: `rt ci` proves a static library and does
-not build it, and leaves the libraries below without the stamp by which `rt lib` knows them; and nothing writes the
-text.
-"""
+x86-64 stays as out/NAME.o, and of a library as out/libNAME.a. JOBS is in how many processes it proves. With
+--by-rattle in the place of FOLDER the toolchain's own compiler makes the library, as out/libNAME.by-rattle.a."""
 
 import importlib.machinery
 import importlib.util

@@ -1,8 +1,7 @@
 """The lines that costs.py counts over: `python3 scripts/measure/cost_lines.py WORKLOAD` writes those of a workload.
 
 They are made of the stored messages in bench/messages.txt, and of messages that another may send to make a program
-slow. Nothing is left to chance, so that they are the same each time.
-"""
+slow. Nothing is left to chance, so that they are the same each time."""
 
 import os
 import struct

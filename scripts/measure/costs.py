@@ -2,22 +2,11 @@
 """Counts what the programs, the calls of the library for C and of the crate take for a line, and compares the numbers
 with those of tests/costs.txt.
 
-    python3 scripts/measure/costs.py [ROW..]         compares: more than two in a thousand above fails, and as much
-                                                     below
+    python3 scripts/measure/costs.py [ROW..]         compares: more than two in a thousand above fails, or below
     python3 scripts/measure/costs.py --make [ROW..]  prints the rows as they are
 
 A ROW is WHAT/WORKLOAD, as linkwire/dumps; with none all are counted. --texts FOLDER counts over other texts than those
-in dist/x86_64, and --rows FILE compares with other rows. JOBS in the environment is how many runs go side by side.
-
-It assembles the texts in a folder of its own, and reads nothing of out/, so that other scripts may build there. Where
-valgrind is not installed, or the compiler is not for x86-64, it says 'skipped'.
-
-Of the instructions those count that stand in the text, by callgrind: none of the C library, of the loader, of the
-program's start or of dist/*.c. So they are the same in each run, in any folder and environment, with any C library and
-any C compiler. What the C library copies, clears or compares is in the steps. The bytes that it asks of the system are
-glibc's, and instructions of the crate and of linkdump are those of one compiler: the head of the rows names which, and
-with another that number is passed over, which the last line says.
-"""
+in dist/x86_64, and --rows FILE compares with other rows. JOBS in the environment is how many runs go side by side."""
 
 import argparse
 import concurrent.futures

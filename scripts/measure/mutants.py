@@ -3,13 +3,8 @@
 
     mutants.py NAME [--count N] [--seed N] [--jobs N] [--least PERCENT] [--list]
 
-NAME is a program, or link_c for the library's calls. A conditional jump or move is turned round or moved by one, or a
-number is changed by one, in the file that is built of the text. A copy of the text in which each such place leaves a
-mark says first which runs come to it: a mutant runs those alone. It is told where an answer differs, or the program
-fails, or takes eight times as much of the processor's time. One that no run can tell is alike: tests/second/alike.txt
-has patterns of those, with reasons. With --least it fails where fewer than so many of a hundred are told, of those that
-are executed and not alike; --list prints what becomes of each. edits/mutants.md has scores, and what else is kept. It
-uses what `make build` leaves in out/."""
+NAME is a program, or link_c for the library's calls. With --least it fails where fewer than so many of a hundred are
+told, of those that are executed and not alike; --list prints what becomes of each."""
 import argparse
 import collections
 import functools

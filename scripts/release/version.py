@@ -1,13 +1,8 @@
 #!/usr/bin/env python3
 """Compares each place that has a version, or the number of a form, with include/linkwire.h, which says what they are,
-and each that names the toolchain with dist/SUMS.
+and each that names the toolchain with dist/SUMS. The places are those of versions.txt.
 
-    python3 scripts/release/version.py
-
-The places are those of versions.txt. One that has another version, or none, is printed as 'FILE: CONSTANT is FOUND, not
-WANTED', and the exit status is then 1. What is made of the header, as linkwire.pc, has no number of its own, and is not
-looked at.
-"""
+    python3 scripts/release/version.py"""
 
 import fnmatch
 import os

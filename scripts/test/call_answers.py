@@ -1,13 +1,8 @@
 #!/usr/bin/env python3
 """Compares what linkwire_show answers with what linkshow does, and what linkwire_diff tells with what linkdiff does,
-byte for byte.
+byte for byte. By ARCHIVE tests/c/shown.c is built.
 
-    python3 scripts/test/call_answers.py ARCHIVE LINKSHOW LINKDIFF
-
-The messages are the lines of FILES, with words in front of them or none. Each is shown in each order of counters, as it
-is and damaged, strictly and leniently; and compared with the next one and with a damaged one, as states and as they
-are, strictly and leniently. By ARCHIVE tests/c/shown.c is built. The last line is 'call_answers: ok'.
-"""
+    python3 scripts/test/call_answers.py ARCHIVE LINKSHOW LINKDIFF"""
 
 import os
 import random

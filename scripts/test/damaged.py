@@ -1,16 +1,9 @@
 #!/usr/bin/env python3
 """Damages lines, the same way each time, and holds what the programs say of them to the second reader of tests/second.
 
-    python3 scripts/test/damaged.py FOLDER
-    python3 scripts/test/damaged.py --write FILE LINES
-
-FOLDER has linkwire, linkstate and linkshow. The lines are those of linkshow's stored run, those of linkwire's tests,
-the messages of tests/state/pairs.txt, and a few that are as long as a list can be. Any byte is damaged, of the header
-too, and now and then a digit. tests/second/check.py compares the answers, strictly and leniently. Each of linkshow's is
-a JSON object on one line in UTF-8 with no control character and no name twice in one object. With --lenient each is, to
-the byte, what a model here makes of the answers without it to one attribute at a time. With --write so many lines of
-bench/make_lines.py are written, each damaged, and after them every tenth as it was.
-"""
+    python3 scripts/test/damaged.py FOLDER              FOLDER has linkwire, linkstate and linkshow
+    python3 scripts/test/damaged.py --write FILE LINES  so many lines of bench/make_lines.py, each damaged, and after
+                                                        them every tenth as it was"""
 
 import glob
 import json

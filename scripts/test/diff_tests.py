@@ -1,13 +1,7 @@
 #!/usr/bin/env python3
 """Holds linkdiff to told.py of tests/second, a model of docs/LINKDIFF.md, over messages of kernels.
 
-    python3 scripts/test/diff_tests.py LINKDIFF LINKSHOW
-
-The lines are made: messages of tests/state/pairs.txt, beside themselves, beside the other one of their pair, which has
-the same state, and with attributes that are changed, renamed, moved, dropped and added; then with attributes among
-them that are refused, once or more often; and messages with lists of addresses, some of which are damaged. Lists whose
-values say a number are those of tests/second/keyed.py. Words in front of a line are told as linkshow tells them.
-"""
+    python3 scripts/test/diff_tests.py LINKDIFF LINKSHOW"""
 import random
 import sys
 

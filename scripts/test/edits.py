@@ -1,22 +1,10 @@
 #!/usr/bin/env python3
-"""Takes a list of edits apart into the files that `rt must-fail` reads.
+"""Takes a list of edits apart into the files that `rt must-fail` reads; scripts/README.md has the form of a list.
 
-    python3 scripts/test/edits.py edits/CRATE.txt FOLDER [WORDS]
-    python3 scripts/test/edits.py --fit
-    python3 scripts/test/edits.py --table
-    python3 scripts/test/edits.py --apply FILE.edit CRATE
-
-A list has lines '# ..' at its head, then groups and edits with an empty line between them. A group is a line
-'== TITLE'. An edit is a headline in plain words, of 120 characters at most and in no other edit's words, a line
-'file: PATH' with a file of the crate, and pairs of lines 'old: TEXT' and 'new: TEXT', where the old text stands once in
-the file; further pairs, and further files, may follow. A text goes on in lines that begin with eight blanks, which are
-one blank in it. Each edit is written to FOLDER/NAME.edit, where NAME is its headline with _ between the words. With
-WORDS only those files stay in FOLDER whose name has these words, next to each other.
-
---fit says which edits of the lists and of the gate's, in must-fail/, no longer fit their crate's files, and whether the
-table of edits/README.md is as --table makes it; that page says what is in it. --apply makes one edit in the files of a
-crate's folder.
-"""
+    python3 scripts/test/edits.py edits/CRATE.txt FOLDER [WORDS]    with WORDS those whose names have these words
+    python3 scripts/test/edits.py --fit                             which edits, or lines of the table, do not fit
+    python3 scripts/test/edits.py --table                           makes the table of edits/README.md
+    python3 scripts/test/edits.py --apply FILE.edit CRATE           makes an edit in the folder of a crate"""
 
 import re
 import sys

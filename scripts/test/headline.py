@@ -4,11 +4,7 @@ lines of the specs from `Headline` on, how many constants its tables pin, and wh
 its examples.
 
     python3 scripts/test/headline.py [LINKWIRE LINKSHOW]
-    python3 scripts/test/headline.py --list
-
-Without the two programs it takes those in out/; --list prints the definitions, the headline first, and runs nothing.
-In an example, `H` is a header of sixteen zeros, and `3*(0400)` the bytes in parentheses three times. The last line is
-'headline: ok'."""
+    python3 scripts/test/headline.py --list     prints the definitions, the headline first, and runs nothing"""
 import re
 import sys
 

@@ -2,14 +2,7 @@
 """Messages of real kernels, and what the programs answer: tests/kernels.
 
     python3 scripts/test/kernel_messages.py            runs the programs of out/, and compares
-    python3 scripts/test/kernel_messages.py --write    stores what they answer
-
-messages.txt has a line of hexadecimal for each message, and in front of it one that says kernel, where the message is
-from, and the link. PROGRAM.txt has a line for each, as the program answers it; a '=' stands for the message's own
-digits. The messages were chosen of many: each has some number at some place, with its flags, some kind, family or type
-of link, some size of a record that grows, or an order of the counters of IPv6, that none of the others has. A message
-that is added stands at the end. The last line is 'kernel_messages: ok'.
-"""
+    python3 scripts/test/kernel_messages.py --write    stores what they answer"""
 
 import os
 import re

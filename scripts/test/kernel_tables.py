@@ -1,15 +1,6 @@
 """Compares the numbers, names, sizes and orders of fields of this repository, and which attributes are lists, with the
-files of the kernel.
-
-It fails on a difference for which kernel_names.txt has no reason. The kernel's files are a tree of its sources, such a
-tree packed as a .tar.xz, or the file rt_link.yaml, and then the headers are those of /usr/include. They are named as
-the argument or by KERNEL in the environment, else they are what Debian's linux-source-6.12 installs. Where there is no
-such file, only the names that linkshow shows are compared, with the specs. What is newer than the files is told, and is
-no difference. Number and name of each row stand beside the headers, its form beside rt_link.yaml where that has it, and
-beside what the kernel's own code puts into messages or takes from them. A row is a list where rt_link.yaml says
-`multi-attr`. The fields of records stand beside structures; names of values and flags beside enums and tables of the
-code.
-"""
+files of the kernel. It fails on a difference for which kernel_names.txt has no reason; what is newer than the files is
+told, and is no difference."""
 
 import argparse
 import fnmatch

@@ -4,16 +4,8 @@
     KERNELS=FOLDER python3 scripts/test/kernel_truth.py [PROGRAM]
     python3 scripts/test/kernel_truth.py --live [PROGRAM [LINKDUMP]]
 
-FOLDER has a folder RELEASE/out, or an archive RELEASE.tar.xz of out/, for each kernel: truth-LABEL.hex and .hex2, two
-dumps as lines of hexadecimal; truth-LABEL.json, what `ip -s -s -j -d link show` said in between; and around these
-sysfs-LABEL-a.txt and -b.txt, proc-LABEL-a.txt and -b.txt. Without it this is 'skipped'. With --live the kernel at hand
-is asked, in a network namespace with a link of each kind that it can make, by ip, sysfs and /proc; what has no row is
-let be.
-
-What moves has to lie between the two dumps. Each field of ip has a row in the table, and each list has as many members
-as ours; a flag that ip only names where it is set is not set elsewhere. Fields that are not covered are counted and
-named, each below its reason. The last line is 'kernel_truth: ok'.
-"""
+With --live the kernel at hand is asked, in a network namespace, and what has no row is let be. Each list of ip has as
+many members as ours. Fields that are not covered are counted and named, each below its reason."""
 
 import glob
 import ipaddress

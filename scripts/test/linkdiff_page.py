@@ -3,12 +3,7 @@
 `use` lines of the specs, that the page quotes them as they stand, and what the program tells of the page's streams.
 
     python3 scripts/test/linkdiff_page.py [LINKDIFF]
-    python3 scripts/test/linkdiff_page.py --list
-
-Without LINKDIFF it takes out/linkdiff; --list prints the definitions, a file a line, and runs nothing. In a stream each
-line is one of input, and behind the arrow stands what it adds; the page says how. A line `linkdiff OPTION..` says how
-those behind it are run, and with OLD and NEW one arrow stands behind the lines of both. The last line is
-'linkdiff page: ok'."""
+    python3 scripts/test/linkdiff_page.py --list    prints the definitions, a file a line, and runs nothing"""
 import json
 import re
 import struct

@@ -1,20 +1,4 @@
-"""Holds the pages that users meet first to what they show. Of README.md, docs/USING.md, docs/C.md,
-docs/CONTRIBUTING.md and the manual pages each block with commands has a mark in front:
-
-    runs: shell        each command is run, and prints what stands below it
-    runs: namespace    the same in a network namespace with a bridge and a pair of veth; each line that stands there
-                       is one of those that are printed
-    runs: c            the program is compiled and run as the block below it says, and prints what stands there
-    runs: rust         scripts/test/rust_tests.sh does so
-    runs: python, file: NAME    tests/python/pages.py does so, which scripts/test/python_tests.sh runs
-    compiles: c        the block is compiled, as what a function does that is given `message` and `len`
-    stands in: FILE    the block is a part of that file
-    not run: WHY
-
-In Markdown a mark is a comment, in a manual page a line that begins with '.\\"'. Commands in the text of a page are run
-in one of its blocks, or listed after '<!-- named, not run:', and each 'make' names a target that there is; those of a
-manual page, but for its synopsis, may stand in a block or a list of any page. The manual pages of programs have the
-same sections, in one order.
+"""Holds the pages that users meet first to what they show, by the marks that scripts/README.md has.
 
     python3 scripts/test/readme.py [LIBRARY FOLDER..]
 

@@ -1,12 +1,7 @@
 #!/usr/bin/env python3
-"""Prints what second tables lack of the first ones, a line each. Of each member that src/ of its crate lists: its copy
-in the tests, its row of the headline, its line in tests/c/laws.c; there `..` stands for what only its writer knows. Of
-each number of the outermost place: its name in linkwire_name, and in numbers.py of python/linkwire; kernel_tables.py
-looks for it in kind_name. And the names that functions of include/linkwire.h return, as they should be by the tables
-that linkshow shows and the library reads them by: operational states, link modes, flags, hardware types.
+"""Prints what second tables lack of the first ones, a line each; there `..` stands for what only its writer knows.
 
-    python3 scripts/test/rows.py
-"""
+    python3 scripts/test/rows.py"""
 import glob
 import re
 import sys

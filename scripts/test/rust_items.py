@@ -1,12 +1,9 @@
 #!/usr/bin/env python3
 """The public items of the crate in rust/: each with its variants, fields and calls, and the traits that it has.
 
-    python3 scripts/test/rust_items.py DOC [FILE]
+    python3 scripts/test/rust_items.py DOC [FILE]   DOC is the folder of the crate that `cargo doc` made
 
-DOC is the folder that `cargo doc` made, of the crate. With FILE, what differs from the list there is printed, and the
-exit status is then 1; rust/items.txt is such a list. What came or went of it is for the CHANGELOG. Calls whose docs
-have no example, and no link to one, are printed too.
-"""
+With FILE, as rust/items.txt, what differs from the list there is printed, and the exit status is then 1."""
 import difflib
 import html
 import re

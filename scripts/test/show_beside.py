@@ -1,14 +1,7 @@
 #!/usr/bin/env python3
 """Compares what linkshow says of lines with what is shown of them where their values are read and written again.
 
-    python3 scripts/test/show_beside.py BESIDE LINKSHOW
-
-The lines are those of linkshow's stored run, those of linkwire's tests, those of tests/kernels, a few that are as long
-as a list can be, and some that bench/make_lines.py makes; then each of them damaged, all but the longest twice. A line
-that is a message has to have the same answer of both, byte for byte, for each order of the counters of IPv6. Of a line
-that is none both have to show the same in front of the fault and, with --lenient, of the attributes that are accepted;
-linkshow alone tells the fault, and what is refused. The last line is 'show_beside: ok'.
-"""
+    python3 scripts/test/show_beside.py BESIDE LINKSHOW"""
 
 import random
 import sys

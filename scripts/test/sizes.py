@@ -1,14 +1,7 @@
 #!/usr/bin/env python3
 """Holds each program to a model over long messages and long lines, from 5 kB to 20 MB.
 
-    python3 scripts/test/sizes.py FOLDER..
-
-The folders have the programs linkwire, linkshow, linkstate, linkdiff and linkdump; of two the first counts. A message
-is made with the members that linkshow has to show of it; the encodings are the second reader's of tests/second, and
-what linkdiff tells is that of the model there. Words in front of a line, and lines that are no hexadecimal, are as
-long. linkdump reads captures of packets as long as libpcap takes, and is skipped where it has no libpcap. After each
-long line comes a short one. Lists of texts and of functions take linkdiff as long as they are long.
-"""
+    python3 scripts/test/sizes.py FOLDER..      these have the five programs; of two the first counts"""
 import json
 import math
 import os

@@ -1,14 +1,7 @@
 #!/usr/bin/env python3
 """Holds linkstate to what kernels sent, and to lines with words in front, by the second reader of tests/second.
 
-    [KERNELS=FOLDER] python3 scripts/test/state_tests.py LINKSTATE
-
-With words in front, which may be damaged, a line has to have them in front of its answer. The two messages of each pair
-of tests/state/pairs.txt have one state, which is the state encoding of itself. FOLDER has a folder RELEASE/out, or an
-archive RELEASE.tar.xz of out/, for each kernel: NAME.hex has a dump's messages, a line of hexadecimal each, and
-NAME.hex2 those of a dump that came after. Each pair of messages of an interface has one state too, or is refused twice,
-but for those that are named in ASKED. Without FOLDER that is 'skipped'.
-"""
+    [KERNELS=FOLDER] python3 scripts/test/state_tests.py LINKSTATE"""
 
 import os
 import random

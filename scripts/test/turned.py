@@ -3,11 +3,8 @@
 
     python3 scripts/test/turned.py LINES ANSWERS TO_LINES TO_ANSWERS
 
-Each line is the hexadecimal digits of a link message, each answer what the program linkwire or linkstate says of it. A
-number is found by the tables of tests/second/second.py, or by being the header of an attribute; all else stays. Lines
-and answers of which some record ends within a number are left out: filled up with zeros it is another number in either
-order. The last line says how many are kept.
-"""
+Lines and answers of which some record ends within a number are left out: filled up with zeros it is another number in
+either order. The last line says how many are kept."""
 
 import sys
 from pathlib import Path
