@@ -1,7 +1,6 @@
 #!/usr/bin/env bash
-# That rust/ and dist/ fit the crates, the gate, and then the scripts over what it left: so little is proved twice. The
-# scripts of the libraries and the texts of the programs run beside those of the programs, and what they print comes
-# after. The last line is the gate's own, printed again.
+# That rust/ and dist/ fit the crates, the gate, and then the scripts over what it left, side by side; what they print
+# comes one after the other. The last line is the gate's own, printed again.
 set -euo pipefail
 cd "$(dirname "$0")/.."
 folder=$(mktemp -d)

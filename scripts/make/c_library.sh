@@ -1,7 +1,6 @@
 #!/usr/bin/env bash
-# Proves and builds the library for programs in C as one object, out/library.o, with what it calls of the toolchain; its
-# names are local, but for linkwire_*. dist/Makefile makes the libraries of it. With --built the archive of the crate is
-# there already.
+# Proves and builds the library for programs in C as one object, out/library.o, of which dist/Makefile makes the
+# libraries. With --built the archive of the crate is there already.
 . "$(dirname "$0")/../common.sh"
 kit=$(dirname "$(dirname "$(readlink -f "$(command -v rt)")")")
 mkdir -p "$top/out" "$top/crates/link_c/out"

@@ -1,7 +1,5 @@
 #!/usr/bin/env bash
-# dist/SUMS: the sum of each text, of each source that the texts are made of, and of each file written by hand that a
-# build reads, for `sha256sum -c dist/SUMS`, and in comments the lines of crates.txt and the toolchain. Proofs change no
-# text, and are not in it.
+# dist/SUMS: the sum of each text, source of these and file written by hand, the lines of crates.txt, the toolchain:
 #     sums.sh make            prints it, for all as it is
 #     sums.sh written         prints it with new sums of the files written by hand, and the others as they stand there
 #     sums.sh unfit ARCH NAME..   prints the names of those texts that do not fit the tree

@@ -1,7 +1,6 @@
 #!/usr/bin/env bash
-# Lists wrong bodies that a crate's contracts let through, by `rt plant`, and adds what it printed to edits/plants.md
-# with the commit: plant.sh [--minutes N] [CRATE..]. Without names it takes every crate with contracts. Bodies that the
-# time did not reach are counted there as not run.
+# Lists wrong bodies that a crate's contracts let through, by `rt plant`: plant.sh [--minutes N] [CRATE..]. Without
+# names it takes every crate with contracts. Bodies that the time did not reach are counted there as not run.
 . "$(dirname "$0")/../common.sh"
 minutes=10
 if [ "${1:-}" = --minutes ]; then

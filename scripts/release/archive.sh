@@ -1,7 +1,6 @@
 #!/usr/bin/env bash
-# Packs the archive of a release, out/linkwire-VERSION.tar.gz, of what dist/ has, and prints where it is: the texts,
-# what builds and tests them, the pages and the crate in rust/, and no crates of Rattle. It has the same bytes each
-# time, and says the date of the newest version.
+# Packs the archive of a release: the texts, what builds and tests them, the pages and the crate in rust/, and no crates
+# of Rattle. It has the same bytes each time, and says the date of the newest version.
 . "$(dirname "$0")/../common.sh"
 scripts/make/sums.sh check >/dev/null
 version=$(sed -n 's/^#define LINKWIRE_VERSION "\(.*\)"$/\1/p' include/linkwire.h)

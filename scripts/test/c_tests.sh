@@ -1,7 +1,6 @@
 #!/usr/bin/env bash
-# Holds the libraries for programs in C to the header, and runs tests/c, the laws, and what needs the running kernel:
-# c_tests.sh ARCHIVE [FOLDER..]. The shared library is beside the archive; the folders, else that of the archive, have
-# linkdump and linkdiff. LONG=1 in the environment polls the kernel's links for a minute.
+# Tests the libraries for C: c_tests.sh ARCHIVE [FOLDER..]. The shared library is beside the archive; the folders, else
+# that of the archive, have linkdump and linkdiff. LONG=1 in the environment polls the kernel's links for a minute.
 self='c tests'
 . "$(dirname "$0")/../common.sh"
 library=$(realpath "$1")

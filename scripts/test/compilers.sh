@@ -1,7 +1,6 @@
 #!/usr/bin/env bash
-# Compares what other compilers make of the programs and of the library with what tests/second has stored, which is what
-# LLVM's answer: compilers.sh [--library]. crates/NAME/out has NAME.by-rattle of the toolchain's own compiler, where the
-# gate and `dist.sh --by-rattle` left it. rustc makes the library that rust/capi has, and erased_tests.sh the programs.
+# Compares what other compilers make of programs and library with what is stored of LLVM's: compilers.sh [--library].
+# The gate and `dist.sh --by-rattle` leave NAME.by-rattle in crates/NAME/out; rustc makes the library of rust/capi.
 . "$(dirname "$0")/../common.sh"
 own="the toolchain's compiler"
 

@@ -1,7 +1,5 @@
 #!/usr/bin/env bash
-# Compiles all crates by cargo, the contracts erased, with overflow checks; runs all tests, and each program on its
-# stored lines and those of the second reader. It needs no registry and no Rattle, and proves nothing: that the bodies
-# meet their contracts is said by the gate alone.
+# Compiles all crates by cargo, the contracts erased, and tests them. It needs no registry and no Rattle.
 self='test'
 . "$(dirname "$0")/../common.sh"
 needs cargo

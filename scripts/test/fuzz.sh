@@ -1,7 +1,6 @@
 #!/usr/bin/env bash
-# Fuzzes by AFL++ the library's text with the laws of tests/fuzz/library.c, and linkdump's reader of captures with
-# sanitizers, each for so many seconds: fuzz.sh SECONDS. The seeds are the messages of tests/kernels and what
-# tests/fuzz/corpus.txt has. What fails is left in out/fuzz, and its bytes are told.
+# Fuzzes the library's text and linkdump's reader of captures by AFL++, each for so many seconds: fuzz.sh SECONDS. What
+# fails is left in out/fuzz, and its bytes are told.
 . "$(dirname "$0")/../common.sh"
 seconds=$1
 needs afl-fuzz afl-gcc python3

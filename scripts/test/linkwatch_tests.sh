@@ -1,6 +1,5 @@
 #!/usr/bin/env bash
 # Tests the command linkwatch: linkwatch_tests.sh [FOLDER], where the shared library and the programs are, else out/.
-# What lacks is 'skipped'. The last line is 'linkwatch passed'.
 . "$(dirname "$0")/../common.sh"
 programs=$(realpath "${1:-out}")
 export PYTHONPATH=$top/python LINKWIRE=$programs/liblinkwire.so.0 LINKDIFF=$programs/linkdiff PYTHONDONTWRITEBYTECODE=1

@@ -1,6 +1,5 @@
 #!/usr/bin/env bash
-# Runs examples/c/manager.c in a network namespace, where it lists, makes and changes links, and meets a kernel that
-# does what it seldom does: live_tests.sh LIBRARY
+# Runs examples/c/manager.c in a network namespace, on a kernel that does what it seldom does too: live_tests.sh LIBRARY
 . "$(dirname "$0")/../common.sh"
 
 # tells FAULT MESSAGE: the example prints nothing else, and fails

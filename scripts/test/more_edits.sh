@@ -2,7 +2,6 @@
 # Tries the edits of the lists edits/CRATE.txt as well as those of the gate, in a copy of the crates: each has to be
 # refused. WORDS limit it to the edits whose headlines (of the gate's edits: whose names) have them:
 #     scripts/test/more_edits.sh [CRATE ..] [--headline WORDS]
-# Libraries that stand in the out/ of the crates are not proved again.
 . "$(dirname "$0")/../common.sh"
 crates=() words=''
 while [ $# != 0 ]; do

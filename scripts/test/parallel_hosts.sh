@@ -1,8 +1,6 @@
 #!/usr/bin/env bash
-# Spreads lines by GNU parallel over all cores; and 80 MB of lines, by its `--sshloginfile`, over three hosts, each an
-# sshd with an address and processes of its own, and kills all that runs on one of them while a job there is in the
-# middle of its answers. What comes is compared, byte for byte, with what one process answers: parallel_hosts.sh
-# [FOLDER], where the programs are. What cannot be had here, or not in time, is 'skipped'.
+# Spreads lines by GNU parallel over cores and over three hosts, one of which dies: parallel_hosts.sh [FOLDER], where
+# the programs are. What cannot be had here, or not in time, is 'skipped'.
 self='parallel hosts'
 . "$(dirname "$0")/../common.sh"
 shopt -s inherit_errexit

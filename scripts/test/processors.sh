@@ -1,12 +1,6 @@
 #!/usr/bin/env bash
-# Tests the crate in rust/, and the library for C of rust/capi, on processors that the proofs are not of, by qemu-user:
-# the tests of the crate by cargo; 20,000 lines, which the example 'lines' has to answer as the proved programs do; and
-# the tests of tests/c. On a machine of the other byte order the numbers of the lines and answers are turned, and
-# tests/c, whose bytes are lowest first, is left out.
-#
-# It takes Debian's packages qemu-user-static, gcc-TRIPLET and libstd-rust-dev of the processor, or a rustc whose target
-# is there. A processor that lacks one is skipped, and a line names the packages. What this machine runs itself, as i386
-# on x86-64, is run without qemu. The last line says how many processors were tested.
+# Tests the crate in rust/, and the library for C of rust/capi, on processors that the proofs are not of, by qemu-user.
+# A processor that lacks something is skipped, and a line names the packages.
 . "$(dirname "$0")/../common.sh"
 export CARGO_NET_OFFLINE=true CARGO_TARGET_DIR=${CARGO_TARGET_DIR:-$folder/target}
 export RUST_BACKTRACE=0 CARGO_INCREMENTAL=0 CARGO_PROFILE_DEV_DEBUG=0 CARGO_PROFILE_TEST_DEBUG=0

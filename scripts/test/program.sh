@@ -1,7 +1,6 @@
 #!/usr/bin/env bash
-# Runs a built program with words that no list holds, over many lines in little memory, and line by line:
-# program.sh [linkwire|linkshow|linkstate|linkdiff]. What it says of other words, and where a read, a write or a request
-# for memory fails, is in tests/program/said.txt and tests/second/watched.txt, which make self-test compares.
+# Runs a built program: program.sh [linkwire|linkshow|linkstate|linkdiff]. What it says of other words, and where a
+# call fails, is in tests/program/said.txt and tests/second/watched.txt, which make self-test compares.
 self=${1:-linkwire}
 . "$(dirname "$0")/../common.sh"
 name=$self

@@ -1,6 +1,5 @@
 #!/usr/bin/env bash
 # Tests the package in python/: python_tests.sh [FOLDER], where the shared library and the programs are, else out/.
-# What lacks is 'skipped'. The last line is 'python passed'.
 . "$(dirname "$0")/../common.sh"
 programs=$(realpath "${1:-out}")
 unset LINKWIRE PYTHONPATH CC

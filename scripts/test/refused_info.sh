@@ -1,6 +1,5 @@
 #!/usr/bin/env bash
-# Refuses each allocation of the test of refused memory of info_tests in turn, in the tests that the gate left: its call
-# has to say so and to change nothing, and all calls after it return what they do with ample memory; the test tells it.
+# Refuses each allocation of the test of refused memory of info_tests in turn, in the tests that the gate left.
 . "$(dirname "$0")/../common.sh"
 tests=$top/crates/info_tests/out/info_tests_tests
 name=memory::refused_memory_changes_nothing

@@ -1,7 +1,6 @@
 #!/usr/bin/env bash
-# Refuses each allocation of the calls that take memory in turn, by the program that the gate left, on messages with
-# each kind of attribute that takes memory, at each depth. Its call alone says so, and all others return what they
-# return in the last run, where none is refused: what stands in tests/program/refused_parse.txt.
+# Refuses each allocation of the calls that take memory in turn, by the program that the gate left. Its call alone says
+# so, and all others return what they return in the last run, where none is refused.
 . "$(dirname "$0")/../common.sh"
 program=$top/crates/parse_once/out/parse_once
 command -v rt >/dev/null || skips "no rt, which alone makes ${program#"$top"/}"

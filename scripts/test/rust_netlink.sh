@@ -1,6 +1,5 @@
 #!/usr/bin/env bash
-# Builds and tests rust/netlink and rust/serde over the crates that Debian packs; where a network namespace may be made,
-# the examples of rust/netlink run on the kernel at hand, and the tests of rust/serde bring messages to JSON and back.
+# Builds and tests rust/netlink and rust/serde over the crates that Debian packs.
 self=rust
 . "$(dirname "$0")/../common.sh"
 registry=/usr/share/cargo/registry

@@ -1,9 +1,5 @@
 #!/usr/bin/env bash
-# Tests the crate in rust/: its tests and those in its docs, with overflow checks, and the program in docs/USING.md,
-# whose output is compared. The example 'lines' has to answer as the second reader of tests/second does, and 100,000
-# lines that are made and damaged as linkwire and linkstate do, where these are built; what the crate's calls say of
-# each of these lines has to agree. The library of rust/capi has to have the names of the library for C, and to pass
-# tests/c. It needs no registry.
+# Tests the crate in rust/, the program in docs/USING.md, and the library of rust/capi. It needs no registry.
 . "$(dirname "$0")/../common.sh"
 needs cargo
 export CARGO_TARGET_DIR=$folder/target CARGO_NET_OFFLINE=true

@@ -1,9 +1,7 @@
 #!/usr/bin/env bash
-# Compares the programs in a folder, the library for C and python/ with the second reader of tests/second, line by line,
-# and what linkshow shows of lists with what lists.c says; and holds linkdiff to the laws of docs/LINKDIFF.md, and where
-# values of lists say a number to its rules: second.sh FOLDER [LIBRARY [SET]]. SET is `all`, with 4,000 streams and
-# 112,500 pairs for linkdiff, or `wide` for 5,000,000 lines more, 100,000 streams and 500,000 pairs. Without LIBRARY it
-# compares linkwire, linkstate and linkshow alone. JOBS is how many processes it takes.
+# Compares all that is built with the second reader of tests/second: second.sh FOLDER [LIBRARY [SET]]. SET is `all`, or
+# `wide` for more. Without LIBRARY it compares linkwire, linkstate and linkshow alone. JOBS is how many processes it
+# takes.
 . "$(dirname "$0")/../common.sh"
 cd "$top"
 programs=$1 library=${2:-} set=${3:-all} words=() streams=4000 pairs=45000

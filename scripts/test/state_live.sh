@@ -1,9 +1,6 @@
 #!/usr/bin/env bash
 # Holds linkwire_state, and linkdump --monitor | linkdiff, to the running kernel: state_live.sh LIBRARY [FOLDER..],
-# where the folders, else that of the library, have the programs. In a network namespace, with a link of each kind that
-# the kernel knows (state_kinds.txt of tests/live), each link has one state encoding over ten seconds of polls with
-# traffic, or a minute with LONG=1 in the environment, and a new one after each change (state_changes.txt). Of each
-# change linkdiff has a line, and none while nobody changes a link.
+# where the folders, else that of the library, have the programs. LONG=1 in the environment polls for a minute.
 self=state
 . "$(dirname "$0")/../common.sh"
 

@@ -1,7 +1,6 @@
 #!/usr/bin/env bash
 # Runs what docs/STORE.md has, in a network namespace: store_tests.sh LIBRARY [LINKSTATE], where LIBRARY is the shared
-# one. A hundred polls of idle links are one row an interface; a change, a deleted interface and an index that is used
-# again are one more each; in the folder a refused message and a linkdump that fails are none.
+# one.
 . "$(dirname "$0")/../common.sh"
 
 # wants WHAT FOUND WANTED

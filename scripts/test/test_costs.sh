@@ -1,6 +1,5 @@
 #!/usr/bin/env bash
-# Looks that scripts/measure/costs.py names what got dearer, over texts with a slip in each, a row that may be lowered,
-# and one that is missing.
+# Looks that costs.py names what got dearer.
 . "$(dirname "$0")/../common.sh"
 shopt -s inherit_errexit
 texts=$folder/texts

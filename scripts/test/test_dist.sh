@@ -1,7 +1,6 @@
 #!/usr/bin/env bash
-# Looks that what does not fit is told, and not built: a text, a sum, a source, a line of crates.txt or a file written
-# by hand that changed, and a file, a compiler, a text or a command that is missing. A stand-in takes the place of rt.
-# The texts in out/texts, of `dist.sh --compare`, are compared where there are any.
+# Looks that what does not fit is told, and not built. A stand-in takes the place of rt. The texts in out/texts, of
+# `dist.sh --compare`, are compared where there are any.
 . "$(dirname "$0")/../common.sh"
 mkdir -p "$folder/bin" "$folder/rt" "$folder/c" "$folder/headers"
 copies_tree "$folder/tree"

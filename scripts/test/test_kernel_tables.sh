@@ -1,6 +1,5 @@
 #!/usr/bin/env bash
-# Puts the slips of tests/kernel_slips.txt into a copy of the crates, one at a time: kernel_tables.py has to refuse
-# each, and not the crates as they are. KERNEL names the kernel's files, as there.
+# Looks that kernel_tables.py refuses slips in a copy of the crates. KERNEL names the kernel's files, as there.
 . "$(dirname "$0")/../common.sh"
 kernel=${KERNEL:-/usr/src/linux-source-6.12.tar.xz}
 if [ -f "$kernel" ] && [ "${kernel%.yaml}" = "$kernel" ]; then

@@ -1,7 +1,5 @@
 #!/usr/bin/env bash
-# Looks that what holds the programs without `rt` tells of slips: of a row that is changed in the second reader's
-# tables, of answers and stored sums that are changed, and of wrong programs: test_second.sh FOLDER, where the programs
-# are.
+# Looks that what holds the programs without `rt` tells of slips: test_second.sh FOLDER, where the programs are.
 . "$(dirname "$0")/../common.sh"
 programs=$(realpath "$1")
 makes_lines -DLINES_ALONE

@@ -1,6 +1,6 @@
 #!/usr/bin/env bash
-# Tries the edits of the lists tests/edits/CRATE.txt, which the contracts let through, in a copy of the crates with the
-# contracts erased: a test has to refuse each. With WORDS those whose headlines have them: tested_edits.sh [WORDS]
+# Tries the edits of the lists tests/edits/CRATE.txt: a test has to refuse each. With WORDS those whose headlines have
+# them: tested_edits.sh [WORDS]
 . "$(dirname "$0")/../common.sh"
 needs cargo
 shopt -s nullglob
