@@ -2,17 +2,11 @@
 import re
 
 import words
+from rules import TABLES
 from source import named
 from surface import CALL, public_name
 
-# A `requires` of a call that a user sees: its text; where a call does not meet it, in a user's words; and the check of
-# it at the start of the call. `buffer_len` and `emit` are seen by the trait `Emitable` alone, which checks for itself.
-OWED = {
-    "1 ≤ number": ("`number` is 0", 'assert!(number >= 1, "there is no setting 0: they count from 1");'),
-    "number ≤ INET_DEV_CONF_COUNT": (
-        "`number` is above 34",
-        'assert!(number <= INET_DEV_CONF_COUNT, "there is no setting {number}: the last is 34");'),
-}
+OWED = {text: new.split("  ") for text, new in TABLES["owed"]}
 
 
 def conditions(s, public):

@@ -12,22 +12,14 @@ import tempfile
 from pathlib import Path
 
 from headline import Module, hold_words, show, size, walk
-from shared import attribute, joined, read, said
+from shared import attribute, joined, read, said, table
 
 PAGE = "docs/LINKDIFF.md"
-LINES, FRAMES = "message_diff.specs.", "frame_diff.specs."
-STARTS = (LINES + "Watched", "Watches"), (LINES + "Files", "Compares"), (LINES + "Changed", "told_changes"), \
-    (FRAMES + "Differences", "changes"), (FRAMES + "Forests", "leaves"), (FRAMES + "Wholes", "opened"), \
-    (FRAMES + "Counters", "is_passed")
-# what the page says in words
-SAID = {(LINES + file, name) for file, name in (
-    ("Changed", "IsChanged"), ("Alone", "IsAlone"), ("Alone", "member_line"), ("Faults", "IsFault"),
-    ("Faults", "fault_line"), ("Compared", "HasTextBy"), ("Compared", "IsRefusalAloneBy"),
-    ("Announced", "kind_in"), ("Announced", "without_event"), ("Announced", "is_wireless_alone"),
-    ("Said", "family_in"), ("Known", "key_cmp"), ("Known", "is_key"), ("Known", "is_text"))} | {
-        (FRAMES + file, name) for file, name in (
-            ("Differences", "both_told"), ("Differences", "is_shown_same"), ("Members", "message_forest"),
-            ("Forests", "is_path"), ("Counters", "action_in"))}
+OURS = "message_diff.specs.", "frame_diff.specs."
+NAMED = [(section, (module, name)) for section, (module, names) in table("scripts/test/linkdiff_page.txt")
+         for name in names.split()]
+STARTS = [it for section, it in NAMED if section == "starts"]
+SAID = [it for section, it in NAMED if section == "said"]     # what the page says in words
 QUOTED = re.compile(r"^```antt\n([\s\S]*?)^```$", re.M)
 STREAM = re.compile(r"^```stream\n([\s\S]*?)^```$", re.M)
 LINK = re.compile(r"link\((?:(\d+):)?(\d+)((?: [^()]*)?)\)")
@@ -87,7 +79,7 @@ def fails(what):
 
 def of_linkdiff():
     """What one reads of message_diff and frame_diff from the contracts on."""
-    return walk(STARTS, lambda module, name: not module.startswith((LINES, FRAMES)) or (module, name) in SAID)
+    return walk(STARTS, lambda module, name: not module.startswith(OURS) or (module, name) in SAID)
 
 
 def count(found, page):
