@@ -14,7 +14,6 @@ import os
 import random
 import re
 import resource
-import signal
 import subprocess
 import sys
 import tempfile
@@ -49,12 +48,9 @@ def sites(text):
         if label := re.match(r"([A-Za-z_][^ :\t]*):", line):
             function = label[1]
         word = (line.split() or [""])[0]
-        if turned(word):
-            found.append((at, "turned", function))
-        if word in BY_ONE:
-            found.append((at, "by one", function))
-        if re.search(r"\$-?\d+", line) and not word.startswith("."):
-            found.append((at, "a number", function))
+        ways = {"turned": turned(word), "by one": word in BY_ONE,
+                "a number": re.search(r"\$-?\d+", line) and not word.startswith(".")}
+        found += [(at, how, function) for how, is_possible in ways.items() if is_possible]
     return found
 
 
@@ -151,25 +147,16 @@ def runs(name, folder):
 def run(it, to, held, most=60):
     """Runs the program for so many seconds of the processor's time at most: its status, whether it writes what the file
     `held` has, if one is named, and the marks it left."""
-    def limits():
-        for what, limit in (resource.RLIMIT_CPU, most), (resource.RLIMIT_AS, 3 << 30), (resource.RLIMIT_CORE, 0):
-            resource.setrlimit(what, (limit, limit))
     with open(f"{to}.seen", "wb") as seen:
         seen.truncate(1 << 20)
-    source = os.open(it.reads, os.O_RDONLY)
-    command = [to if word == "TO" else word for word in it.words]
+    limits = ["timeout", "-s", "KILL", "60", "prlimit", f"--cpu={most}", f"--as={3 << 30}", "--core=0"]
+    words = ["env", f"LD_PRELOAD={to * it.preloads}", *(to if word == "TO" else word for word in it.words)]
     # it ends at the first byte that differs, and then the program's next write ends that
     compared = subprocess.Popen(["cmp", "-s", "-", held], stdin=subprocess.PIPE) if held else None
+    source = os.open(it.reads, os.O_RDONLY)     # which may be a folder
     with compared.stdin if compared else open(it.writes or f"{to}.out", "wb") as out:
-        program = subprocess.Popen(command, stdin=source, stdout=out, stderr=subprocess.STDOUT, cwd=TOP,
-                                   preexec_fn=limits, start_new_session=True,
-                                   env={"SEEN": f"{to}.seen", "PATH": os.environ["PATH"],
-                                        "LD_PRELOAD": to * it.preloads})
-    try:
-        status = program.wait(timeout=60)
-    except subprocess.TimeoutExpired:
-        os.killpg(program.pid, signal.SIGKILL)
-        status = program.wait()
+        status = subprocess.run([*limits, *words], stdin=source, stdout=out, stderr=subprocess.STDOUT, cwd=TOP,
+                                check=False, env={"SEEN": f"{to}.seen", "PATH": os.environ["PATH"]}).returncode
     os.close(source)
     return status, not compared or compared.wait() == 0, b"" if held else Path(f"{to}.seen").read_bytes()
 

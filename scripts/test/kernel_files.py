@@ -1,8 +1,6 @@
 """What the kernel's files say, for kernel_tables.py: its headers, rt_link.yaml, and code that writes and reads rows."""
 
 import functools
-import glob
-import os
 import re
 import subprocess
 import sys
@@ -17,7 +15,6 @@ except ImportError:
 from kernel_names import LEFT_OUT, PLACES, ROWS, VALUES, VALUES_LEFT_OUT
 from kernel_ours import Field, width
 
-INCLUDE = "/usr/include"
 YAML_FILES = ["Documentation/netlink/specs/rt_link.yaml", "Documentation/netlink/specs/rt-link.yaml"]
 HEADERS = [f"include/{folder}{name}.h" for folder, *names in ROWS["headers"] for it in names for name in it.split()]
 CODE = {name for place in PLACES.values() for name in place.files.split()}
@@ -119,16 +116,17 @@ class Kernel:
 
     def __init__(self, path):
         with tempfile.TemporaryDirectory() as folder:
-            if os.path.isfile(path) and not path.endswith(".yaml"):
+            if Path(path).is_file():
                 unpack(path, folder)
                 path = folder
-            files = [os.path.join(path, name) for name in YAML_FILES] if os.path.isdir(path) else [path]
-            self.yaml = next(filter(os.path.isfile, files), None)
-            if self.yaml and not yaml:
-                sys.exit("kernel_tables: the kernel's files are there, and no python3-yaml to read rt_link.yaml")
-            spec = yaml.safe_load(Path(self.yaml).read_text("utf-8")) if self.yaml else {}
-            self.headers = Headers(self.header_texts(path))
-            self.code = {it: Path(path, it).read_text("utf-8") for it in sorted(CODE) if Path(path, it).is_file()}
+            self.files = {name: Path(path, name).read_text("utf-8") for name in [*YAML_FILES, *HEADERS, *sorted(CODE)]
+                          if Path(path, name).is_file()}
+        self.yaml = next((self.files[name] for name in YAML_FILES if name in self.files), None)
+        if self.yaml and not yaml:
+            sys.exit("kernel_tables: the kernel's files are there, and no python3-yaml to read rt_link.yaml")
+        spec = yaml.safe_load(self.yaml) if self.yaml else {}
+        self.headers = Headers({re.sub(r".*/(linux|net)/", "", name): self.files[name]
+                                for name in HEADERS if name in self.files})
         self.lists, self.structs, self.sets = {}, {}, {}
         for it in spec.get("definitions", []):
             self.define(it)
@@ -142,19 +140,10 @@ class Kernel:
                 self.sets.setdefault(name, {}).setdefault(n, attribute)
         self.lists.update(VALUES_LEFT_OUT)
 
-    @staticmethod
-    def header_texts(root):
-        files = [os.path.join(root, name) for name in HEADERS]
-        if not any(map(os.path.isfile, files)):
-            files = [name.replace("include/uapi", INCLUDE) for name in HEADERS]
-            files += glob.glob(INCLUDE + "/bits/socket.h") + glob.glob(INCLUDE + "/*/bits/socket.h")
-        return {re.sub(r".*/(linux|net|bits)/", "", name): Path(name).read_text("utf-8")
-                for name in files if os.path.isfile(name)}
-
     @functools.cache
     def of_code(self, names):
         """The files of code that are there."""
-        return Code("\n".join(self.code[name] for name in names.split() if name in self.code))
+        return Code("\n".join(self.files[name] for name in names.split() if name in self.files))
 
     def define(self, it):
         if it["type"] == "struct":
