@@ -17,6 +17,7 @@ import shutil
 import subprocess
 import sys
 from collections import Counter, defaultdict, namedtuple
+from pathlib import Path
 
 from shared import TOP, answers, digits_of, kernels, read, table
 
@@ -89,9 +90,8 @@ def octets(theirs, ours, *_):
 
 
 def bridge_id(theirs, ours, *_):
-    priority, rest = theirs.split(".")
-    return ([int(priority, 16), [int(it, 16) for it in rest.split(":")]],
-            [ours["prio"], [int(it, 16) for it in ours["addr"].split(":")]])
+    both = theirs.replace(".", ":"), f"{ours['prio']:x}:{ours['addr']}"
+    return tuple([int(it, 16) for it in text.split(":")] for text in both)
 
 
 def device(theirs, ours, world, _):
@@ -107,7 +107,7 @@ def nanoseconds(theirs, ours, *_):
 
 
 def is_set(name, ours):
-    return ours is not MISSING and name in (ours if isinstance(ours, list) else [])
+    return isinstance(ours, list) and name in ours
 
 
 def flag_bits(theirs, ours, _, args):
@@ -288,9 +288,14 @@ def compare_link(rows, link, links, who, report):
                 report.not_covered("ip", kind, f"the message is refused: {first['fault']} at {first.get('at')}")
             else:
                 compare_value(row, kind, theirs, (first, last), World(first, links.names, said, path), who, report)
+    # what ip names only where it is set, and has not named, is not set
     for place, _, prefix in parts if "fault" not in first and report.strict else ():
-        if not prefix or isinstance(first.get(prefix[:-1]), dict):
-            unsaid(rows.get(place, {}), place, prefix, seen, first, who, report)
+        is_there = not prefix or isinstance(first.get(prefix[:-1]), dict)
+        for field, row in rows.get(place, {}).items() if is_there else ():
+            ours = first.get(numbered(prefix + row.ours), MISSING)
+            if row.ours != "-" and row.how in NAMED_IF_SET and (place, field) not in seen \
+                    and HOW[row.how](True, ours, None, row.args)[1]:
+                report.says(False, "ip", label(place, field), who, "not named", ours)
 
 
 def compare_value(row, kind, theirs, messages, world, who, report):
@@ -313,22 +318,11 @@ def compare_value(row, kind, theirs, messages, world, who, report):
         report.says(agrees(row, [theirs], found, world), "ip", kind, who, theirs, *found)
 
 
-def unsaid(rows, place, prefix, seen, first, who, report):
-    """What ip names only where it is set, and has not named, is not set."""
-    for field, row in rows.items():
-        if row.ours != "-" and row.how in NAMED_IF_SET and (place, field) not in seen:
-            ours = first.get(numbered(prefix + row.ours), MISSING)
-            if HOW[row.how](True, ours, None, row.args)[1]:
-                report.says(False, "ip", label(place, field), who, "not named", ours)
-
-
 def text_of(path):
     """What a file has; of a link the name of what it leads to, and None where it cannot be read."""
+    path = Path(path)
     try:
-        if os.path.islink(path):
-            return os.path.basename(os.readlink(path))
-        with open(path, encoding="utf-8", errors="surrogateescape") as file:
-            return file.read()
+        return path.readlink().name if path.is_symlink() else path.read_text("utf-8", "surrogateescape")
     except OSError:
         return None
 
@@ -399,10 +393,10 @@ def compare(rows, dumps, said, files, who, report):
     return links
 
 
-def of_folder(folder, program, rows):
-    """Each moment of each kernel of a folder."""
+def of_folder(program, rows):
+    """Each moment of each kernel of the folder."""
     report, releases = Report(True), []
-    for report.release, out in kernels(folder):
+    for report.release, out in kernels("kernel_truth"):
         releases.append(report.release)
         for path in sorted(glob.glob(f"{out}/truth-*.json")):
             name = os.path.basename(path)[len("truth-"):-len(".json")]
@@ -414,7 +408,7 @@ def of_folder(folder, program, rows):
         report.show(report.release, releases[-1:])
     if len(releases) > 1:
         report.show("all kernels", releases)
-    return report.finish()
+    return report.finish() if releases else None
 
 
 def ran(*words):
@@ -452,11 +446,7 @@ def main():
     arguments = [it for it in sys.argv[1:] if not it.startswith("--")]
     program, linkdump = arguments + [f"{TOP}/out/{it}" for it in ("linkshow", "linkdump")[len(arguments):]]
     rows = read_table("scripts/test/kernel_fields.txt")
-    if "--live" in sys.argv:
-        return live(program, linkdump, rows)
-    if not os.environ.get("KERNELS"):
-        return print("kernel_truth: skipped: KERNELS names no folder of kernels")
-    return of_folder(os.environ["KERNELS"], program, rows)
+    return live(program, linkdump, rows) if "--live" in sys.argv else of_folder(program, rows)
 
 
 if __name__ == "__main__":

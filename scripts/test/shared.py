@@ -97,8 +97,12 @@ def pairs():
     return [(name, first, bytes(second)) for name, first, second in found]
 
 
-def kernels(folder):
-    """Yields the release of each kernel of a folder and its folder out/, the oldest first; archives are unpacked."""
+def kernels(who):
+    """Yields the release of each kernel of the folder that KERNELS names in the environment, and its folder out/, the
+    oldest first; archives are unpacked. Without such a folder it says that this is skipped."""
+    folder = os.environ.get("KERNELS")
+    if not folder:
+        return print(f"{who}: skipped: KERNELS names no folder of kernels")
     with tempfile.TemporaryDirectory() as unpacked:
         for archive in glob.glob(f"{folder}/*.tar.xz"):
             shutil.unpack_archive(archive, f"{unpacked}/{os.path.basename(archive).removesuffix('.tar.xz')}")

@@ -3,7 +3,6 @@
 
     [KERNELS=FOLDER] python3 scripts/test/state_tests.py LINKSTATE"""
 
-import os
 import random
 import re
 import sys
@@ -83,10 +82,7 @@ def main(linkstate):
     if wrong:
         sys.exit(f"state_tests: two states, or a refusal: {wrong}")
     print(f"state_tests: {with_words} lines with words; {len(found)} pairs of one state")
-    if not os.environ.get("KERNELS"):
-        print("state_tests: skipped: KERNELS names no folder of kernels")
-        return
-    for release, out in kernels(os.environ["KERNELS"]):
+    for release, out in kernels("state_tests"):
         found = states(linkstate, pairs_of(release, out))
         moved = {name: pair for name, pair in found.items() if pair[0] != pair[1]}
         wrong = [name for name, pair in moved.items() if not has_asked(name, *pair)]
