@@ -1,11 +1,11 @@
 """What the repository says, for kernel_tables.py: the tables of link_headline and the records and values below them, as
 tests/second reads them, the rows of link_info, and the numbers of the constants."""
 
-import glob
 import os
 import re
 import sys
 from collections import namedtuple
+from pathlib import Path
 
 from kernel_names import ROWS
 from shared import TOP
@@ -28,8 +28,9 @@ BYTES = {"mac": 6, "ipv4": 4, "ipv6": 16}
 CRATES = "link_nest", "link_vf", "link_afspec", "link_msg", "link_state"
 
 
-class Unread(Exception):
-    """Something of the repository that is not in the form that is read here."""
+def unread(what):
+    """Ends where something of the repository is not in the form that is read here."""
+    sys.exit(f"kernel_tables: {what}")
 
 
 def width(word):
@@ -42,8 +43,8 @@ class Repository:
     """Places, records, values, flags and levels of the state encoding by their names, and the numbers of constants."""
 
     def __init__(self, top):
-        self.crates = os.path.join(top, "crates")
-        os.environ["CRATES"] = self.crates
+        self.crates = Path(top, "crates")
+        os.environ["CRATES"] = str(self.crates)
         import second
         self.second = second
         self.places, self.records, self.values, self.flags, self.kinds = {}, {}, {}, set(), {}
@@ -57,9 +58,9 @@ class Repository:
             r"pub const (\w+): u\d+ = (\w+);", self.code(crate + "/src/numbers.rt"))}
 
     def texts(self, pattern):
-        for path in sorted(glob.glob(os.path.join(self.crates, pattern))):
-            with open(path, encoding="utf-8") as file:
-                yield re.sub(r"--[^\n]*", "", file.read()) if path.endswith(".antt") else file.read()
+        for path in sorted(self.crates.glob(pattern)):
+            text = path.read_text("utf-8")
+            yield re.sub(r"--[^\n]*", "", text) if path.suffix == ".antt" else text
 
     def code(self, pattern):
         return "\n".join(self.texts(pattern))
@@ -84,7 +85,7 @@ class Repository:
                 order = re.search(rf"^{prefix}_(?:members|bytes) v =\s+(.*?)(?=\n\n|\Z)", text, re.M | re.S).group(1)
                 written = list(dict.fromkeys(re.findall(r"\bv\.(\w+)", order)))
                 if written != [it.name for it in fields]:
-                    raise Unread(f"{kind}: fields are read otherwise than they are written, as {' '.join(written)}")
+                    unread(f"{kind}: fields are read otherwise than they are written, as {' '.join(written)}")
                 size = 16 if kind == "LinkHeader" else self.second.record(prefix)[0]
                 self.records[kind], self.prefixes[prefix] = (fields, size), kind
 
@@ -103,7 +104,7 @@ class Repository:
                 at, count, after = octets.groups()
                 yield Field(name, int(at or after or 0), count + " bytes" if count else "u8")
             else:
-                raise Unread(f"{kind}.{name}: how it is read: {it}")
+                unread(f"{kind}.{name}: how it is read: {it}")
 
     def read_places(self):
         second = self.second
@@ -145,7 +146,7 @@ class Repository:
             self.places[place] = [row._replace(is_list=True) for row in self.places[place]]
 
     def read_link_info(self):
-        folder = os.path.join(self.crates, "link_info", "src")
+        folder = self.crates / "link_info/src"
         found = {"%s.%s" % key: value for key, value in typed.tables(folder).items() if key[0] != "mod" and value}
         self.keys = {id(value): key for key, value in found.items()}
         for key, value in found.items():
@@ -154,7 +155,7 @@ class Repository:
             elif isinstance(value, list) and len(value[0]) == 2:
                 self.values[key] = {name: number for number, name in value}
                 if len(self.values[key]) != len(value):
-                    raise Unread(f"{key}: a name comes twice")
+                    unread(f"{key}: a name comes twice")
         text = typed.read("place.rt", folder)
         for place, file, table in re.findall(r"Place::(\w+) => (\w+)::(\w+),", text):
             self.places[place] = [Row(number, name, self.style(typed.of_one(it)), it[0] == "Each")

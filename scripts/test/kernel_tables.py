@@ -13,7 +13,7 @@ from collections import Counter, defaultdict
 import kernel_shown
 from kernel_files import Kernel, type_of, unpack
 from kernel_names import ALONE, LEVELS, OWN_FIELDS, PLACES, REASONS, RECORDS, VALUES, VALUES_LEFT_OUT
-from kernel_ours import BYTES, Repository, Unread, width
+from kernel_ours import BYTES, Repository, width
 from shared import TOP
 
 PACKAGE = "/usr/src/linux-source-6.12.tar.xz"
@@ -96,7 +96,12 @@ def compare_records(ours, kernel, report):
         if known.header.endswith("_"):
             by_number(kind, fields, size, headers.group(known.header), known.header, report)
         elif report.has(kind, known.header, headers.structs):
-            in_header(kind, fields, size, headers.structs[known.header], report)
+            there, whole = headers.structs[known.header]
+            theirs = [field for field in there if "pad" not in field.name]
+            for field, there in zip(fields, theirs):
+                report.compare("fields, headers", f"{kind}.{field.name}", ("name", field.name, there.name),
+                               ("type", field.type, there.type), ("offset", field.offset, there.offset))
+            report.compare("records, headers", kind, ("size", size, whole), ("fields", len(fields), len(theirs)))
 
 
 def in_yaml(kind, fields, listed, report):
@@ -112,15 +117,6 @@ def in_yaml(kind, fields, listed, report):
         else:
             report.is_newer("fields, yaml", where)
     report.compare("records, yaml", kind, *[("field", "none", there.name) for there in listed])
-
-
-def in_header(kind, fields, size, structure, report):
-    """Names, types and offsets, and the size with all padding."""
-    theirs = [f for f in structure[0] if "pad" not in f.name]
-    for field, there in zip(fields, theirs):
-        report.compare("fields, headers", f"{kind}.{field.name}", ("name", field.name, there.name),
-                       ("type", field.type, there.type), ("offset", field.offset, there.offset))
-    report.compare("records, headers", kind, ("size", size, structure[1]), ("fields", len(fields), len(theirs)))
 
 
 def by_number(kind, fields, size, numbers, prefix, report):
@@ -326,29 +322,25 @@ def as_json(ours):
 
 def show(report):
     for category in sorted({category for category, outcome in report.counts}):
-        counts = [report.counts[category, outcome] for outcome in ("equal", "newer", "reason", "fault")]
-        print("{:22} {:3}: {:3} equal, {:2} newer, {:3} otherwise with a reason, {} without".format(
-            category, sum(counts), *counts))
+        equal, newer, reasoned, faults = (report.counts[category, it] for it in ("equal", "newer", "reason", "fault"))
+        print(f"{category:22} {equal + newer + reasoned + faults:3}: {equal:3} equal, {newer:2} newer, "
+              f"{reasoned:3} otherwise with a reason, {faults} without")
     print("newer than the kernel's files:", ", ".join(dict.fromkeys(report.newer)) or "none")
     for why in dict.fromkeys(key[0] for key in report.reasoned):
         print("otherwise, since:", why)
         for (other, what, here, _), (there, places) in report.reasoned.items():
+            # many fields of one record are one word
+            records = Counter(place.split(".")[0] for place in set(places))
+            named = [place if records[it] <= 6 else f"{it}.* ({records[it]})"
+                     for place in places for it in [place.split(".")[0]]]
             if other == why:
-                print(f"    {what} {here}, there {there}: {', '.join(shortened(places))}")
+                print(f"    {what} {here}, there {there}: {', '.join(dict.fromkeys(named))}")
     for what, where in report.left.items():
         print(f"{what} that are compared with none of the files: {', '.join(where)}")
     for fault in report.faults:
         print(f"kernel_tables: {fault}", file=sys.stderr)
-    faults = len(report.faults)
-    print("kernel_tables:", f"{faults} differences without a reason" if faults else "ok")
-    return int(faults > 0)
-
-
-def shortened(places):
-    """Many fields of one record are one word."""
-    records = Counter(place.split(".")[0] for place in set(places))
-    return dict.fromkeys(f"{record}.* ({records[record]})" if records[record] > 6 else place
-                         for place in places for record in [place.split(".")[0]])
+    print("kernel_tables:", f"{len(report.faults)} differences without a reason" if report.faults else "ok")
+    return int(bool(report.faults))
 
 
 def main():
@@ -360,20 +352,16 @@ def main():
     given = parser.parse_args()
     if given.unpack:
         return unpack(given.kernel, given.unpack)
-    try:
-        ours = Repository(given.tree)
-    except Unread as fault:
-        sys.exit(f"kernel_tables: {fault}")
+    ours = Repository(given.tree)
     if given.json:
         return print(as_json(ours))
-    kernel, report = Kernel(given.kernel) if os.path.exists(given.kernel) else None, Report()
-    if not kernel or not kernel.yaml:
+    kernel, report = Kernel(given.kernel), Report()
+    if not kernel.yaml:
         print(f"kernel_tables: skipped: no rt_link.yaml in {given.kernel}")
-        kernel = None
-    kernel_shown.compare_shown(ours, kernel and kernel.headers, report)
+    kernel_shown.compare_shown(ours, kernel.yaml and kernel.headers, report)
     compare_names(ours, report)
     for step in (compare_constants, compare_places, compare_kinds, compare_records, compare_values, compare_levels):
-        if kernel:
+        if kernel.yaml:
             step(ours, kernel, report)
     return show(report)
 

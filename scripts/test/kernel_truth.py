@@ -257,13 +257,6 @@ def agrees(row, theirs, ours, world):
         return False
 
 
-def parts_of(link):
-    """The parts of the table that a link has: each with how its paths begin in ip's object, and in ours."""
-    info = link.get("linkinfo", {})
-    parts = [((part, info.get(kind)), theirs, ours) for part, (theirs, kind, ours) in PARTS.items()]
-    return [*parts, (("ip", None), "", "")]
-
-
 def label(place, field):
     return field if place[1] is None else f"{place[0]}<{place[1]}>.{field}"
 
@@ -273,7 +266,10 @@ def compare_link(rows, link, links, who, report):
     first, last = (it.get(link["ifindex"]) for it in (links.first, links.last))
     if first is None or last is None:
         return report.says(False, "ip", "ifindex", who, link["ifindex"], "not in both dumps")
-    seen, parts, said = set(), parts_of(link), dict(nodes(link))
+    # the parts of the table that the link has: each with how its paths begin in ip's object, and in ours
+    seen, said, info = set(), dict(nodes(link)), link.get("linkinfo", {})
+    parts = [((part, info.get(kind)), theirs, ours) for part, (theirs, kind, ours) in PARTS.items()]
+    parts.append((("ip", None), "", ""))
     for path, theirs in said.items():
         if isinstance(theirs, (dict, list)) and theirs:
             continue
@@ -376,15 +372,12 @@ def compare_files(rows, source, files, links, who, report):
             report.says(agrees(row, both, ours, world), source, field, whose, both, ours)
 
 
-def shown(program, lines, release):
-    return [json.loads(it) for it in answers(program, lines, "--kernel", release)]
-
-
-def compare(rows, dumps, said, files, who, report):
-    """One moment of one kernel: two dumps as they are shown, what ip said, and sysfs and /proc before and after. Of a
+def compare(rows, program, dumps, release, said, files, who, report):
+    """One moment of one kernel: the lines of two dumps, what ip said, and sysfs and /proc before and after. Of a
     message that is refused what stands in front of the fault counts too."""
+    shown = [map(json.loads, answers(program, lines, "--kernel", release)) for lines in dumps]
     first, last = ({it["ifi-index"]: dict(nodes({**it.get("before", {}), **it})) for it in dump if "ifi-index" in it}
-                   for dump in dumps)
+                   for dump in shown)
     links = Links(first, last, {n: it.get("ifname") for n, it in first.items()})
     for link in said:
         compare_link(rows, link, links, f"{who} {link['ifname']}", report)
@@ -400,11 +393,11 @@ def of_folder(program, rows):
         releases.append(report.release)
         for path in sorted(glob.glob(f"{out}/truth-*.json")):
             name = os.path.basename(path)[len("truth-"):-len(".json")]
-            dumps = [shown(program, digits_of(text_of(f"{out}/truth-{name}{end}")), report.release)
-                     for end in (".hex", ".hex2")]
+            dumps = [digits_of(text_of(f"{out}/truth-{name}{end}")) for end in (".hex", ".hex2")]
             files = {source: [of_file(source, f"{out}/{source}-{name}{end}") for end in ("-a.txt", "-b.txt")]
                      for source in ("sysfs", "proc")}
-            compare(rows, dumps, json.loads(text_of(path), strict=False), files, f"{report.release} {name}", report)
+            said = json.loads(text_of(path), strict=False)
+            compare(rows, program, dumps, report.release, said, files, f"{report.release} {name}", report)
         report.show(report.release, releases[-1:])
     if len(releases) > 1:
         report.show("all kernels", releases)
@@ -427,13 +420,12 @@ def live(program, linkdump, rows):
     refused = [it for it in commands if ran("ip", *shlex.split(it)).returncode]
     kinds = sorted(set(re.findall(r"^.*? (?:type|mode) (\w+)", "\n".join(refused), re.M)))
     print("kernel_truth: skipped: live: this kernel or its ip makes none of:", *kinds or ["none"])
-    before, report, release = of_machine(rows), Report(False), os.uname().release
-    first = shown(program, ran(linkdump, "--plain").stdout.decode().split(), release)
-    said = json.loads(ran("ip", "-s", "-s", "-j", "-d", "link", "show").stdout.decode(), strict=False)
-    last = shown(program, ran(linkdump, "--plain").stdout.decode().split(), release)
-    after = of_machine(rows)
+    before, report = of_machine(rows), Report(False)
+    first, said, last = (ran(*words).stdout.decode() for words in (
+        (linkdump, "--plain"), ("ip", "-s", "-s", "-j", "-d", "link", "show"), (linkdump, "--plain")))
+    after, dumps, said = of_machine(rows), (first.split(), last.split()), json.loads(said, strict=False)
     files = {source: (it, after[source]) for source, it in before.items()}
-    links = compare(rows, (first, last), said, files, "here", report)
+    links = compare(rows, program, dumps, os.uname().release, said, files, "here", report)
     if not said or len(said) != len(links.first):
         report.says(False, "ip", "links", "a namespace", len(said), len(links.first))
     found = sorted({it["linkinfo.kind"] for it in links.first.values() if "linkinfo.kind" in it})
