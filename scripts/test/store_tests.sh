@@ -1,6 +1,5 @@
 #!/usr/bin/env bash
-# Runs what docs/STORE.md has, in a network namespace: store_tests.sh LIBRARY [LINKSTATE], where LIBRARY is the shared
-# one.
+# Runs what docs/STORE.md has, in a network namespace: store_tests.sh LIBRARY [LINKSTATE]; LIBRARY is the shared one.
 . "$(dirname "$0")/../common.sh"
 
 # wants WHAT FOUND WANTED
@@ -17,12 +16,6 @@ makes_again() {
 
 sqlite() {
     LINKWIRE=$library PYTHONPATH=$top/python runs python3 -B "$top/examples/store.py" "$folder/links.db" "$@"
-}
-
-# after COMMAND..: one poll
-after() {
-    "$@"
-    sqlite
 }
 
 # rows WHAT [INDEX]: of all, or of a link of AF_UNSPEC
@@ -48,8 +41,7 @@ polls_sqlite() {
     reads steps live/store_steps.txt
     for it in "${steps[@]}"; do
         IFS=, read -r command column link wanted what <<<"$it"
-        # shellcheck disable=SC2086 # a command and its words
-        [ -z "$command" ] || after $command
+        [ -z "$command" ] || { $command && sqlite; }
         [ -z "$what" ] || wants "$what" "$(rows "$column" "${link/veth0/$index}")" "$wanted"
     done
 }
@@ -106,23 +98,18 @@ last_has() {
 }
 
 keeps_news() {
-    local command pattern
+    local it steps
     block STORE.md sh >"$folder/news.sh"
     setsid bash -uo pipefail "$folder/news.sh" "$folder/news" &
     # shellcheck disable=SC2064 # as it is now
     trap "kill -- -$! 2>/dev/null || true" EXIT
     waits 10 test -e "$folder/news/0001000000" || true
-    while IFS=, read -r command pattern; do
-        $command
-        waits 10 last_has "$pattern" ||
-            fails "news: $pattern is not the last: $(cut -c1-60 "$folder"/news/0092100000 2>&1)"
-    done <<'END'
-makes_again, type=new
-ip link set again0 mtu 1400, type=new .*0800040078050000
-ip link del again0, type=del
-makes_again, type=new
-ip link del again0, type=del
-END
+    reads steps live/store_news.txt
+    for it in "${steps[@]}"; do
+        ${it%%,*}
+        waits 10 last_has "${it#*,}" ||
+            fails "news: ${it#*,} is not the last: $(cut -c1-60 "$folder"/news/0092100000 2>&1)"
+    done
     wants 'lines of an index that was used twice, that tell that it went' \
         "$(grep -c ' type=del ' "$folder/news/0092100000")" 2
 }
