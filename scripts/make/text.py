@@ -2,7 +2,6 @@
 the assembly text that the compiler makes of it, as FOLDER/PROCESSOR/NAME.s: text.py FOLDER [JOBS]. What it built for
 x86-64 stays as out/NAME.o, and of a library as out/libNAME.a. JOBS is in how many processes it proves. With
 --by-rattle in the place of FOLDER the toolchain's own compiler makes the library, as out/libNAME.by-rattle.a."""
-
 import importlib.machinery
 import importlib.util
 import itertools

@@ -2,7 +2,6 @@
 
 They are made of the stored messages in bench/messages.txt, and of messages that another may send to make a program
 slow. Nothing is left to chance, so that they are the same each time."""
-
 import collections
 import os
 import struct

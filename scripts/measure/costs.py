@@ -7,7 +7,6 @@ with those of tests/costs.txt.
 
 A ROW is WHAT/WORKLOAD, as linkwire/dumps; with none all are counted. --texts FOLDER counts over other texts than those
 in dist/x86_64, and --rows FILE compares with other rows. JOBS in the environment is how many runs go side by side."""
-
 import argparse
 import concurrent.futures
 import glob
@@ -113,13 +112,6 @@ def count(folder, what, workload, own):
     return [round(it / number, 2) for it in taken[:OF_A_LINE]] + taken[OF_A_LINE:]
 
 
-def all_rows(workloads):
-    """What is counted, each with its workload."""
-    groups = itertools.groupby(RUNS, lambda it: (it[0], it[2] == CRATE))
-    return [(what, workload) for (listed, _), group in groups for names in [[what for _, what, *_ in group]]
-            for workload in (workloads if listed == "all" else listed.split()) for what in names]
-
-
 def counted(texts, workloads, rows):
     """The numbers of these rows, several side by side."""
     jobs = int(os.environ.get("JOBS", len(os.sched_getaffinity(0))))
@@ -195,7 +187,10 @@ def main():
             stop(f"dist/ has other texts than those of the sources ({' '.join(unfit)}): make dist makes them anew")
     workloads = cost_lines.workloads()
     wanted = {tuple(row.split("/")) for row in asked.wanted}
-    rows = [row for row in all_rows(workloads) if not wanted or row in wanted]
+    groups = itertools.groupby(RUNS, lambda it: (it[0], it[2] == CRATE))
+    rows = [(what, workload) for (listed, _), group in groups for names in [[what for _, what, *_ in group]]
+            for workload in (workloads if listed == "all" else listed.split()) for what in names
+            if not wanted or (what, workload) in wanted]
     if wanted - set(rows):
         stop(f"no such row: {', '.join(map('/'.join, sorted(wanted - set(rows))))}")
     here = versions()

@@ -3,7 +3,6 @@
 and each that names the toolchain with dist/SUMS. The places are those of versions.txt.
 
     python3 scripts/release/version.py"""
-
 import fnmatch
 import os
 import re

@@ -3,7 +3,6 @@
 byte for byte. By ARCHIVE tests/c/shown.c is built.
 
     python3 scripts/test/call_answers.py ARCHIVE LINKSHOW LINKDIFF"""
-
 import os
 import random
 import re

@@ -4,7 +4,6 @@
     python3 scripts/test/damaged.py FOLDER              FOLDER has linkwire, linkstate and linkshow
     python3 scripts/test/damaged.py --write FILE LINES  so many lines of bench/make_lines.py, each damaged, and after
                                                         them every tenth as it was"""
-
 import glob
 import json
 import random

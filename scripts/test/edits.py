@@ -5,7 +5,6 @@
     python3 scripts/test/edits.py --fit                             which edits, or lines of the table, do not fit
     python3 scripts/test/edits.py --table                           makes the table of edits/README.md
     python3 scripts/test/edits.py --apply FILE.edit CRATE           makes an edit in the folder of a crate"""
-
 import re
 import sys
 from pathlib import Path

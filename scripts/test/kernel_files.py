@@ -1,5 +1,4 @@
 """What the kernel's files say, for kernel_tables.py: its headers, rt_link.yaml, and code that writes and reads rows."""
-
 import functools
 import re
 import subprocess

@@ -3,7 +3,6 @@
 
     python3 scripts/test/kernel_messages.py            runs the programs of out/, and compares
     python3 scripts/test/kernel_messages.py --write    stores what they answer"""
-
 import os
 import re
 import sys

@@ -1,5 +1,4 @@
 """Reads kernel_names.txt, for kernel_tables.py."""
-
 from collections import defaultdict, namedtuple
 
 from shared import table

@@ -1,6 +1,5 @@
 """What the repository says, for kernel_tables.py: the tables of link_headline and the records and values below them, as
 tests/second reads them, the rows of link_info, and the numbers of the constants."""
-
 import os
 import re
 import sys

@@ -1,7 +1,6 @@
 """The tables of frame_shown, in which a name and a form that linkshow shows stand once, beside the specs, for
 kernel_tables.py: number, name and form of each attribute, names of flags and values, fields of records. A number that
 no spec has is kept, and its name stands beside the kernel's headers."""
-
 import ast
 import fnmatch
 import re

@@ -1,7 +1,6 @@
 """Compares the numbers, names, sizes and orders of fields of this repository, and which attributes are lists, with the
 files of the kernel. It fails on a difference for which kernel_names.txt has no reason; what is newer than the files is
 told, and is no difference."""
-
 import argparse
 import fnmatch
 import json

@@ -6,7 +6,6 @@
 
 With --live the kernel at hand is asked, in a network namespace, and what has no row is let be. Each list of ip has as
 many members as ours. Fields that are not covered are counted and named, each below its reason."""
-
 import glob
 import ipaddress
 import json

@@ -82,14 +82,6 @@ def of_linkdiff():
     return walk(STARTS, lambda module, name: not module.startswith(OURS) or (module, name) in SAID)
 
 
-def count(found, page):
-    """Holds the sentences of the page that count something to what is found, and returns them."""
-    files = {module for module, _ in found}
-    counted = f"{size(found)} in {len(files)} files", f"quotes {quotes(page, found)} of them as they stand"
-    hold_words(fails, page, [*counted, *(f"`{file.split('.')[-1]}.antt`" for file in sorted(files))])
-    return "; ".join(counted)
-
-
 def quotes(page, found):
     """How many definitions the page quotes, each as it stands in its file, comments aside."""
     texts = {}
@@ -141,20 +133,15 @@ def runs(linkdiff, words, lines):
     return out
 
 
-def runs_files(linkdiff, lines):
-    """What is told of two files, in one list."""
-    middle = lines.index("NEW")
-    with tempfile.TemporaryDirectory() as folder:
-        for name, part in ("OLD", lines[1:middle]), ("NEW", lines[middle + 1:]):
-            Path(folder, name).write_bytes(joined(map(spelled, part)))
-        return [[told(it) for it in said(linkdiff, [], f"{folder}/OLD", f"{folder}/NEW")]]
-
-
 def hold(linkdiff, words, lines):
     """Looks whether the program tells of these lines what stands behind their arrows; returns how many they are."""
     given, arrows, wanted = zip(*(map(str.strip, it.partition("->")) for it in lines))
     if "OLD" in words:
-        found = runs_files(linkdiff, given[:-1])
+        middle = given.index("NEW")
+        with tempfile.TemporaryDirectory() as folder:
+            for name, part in ("OLD", given[1:middle]), ("NEW", given[middle + 1:-1]):
+                Path(folder, name).write_bytes(joined(map(spelled, part)))
+            found = [[told(it) for it in said(linkdiff, [], f"{folder}/OLD", f"{folder}/NEW")]]
         given, arrows, wanted = ["two files"], arrows[-1:], wanted[-1:]
     else:
         found = runs(linkdiff, words, given)
@@ -177,8 +164,11 @@ def streams(linkdiff, page):
 
 
 def main(linkdiff="out/linkdiff"):
-    page = read(PAGE)
-    print(f"linkdiff page: {count(of_linkdiff(), page)}")
+    page, found = read(PAGE), of_linkdiff()
+    files = {module for module, _ in found}
+    counted = f"{size(found)} in {len(files)} files", f"quotes {quotes(page, found)} of them as they stand"
+    hold_words(fails, page, [*counted, *(f"`{file.split('.')[-1]}.antt`" for file in sorted(files))])
+    print(f"linkdiff page: {'; '.join(counted)}")
     held = streams(linkdiff, page)
     print(f"linkdiff page: {held} lines of {len(STREAM.findall(page))} streams\nlinkdiff page: ok")
 

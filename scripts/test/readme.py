@@ -4,7 +4,6 @@
 
 LIBRARY is the static one, and the folders are those of the programs; without them it is what 'make build lib' left in
 out/. The last line is 'readme: ok'."""
-
 import glob
 import os
 import re
@@ -132,9 +131,10 @@ class Page:
                 self.fails(f"'{command}' is neither run nor listed as not run")
         for command in sorted(set(self.listed) - found):
             self.fails(f"'{command}' is listed as not run, and stands nowhere")
+        targets = re.findall(r"^([a-z-]+):", self.output("make -s help"), re.M)
         for command in found:
             target = re.match(r"make ([a-z-]+)", command)
-            if target and target[1] not in targets():
+            if target and target[1] not in targets:
                 self.fails(f"'{command}' names no target of make")
         self.counts["not run"] += len(self.listed)
 
@@ -143,11 +143,6 @@ def plain(shown):
     """The text of a block of a manual page."""
     letters = {"\\-": "-", "\\(dq": '"', "\\(aq": "'", "\\(->": "→", "\\e": "\\"}
     return re.sub(r"\\(?:\(..|.)", lambda it: letters.get(it[0], it[0]), shown)
-
-
-def targets():
-    found = subprocess.run(["make", "-s", "help"], cwd=TOP, check=True, capture_output=True, text=True, timeout=60)
-    return set(re.findall(r"^([a-z-]+):", found.stdout, re.M))
 
 
 def namespace():

@@ -1,5 +1,4 @@
 """What several scripts do: run a program over lines, compare its answers, cut messages into frames, unpack kernels."""
-
 import glob
 import os
 import re

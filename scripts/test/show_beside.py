@@ -2,7 +2,6 @@
 """Compares what linkshow says of lines with what is shown of them where their values are read and written again.
 
     python3 scripts/test/show_beside.py BESIDE LINKSHOW"""
-
 import random
 import sys
 

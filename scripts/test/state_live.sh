@@ -66,14 +66,6 @@ starts() {
     waits 30 has_all "$1" || fails "linkdump --monitor${2:+ ${*:2}} | linkdiff does not tell the links that are there"
 }
 
-# announced INDEX WHAT: whether linkdump --monitor | linkdiff has it once it has a change of lo that was made later
-announced() {
-    later=$((later + 1))
-    ip link set lo txqueuelen "$later"
-    waits 30 tells news 1 "txqlen=$later" || fails 'linkdump --monitor | linkdiff does not tell of lo'
-    tells news "$1" "$2"
-}
-
 # hears INDEX WHAT COMMAND: until both have a line of the change, the one only where the kernel announces it
 hears() {
     local is_news=''
@@ -82,7 +74,11 @@ hears() {
         cat "$folder/polled" >&2
         fails "linkdump --monitor --every 0.5 | linkdiff has no $2 of the link $1 after: $3"
     fi
-    [ -n "$is_news" ] || announced "$1" "$2" || dumped+=("$3")
+    [ -z "$is_news" ] || return 0
+    # whether the one has it, once it has a change of lo that was made later
+    ip link set lo txqueuelen "$((++later))"
+    waits 30 tells news 1 "txqlen=$later" || fails 'linkdump --monitor | linkdiff does not tell of lo'
+    tells news "$1" "$2" || dumped+=("$3")
 }
 
 # sends what veth0 and its peer, a bridge and lo count

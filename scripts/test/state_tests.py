@@ -2,7 +2,6 @@
 """Holds linkstate to what kernels sent, and to lines with words in front, by the second reader of tests/second.
 
     [KERNELS=FOLDER] python3 scripts/test/state_tests.py LINKSTATE"""
-
 import random
 import re
 import sys

@@ -5,7 +5,6 @@
 
 Lines and answers of which some record ends within a number are left out: filled up with zeros it is another number in
 either order. The last line says how many are kept."""
-
 import sys
 from pathlib import Path
 
