@@ -67,15 +67,9 @@ MAKES = {
     "paths": by(lambda s: paths.paths(s, "line_filter", [], is_program=False, is_crate=False)),
 }
 
-
-def main():
-    forms = FORM.findall(Path(__file__).with_name("forms.txt").read_text("utf-8"))
-    wrong = [(text, it) for what, text, wanted in forms for it in [said(MAKES[what], text)] if it != wanted]
-    if wrong:
-        return "\n".join(f"{text}made into:\n{it}" for text, it in wrong)
-    counts = Counter(what for what, _, _ in forms)
-    return print(f"erase: forms as in forms.txt: {', '.join(f'{n} {what}' for what, n in counts.items())}")
-
-
-if __name__ == "__main__":
-    sys.exit(main())
+forms = FORM.findall(Path(__file__).with_name("forms.txt").read_text("utf-8"))
+wrong = [(text, it) for what, text, wanted in forms for it in [said(MAKES[what], text)] if it != wanted]
+if wrong:
+    sys.exit("\n".join(f"{text}made into:\n{it}" for text, it in wrong))
+counts = Counter(what for what, _, _ in forms)
+print(f"erase: forms as in forms.txt: {', '.join(f'{n} {what}' for what, n in counts.items())}")

@@ -19,22 +19,16 @@ PLACES = [(files, constant, re.compile(form, re.M))
 ANYWHERE = re.compile(r"\blink(?:wire|show|state|dump|diff|watch)[ -]v?(\d+\.\d+\.\d+)")
 OLDER = {"CHANGELOG.md", "docs/DECISIONS.md"}
 
-
-def main():
-    wanted = dict(re.findall(r'^#define LINKWIRE_(\w+) "?([\d.]+)"?$', read(HEADER), re.M))
-    wanted["TOOLCHAIN"] = re.search(r"^# toolchain (.*)$", read(SUMS), re.M)[1]
-    listed = subprocess.run(["git", "ls-files"], cwd=TOP, check=True, capture_output=True, text=True, timeout=60).stdout
-    texts = {it: read(it) for it in listed.splitlines() if os.path.isfile(f"{TOP}/{it}") and not it.endswith(".s")}
-    places = [(file, constant, form.findall(texts.get(file, "")) or ["none"])
-              for files, constant, form in PLACES for file in fnmatch.filter(texts, files) or [files]]
-    places += [(file, "VERSION", ANYWHERE.findall(text)) for file, text in texts.items() if file not in OLDER]
-    wrong = {f"{file}: {constant} is {it}, not {wanted[constant]}"
-             for file, constant, found in places for it in found if it != wanted[constant]}
-    if wrong:
-        return "\n".join(sorted(wrong))
-    count = sum(len(found) for *_, found in places)
-    return print(f"version: {count} places are as {HEADER} and {SUMS} have it: {wanted['VERSION']}")
-
-
-if __name__ == "__main__":
-    sys.exit(main())
+wanted = dict(re.findall(r'^#define LINKWIRE_(\w+) "?([\d.]+)"?$', read(HEADER), re.M))
+wanted["TOOLCHAIN"] = re.search(r"^# toolchain (.*)$", read(SUMS), re.M)[1]
+listed = subprocess.run(["git", "ls-files"], cwd=TOP, check=True, capture_output=True, text=True, timeout=60).stdout
+texts = {it: read(it) for it in listed.splitlines() if os.path.isfile(f"{TOP}/{it}") and not it.endswith(".s")}
+places = [(file, constant, form.findall(texts.get(file, "")) or ["none"])
+          for files, constant, form in PLACES for file in fnmatch.filter(texts, files) or [files]]
+places += [(file, "VERSION", ANYWHERE.findall(text)) for file, text in texts.items() if file not in OLDER]
+wrong = {f"{file}: {constant} is {it}, not {wanted[constant]}"
+         for file, constant, found in places for it in found if it != wanted[constant]}
+if wrong:
+    sys.exit("\n".join(sorted(wrong)))
+count = sum(len(found) for *_, found in places)
+print(f"version: {count} places are as {HEADER} and {SUMS} have it: {wanted['VERSION']}")

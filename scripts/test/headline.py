@@ -95,17 +95,6 @@ def hold_words(fails, page, sentences):
             fails(f"it does not say '{it}'")
 
 
-def counts():
-    """The sentences of the page that count something."""
-    found = of_headline()
-    listed = {it: lines for it, lines in found.items() if it[0].split(".")[0] in LISTS}
-    rest = {it: lines for it, lines in found.items() if it not in listed}
-    numbers = {it: len(re.findall(r"^pub const \w+: u16 = ", read(f"crates/{it}/src/numbers.rt"), re.M))
-               for it in NUMBERS}
-    return [f"{size(rest)} in {len({module for module, _ in rest})} files", size(listed),
-            f"{sum(numbers.values())} constants ({', '.join(f'{n} of `{it}`' for it, n in numbers.items())})"]
-
-
 def spelled(text):
     """The hexadecimal digits that an example stands for."""
     text = text.replace("H", "00" * 16)
@@ -138,7 +127,13 @@ def show(found):
 
 
 def main(linkwire="out/linkwire", linkshow="out/linkshow"):
-    page, counted = read(PAGE), counts()
+    page, found = read(PAGE), of_headline()
+    listed = {it: lines for it, lines in found.items() if it[0].split(".")[0] in LISTS}
+    rest = {it: lines for it, lines in found.items() if it not in listed}
+    numbers = {it: len(re.findall(r"^pub const \w+: u16 = ", read(f"crates/{it}/src/numbers.rt"), re.M))
+               for it in NUMBERS}
+    counted = [f"{size(rest)} in {len({module for module, _ in rest})} files", size(listed),
+               f"{sum(numbers.values())} constants ({', '.join(f'{n} of `{it}`' for it, n in numbers.items())})"]
     hold_words(fails, page, counted)
     lines = [it for block in BLOCK.findall(page) for it in block.replace("->\n", "->").splitlines()
              if it and it[0] != "#"]

@@ -80,12 +80,11 @@ def message(data):
     return reversed_at(data[:16], HEADER) + frames(second.top(data), levels, data[16:])
 
 
-def line(text):
-    return message(bytes.fromhex(text.decode())).hex().encode() if text and second.is_hex(text) else text
-
-
-def answer(text):
-    return b"ok " + line(text[3:]) if text.startswith(b"ok ") else text
+def turned(text):
+    """A line, or an answer."""
+    front, digits = (b"ok ", text[3:]) if text.startswith(b"ok ") else (b"", text)
+    is_message = digits and second.is_hex(digits)
+    return front + message(bytes.fromhex(digits.decode())).hex().encode() if is_message else text
 
 
 def main():
@@ -95,7 +94,7 @@ def main():
     kept = []
     for one, other in zip(lines, answers):
         try:
-            kept.append((line(one), answer(other)))
+            kept.append((turned(one), turned(other)))
         except Ends:
             continue
     for name, column in zip(sys.argv[3:5], zip(*kept)):
