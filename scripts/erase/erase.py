@@ -58,8 +58,7 @@ def below(crates, names):
 
 
 class Mode:
-    """What is made: the crate; or the library for C or the package of the tests, which keep Rattle's calls as they are.
-    """
+    """What is made: the crate; or the library for C or the package of the tests, which keep Rattle's calls."""
 
     def __init__(self, made):
         crates = {name: libraries.split() for name, libraries in
@@ -182,7 +181,6 @@ def copy_std(mode, out):
 
 
 def make_all(mode, out):
-    """All files of a package that are made."""
     for folder in ("src" if mode.is_tests else "src/generated", "runs"):
         shutil.rmtree(out / folder, ignore_errors=True)
     (copy_tests if mode.is_tests else copy_std)(mode, out)
@@ -221,7 +219,6 @@ def files(folder):
 
 
 def compare(mode, out):
-    """Looks that the made files are those that stand there."""
     with tempfile.TemporaryDirectory() as made:
         make_all(mode, Path(made))
         there, here = files(out), files(Path(made))

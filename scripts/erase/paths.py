@@ -66,7 +66,6 @@ def paths(s, crate, crates, is_program, is_crate):
 
 
 def ours(s, is_program, is_crate):
-    """The imports of what is ours."""
     found = {}
     for what, there in TABLES["ours"] + TABLES["ours_of_crate" if is_crate else "ours_of_tests"]:
         module, _, name = what.partition(" ")

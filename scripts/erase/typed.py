@@ -39,8 +39,7 @@ def read(name, crate=CRATE):
 
 
 def constants(text):
-    """The constants of a source: name, type, and the value as Python has it, `Style::Plain(..)` and its like as tuples.
-    """
+    """The constants of a source: name, type, and the value as Python has it, `Style::Plain(..)` as a tuple."""
     text = re.sub(r"//.*", "", text).replace("&[", "[")
     text = re.sub(r"Size::(\w+)", lambda it: str(SIZES[it[1]]), text)
     text = re.sub(r"Place::(\w+)", r'"\1"', text)
@@ -187,7 +186,6 @@ class Maker:
         return form("place", [front, *self.rows_of(place, lambda kind, _: kind)], doc(words))
 
     def make(self):
-        """The module of the types."""
         enums = [self.place(place) for place in self.places]
         TYPES[None, None] = "CanDeviceStats"
         self.payload(None, None, ("Record", self.rows["can", "CAN_STATS"]))

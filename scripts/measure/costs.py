@@ -50,10 +50,8 @@ def stop(why):
 
 
 def link(texts, folder, names):
-    """Builds these programs, and `calls` of the library, with what counts, and returns the functions of each text.
-
-    The C library is linked as it is by default, that is dynamically: the requests of a static one would count too.
-    """
+    """Builds these programs, and `calls` of the library, with what counts, and returns the functions of each text. The
+    C library is linked as it is by default, that is dynamically: the requests of a static one would count too."""
     own = {}
     # without -fno-builtin a compiler may make calls of memcpy here, or leave some out
     for source in (f"{HERE}/count.c", f"{HERE}/calls.c", f"{TOP}/dist/heap.c", f"{TOP}/dist/errno.c"):

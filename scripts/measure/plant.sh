@@ -1,13 +1,8 @@
 #!/usr/bin/env bash
-# Lists wrong bodies that a crate's contracts let through, by `rt plant`: plant.sh [--minutes N] [CRATE..]. Without
-# names it takes every crate with contracts. Bodies that the time did not reach are counted there as not run.
+# Lists wrong bodies that a crate's contracts let through, by `rt plant`: [MINUTES=N] plant.sh [CRATE..]. Without names
+# it takes every crate with contracts. Bodies that the time did not reach are counted there as not run.
 . "$(dirname "$0")/../common.sh"
-minutes=10
-if [ "${1:-}" = --minutes ]; then
-    minutes=$2
-    shift 2
-fi
-crates=("$@")
+minutes=${MINUTES:-10} crates=("$@")
 [ "${#crates[@]}" != 0 ] || crates=(nla_wire link_{vals,recs,vfrec,nest,vf,afspec,msg,state,info,c} line_filter
     message_lines shown message_{shown,diff} expected link{wire,state,show,diff})
 for crate in "${crates[@]}"; do

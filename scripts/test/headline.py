@@ -88,7 +88,6 @@ def size(found):
 
 
 def hold_words(fails, page, sentences):
-    """Looks whether the page says these."""
     plain = " ".join(page.split())
     for it in sentences:
         if it not in plain:

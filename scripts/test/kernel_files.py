@@ -111,8 +111,6 @@ def type_of(it):
 
 
 class Kernel:
-    """What the kernel's files say."""
-
     def __init__(self, path):
         with tempfile.TemporaryDirectory() as folder:
             if Path(path).is_file():

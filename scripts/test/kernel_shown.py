@@ -70,7 +70,6 @@ def compare_names(kind, rows, ours, report):
 
 
 def compare_shown(ours, headers, report):
-    """All of it."""
     known = dict(ROWS["shown"])
     found = dict(tables(ours.code(NAMES)))
     del found["KERNEL_NAMES"]   # those of MESSAGE in another spelling, as the proof says

@@ -217,7 +217,6 @@ class Report:
         return row if row and row.ours != "-" else None
 
     def show(self, name, releases):
-        """Prints counts by source."""
         for source in ("ip", "sysfs", "proc"):
             right, wrong, left = (sum((self.found[release, source, outcome] for release in releases), Counter())
                                   for outcome in ("right", "wrong", "left"))
@@ -261,7 +260,6 @@ def label(place, field):
 
 
 def compare_link(rows, link, links, who, report):
-    """Each value of ip's object of one link."""
     first, last = (it.get(link["ifindex"]) for it in (links.first, links.last))
     if first is None or last is None:
         return report.says(False, "ip", "ifindex", who, link["ifindex"], "not in both dumps")
@@ -386,7 +384,6 @@ def compare(rows, program, dumps, release, said, files, who, report):
 
 
 def of_folder(program, rows):
-    """Each moment of each kernel of the folder."""
     report, releases = Report(True), []
     for report.release, out in kernels("kernel_truth"):
         releases.append(report.release)

@@ -154,7 +154,6 @@ def hold(linkdiff, words, lines):
 
 
 def streams(linkdiff, page):
-    """Runs each stream; returns how many lines were held."""
     held = 0
     for block in STREAM.findall(page):
         lines = "\n".join(it for it in block.splitlines() if it and it[0] != "#")

@@ -39,7 +39,6 @@ def pages(folder):
 
 
 def items(folder):
-    """The items as lines."""
     lines = []
     for kind, path, text in pages(folder):
         names, traits = parts(text)
