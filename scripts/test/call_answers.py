@@ -99,22 +99,18 @@ def compare_told(call, program, pairs):
     return count
 
 
-def main(archive, linkshow, linkdiff):
-    lines = [it.lower() for file in FILES for it in DIGITS.findall(read(file)) if len(it) <= LONGEST]
-    chance = random.Random(58)
-    more = [damaged_bytes(chance, line) for line in lines for _ in range(DAMAGED)]
-    with tempfile.TemporaryDirectory() as folder:
-        call = f"{folder}/shown"
-        cc = os.environ.get("CC", "cc").split()
-        subprocess.run([*cc, "-std=c11", "-O1", f"-I{TOP}/include", "-o", call, f"{TOP}/tests/c/shown.c", archive],
-                       check=True)
-        shown = compare_shown(call, linkshow, lines + more)
-        print(f"call_answers: {len(lines)} messages, {len(more)} damaged ones: {shown} answers are linkshow's")
-        pairs = pairs_of(lines, chance)
-        changes = compare_told(call, linkdiff, pairs)
-    print(f"call_answers: {len(pairs)} pairs: {changes} lists of changes are linkdiff's")
-    print("call_answers: ok")
-
-
-if __name__ == "__main__":
-    main(*sys.argv[1:])
+archive, linkshow, linkdiff = sys.argv[1:]
+lines = [it.lower() for file in FILES for it in DIGITS.findall(read(file)) if len(it) <= LONGEST]
+chance = random.Random(58)
+more = [damaged_bytes(chance, line) for line in lines for _ in range(DAMAGED)]
+with tempfile.TemporaryDirectory() as folder:
+    call = f"{folder}/shown"
+    cc = os.environ.get("CC", "cc").split()
+    subprocess.run([*cc, "-std=c11", "-O1", f"-I{TOP}/include", "-o", call, f"{TOP}/tests/c/shown.c", archive],
+                   check=True)
+    shown = compare_shown(call, linkshow, lines + more)
+    print(f"call_answers: {len(lines)} messages, {len(more)} damaged ones: {shown} answers are linkshow's")
+    pairs = pairs_of(lines, chance)
+    changes = compare_told(call, linkdiff, pairs)
+print(f"call_answers: {len(pairs)} pairs: {changes} lists of changes are linkdiff's")
+print("call_answers: ok")

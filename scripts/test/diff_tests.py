@@ -78,24 +78,20 @@ def changed(linkdiff, linkshow, messages, *options):
     return sum(b'"change":"changed"' in it for it in found)
 
 
-def main(linkdiff, linkshow):
-    rng, stored = random.Random(7), pairs()
-    compare_words(linkdiff, linkshow)
-    if changed(linkdiff, linkshow, [pair for _, *pair in stored]):
-        sys.exit("diff_tests: a pair of one state changed, and nobody touched it")
-    moved = changed(linkdiff, linkshow, [pair for _, *pair in stored], "--counters")
-    if changed(linkdiff, linkshow, [(one, one) for _, one, _ in stored], "--counters"):
-        sys.exit("diff_tests: a message changed beside itself")
-    print(f"diff_tests: {len(stored)} pairs of one state, of which nothing is told; with --counters {moved} differ")
-    made = [(one, altered(rng, other)) for _, one, other in rng.choices(stored, k=COUNT)]
-    refused = [(spoilt(rng, one), spoilt(rng, rng.choice([one, other]))) for one, other in made]
-    lists = [(with_addresses(rng), with_addresses(rng)) for _ in range(COUNT)]
-    for messages, what, ways in ((made, "altered messages", WAYS), (lists, "messages with lists", WAYS),
-                                 (refused, "messages with refused attributes", WAYS[2:])):
-        for options in ways:
-            different = changed(linkdiff, linkshow, messages, *options)
-            print(f"diff_tests: {' '.join([*options, str(COUNT)])} {what}, of which {different} differ: ok")
-
-
-if __name__ == "__main__":
-    main(*sys.argv[1:])
+linkdiff, linkshow = sys.argv[1:]
+rng, stored = random.Random(7), pairs()
+compare_words(linkdiff, linkshow)
+if changed(linkdiff, linkshow, [pair for _, *pair in stored]):
+    sys.exit("diff_tests: a pair of one state changed, and nobody touched it")
+moved = changed(linkdiff, linkshow, [pair for _, *pair in stored], "--counters")
+if changed(linkdiff, linkshow, [(one, one) for _, one, _ in stored], "--counters"):
+    sys.exit("diff_tests: a message changed beside itself")
+print(f"diff_tests: {len(stored)} pairs of one state, of which nothing is told; with --counters {moved} differ")
+made = [(one, altered(rng, other)) for _, one, other in rng.choices(stored, k=COUNT)]
+refused = [(spoilt(rng, one), spoilt(rng, rng.choice([one, other]))) for one, other in made]
+lists = [(with_addresses(rng), with_addresses(rng)) for _ in range(COUNT)]
+for messages, what, ways in ((made, "altered messages", WAYS), (lists, "messages with lists", WAYS),
+                             (refused, "messages with refused attributes", WAYS[2:])):
+    for options in ways:
+        different = changed(linkdiff, linkshow, messages, *options)
+        print(f"diff_tests: {' '.join([*options, str(COUNT)])} {what}, of which {different} differ: ok")

@@ -26,21 +26,17 @@ def wanted_of(shown):
     return accepted + b"}" if comma else shown
 
 
-def main(beside, show):
-    chance = random.Random(3)
-    whole = sources() + [digits for _, digits in messages()] + LONG + made(MADE_LINES)
-    lines = whole + [damaged(chance, line) for line in whole for _ in range(2 if len(line) < 20_000 else 1)]
-    # linkshow takes what stands in front of a blank as words
-    lines = [line for line in lines if " " not in line and "=" not in line]
-    refused = 0
-    for ours, theirs in WAYS:
-        shown = answers(show, lines, *theirs)
-        wanted = [wanted_of(answer) for answer in shown]
-        compare(f"show_beside: {' '.join(ours)}", lines, answers(beside, lines, *ours), wanted)
-        refused = max(refused, sum(answer.startswith(b'{"fault":') for answer in wanted))
-    print(f"show_beside: {len(lines)} lines, of which {refused} are no messages, in each of {len(WAYS)} ways")
-    print("show_beside: ok")
-
-
-if __name__ == "__main__":
-    main(*sys.argv[1:])
+beside, show = sys.argv[1:]
+chance = random.Random(3)
+whole = sources() + [digits for _, digits in messages()] + LONG + made(MADE_LINES)
+lines = whole + [damaged(chance, line) for line in whole for _ in range(2 if len(line) < 20_000 else 1)]
+# linkshow takes what stands in front of a blank as words
+lines = [line for line in lines if " " not in line and "=" not in line]
+refused = 0
+for ours, theirs in WAYS:
+    shown = answers(show, lines, *theirs)
+    wanted = [wanted_of(answer) for answer in shown]
+    compare(f"show_beside: {' '.join(ours)}", lines, answers(beside, lines, *ours), wanted)
+    refused = max(refused, sum(answer.startswith(b'{"fault":') for answer in wanted))
+print(f"show_beside: {len(lines)} lines, of which {refused} are no messages, in each of {len(WAYS)} ways")
+print("show_beside: ok")

@@ -145,22 +145,16 @@ def look_at_linkdump(program, size):
 LOOKS = {"linkwire": look_at_linkwire, "linkstate": look_at_linkstate, "linkshow": look_at_linkshow,
          "linkdiff": look_at_linkdiff}
 
-
-def main():
-    path = os.pathsep.join(map(os.path.abspath, sys.argv[1:]))
-    programs = {it: shutil.which(it, path=path) or sys.exit(f"sizes: no {it} in {path}") for it in [*LOOKS, "linkdump"]}
-    if not all(look_at_linkdump(programs["linkdump"], size) for size in PACKETS):
-        print("sizes: linkdump: skipped: it is built without libpcap")
-    look_at_growth(programs["linkdiff"])
-    seconds = Counter()
-    for size in SIZES.values():
-        made = Made(size)
-        for name, look in LOOKS.items():
-            start = time.monotonic()
-            look(programs, made, size)
-            seconds[name] += time.monotonic() - start
-    print(f"sizes: {', '.join(SIZES)}: {', '.join(f'{it} {seconds[it]:.0f} s' for it in LOOKS)}: ok")
-
-
-if __name__ == "__main__":
-    main()
+path = os.pathsep.join(map(os.path.abspath, sys.argv[1:]))
+programs = {it: shutil.which(it, path=path) or sys.exit(f"sizes: no {it} in {path}") for it in [*LOOKS, "linkdump"]}
+if not all(look_at_linkdump(programs["linkdump"], size) for size in PACKETS):
+    print("sizes: linkdump: skipped: it is built without libpcap")
+look_at_growth(programs["linkdiff"])
+seconds = Counter()
+for size in SIZES.values():
+    made = Made(size)
+    for name, look in LOOKS.items():
+        start = time.monotonic()
+        look(programs, made, size)
+        seconds[name] += time.monotonic() - start
+print(f"sizes: {', '.join(SIZES)}: {', '.join(f'{it} {seconds[it]:.0f} s' for it in LOOKS)}: ok")

@@ -72,25 +72,20 @@ def has_asked(name, first, second):
     return [(at, a ^ b) for at, (a, b) in enumerate(both) if a != b] == [ASKED.get(name)]
 
 
-def main(linkstate):
-    chance, found = random.Random(2), pairs()
-    lines = sources() + [it.hex() for _, *pair in found for it in pair]
-    _, with_words = stated(linkstate, [worded(chance, line) for line in lines for _ in range(20)])
-    wrong = [name for name, (first, second) in states(linkstate, found).items()
-             if first != second or not first.startswith(b"ok ")]
-    if wrong:
-        sys.exit(f"state_tests: two states, or a refusal: {wrong}")
-    print(f"state_tests: {with_words} lines with words; {len(found)} pairs of one state")
-    for release, out in kernels("state_tests"):
-        found = states(linkstate, pairs_of(release, out))
-        moved = {name: pair for name, pair in found.items() if pair[0] != pair[1]}
-        wrong = [name for name, pair in moved.items() if not has_asked(name, *pair)]
-        if wrong or not found:
-            sys.exit(f"state_tests: kernel {release}: {len(found)} pairs; of two states, or refused once: {wrong}")
-        print(f"state_tests: kernel {release}: {len(found)} pairs, {list(found.values()).count((b'refused',) * 2)} "
-              f"refused twice, the others of one state; two where an interface asked for routers: "
-              f"{', '.join(moved) or 'none'}")
-
-
-if __name__ == "__main__":
-    main(*sys.argv[1:])
+linkstate, chance, found = sys.argv[1], random.Random(2), pairs()
+lines = sources() + [it.hex() for _, *pair in found for it in pair]
+_, with_words = stated(linkstate, [worded(chance, line) for line in lines for _ in range(20)])
+wrong = [name for name, (first, second) in states(linkstate, found).items()
+         if first != second or not first.startswith(b"ok ")]
+if wrong:
+    sys.exit(f"state_tests: two states, or a refusal: {wrong}")
+print(f"state_tests: {with_words} lines with words; {len(found)} pairs of one state")
+for release, out in kernels("state_tests"):
+    found = states(linkstate, pairs_of(release, out))
+    moved = {name: pair for name, pair in found.items() if pair[0] != pair[1]}
+    wrong = [name for name, pair in moved.items() if not has_asked(name, *pair)]
+    if wrong or not found:
+        sys.exit(f"state_tests: kernel {release}: {len(found)} pairs; of two states, or refused once: {wrong}")
+    print(f"state_tests: kernel {release}: {len(found)} pairs, {list(found.values()).count((b'refused',) * 2)} "
+          f"refused twice, the others of one state; two where an interface asked for routers: "
+          f"{', '.join(moved) or 'none'}")

@@ -87,20 +87,15 @@ def turned(text):
     return front + message(bytes.fromhex(digits.decode())).hex().encode() if is_message else text
 
 
-def main():
-    lines, answers = (Path(name).read_bytes().split(b"\n")[:-1] for name in sys.argv[1:3])
-    if len(lines) != len(answers):
-        sys.exit("turned: there are not as many answers as lines")
-    kept = []
-    for one, other in zip(lines, answers):
-        try:
-            kept.append((turned(one), turned(other)))
-        except Ends:
-            continue
-    for name, column in zip(sys.argv[3:5], zip(*kept)):
-        Path(name).write_bytes(joined(column))
-    print(f"{len(kept)} of {len(lines)} lines")
-
-
-if __name__ == "__main__":
-    main()
+lines, answers = (Path(name).read_bytes().split(b"\n")[:-1] for name in sys.argv[1:3])
+if len(lines) != len(answers):
+    sys.exit("turned: there are not as many answers as lines")
+kept = []
+for one, other in zip(lines, answers):
+    try:
+        kept.append((turned(one), turned(other)))
+    except Ends:
+        continue
+for name, column in zip(sys.argv[3:5], zip(*kept)):
+    Path(name).write_bytes(joined(column))
+print(f"{len(kept)} of {len(lines)} lines")
