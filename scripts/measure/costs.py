@@ -208,5 +208,4 @@ def main():
     return print(f"costs: {len(now)} rows hold{tail}")
 
 
-if __name__ == "__main__":
-    main()
+main()

@@ -3,6 +3,7 @@
 byte for byte. By ARCHIVE tests/c/shown.c is built.
 
     python3 scripts/test/call_answers.py ARCHIVE LINKSHOW LINKDIFF"""
+import itertools
 import os
 import random
 import re
@@ -31,14 +32,6 @@ OTHER = "another interface"
 
 def options(flags):
     return [option for flag, option in FLAGS.items() if flags & flag]
-
-
-def compare_shown(call, program, lines):
-    for order, release in ORDERS.items():
-        for flags in (0, 1):
-            shown = answers(program, lines, "--kernel", release, *options(flags))
-            compare(f"linkwire_show, flags {flags}", lines, answers(call, lines, "show", str(order), str(flags)), shown)
-    return len(lines) * len(ORDERS) * 2
 
 
 def unannounced(digits):
@@ -88,14 +81,13 @@ def told(program, pairs, order, flags):
 def compare_told(call, program, pairs):
     """linkwire_diff knows of no other interface."""
     count = 0
-    for order in ORDERS:
-        for flags in range(4):
-            ours = said(call, [it.hex() for pair in pairs for it in pair], "diff", str(order), str(flags))
-            ours = [None if re.fullmatch(r"-\d+", it) else it for it in map(bytes.decode, ours)]
-            theirs = [our if our and it is OTHER else it
-                      for our, it in zip(ours, told(program, pairs, order, flags), strict=True)]
-            compare(f"linkwire_diff, flags {flags}", [f"{old.hex()} {new.hex()}" for old, new in pairs], ours, theirs)
-            count += sum(map(bool, ours))
+    for order, flags in itertools.product(ORDERS, range(4)):
+        ours = said(call, [it.hex() for pair in pairs for it in pair], "diff", str(order), str(flags))
+        ours = [None if re.fullmatch(r"-\d+", it) else it for it in map(bytes.decode, ours)]
+        theirs = [our if our and it is OTHER else it
+                  for our, it in zip(ours, told(program, pairs, order, flags), strict=True)]
+        compare(f"linkwire_diff, flags {flags}", [f"{old.hex()} {new.hex()}" for old, new in pairs], ours, theirs)
+        count += sum(map(bool, ours))
     return count
 
 
@@ -108,7 +100,11 @@ with tempfile.TemporaryDirectory() as folder:
     cc = os.environ.get("CC", "cc").split()
     subprocess.run([*cc, "-std=c11", "-O1", f"-I{TOP}/include", "-o", call, f"{TOP}/tests/c/shown.c", archive],
                    check=True)
-    shown = compare_shown(call, linkshow, lines + more)
+    for (order, release), flags in itertools.product(ORDERS.items(), (0, 1)):
+        ours = answers(call, lines + more, "show", str(order), str(flags))
+        theirs = answers(linkshow, lines + more, "--kernel", release, *options(flags))
+        compare(f"linkwire_show, flags {flags}", lines + more, ours, theirs)
+    shown = len(lines + more) * len(ORDERS) * 2
     print(f"call_answers: {len(lines)} messages, {len(more)} damaged ones: {shown} answers are linkshow's")
     pairs = pairs_of(lines, chance)
     changes = compare_told(call, linkdiff, pairs)

@@ -12,17 +12,8 @@ import told
 
 COUNT = 300  # how many are made of a kind
 WAYS = (), ("--counters",), ("--lenient",), ("--lenient", "--counters")
-
-
-def compare_words(linkdiff, linkshow):
-    """Tells as linkshow does the words of lines that are no messages: texts, what JSON escapes, and no UTF-8."""
-    rng = random.Random(8)
-    pieces = [b"a", b"9", b"=", b'"', b"\\", b"/", b"\0", b"\1", b"\b", b"\f", b"\r", b"\x1f", b"\x7f", b"\xc3",
-              b"\xff", "\u00e9".encode(), "\u2028".encode(), "\U0001f517".encode()]
-    lines = [b"".join(key + b"=" + b"".join(rng.choices(pieces, k=rng.randrange(5))) + b" "
-                      for key in (b"type", b"time", b"host")) + b"00" for _ in range(1000)]
-    compare("diff_tests: words", lines, answers(linkdiff, lines), answers(linkshow, lines))
-    print(f"diff_tests: the words of {len(lines)} lines as linkshow tells them")
+PIECES = [b"a", b"9", b"=", b'"', b"\\", b"/", b"\0", b"\1", b"\b", b"\f", b"\r", b"\x1f", b"\x7f", b"\xc3", b"\xff",
+          "\u00e9".encode(), "\u2028".encode(), "\U0001f517".encode()]
 
 
 def altered(rng, message):
@@ -79,8 +70,13 @@ def changed(linkdiff, linkshow, messages, *options):
 
 
 linkdiff, linkshow = sys.argv[1:]
+# the words of lines that are no messages, as linkshow tells them: texts, what JSON escapes, and no UTF-8
+rng, keys = random.Random(8), (b"type", b"time", b"host")
+lines = [b"".join(key + b"=" + b"".join(rng.choices(PIECES, k=rng.randrange(5))) + b" " for key in keys) + b"00"
+         for _ in range(1000)]
+compare("diff_tests: words", lines, answers(linkdiff, lines), answers(linkshow, lines))
+print(f"diff_tests: the words of {len(lines)} lines as linkshow tells them")
 rng, stored = random.Random(7), pairs()
-compare_words(linkdiff, linkshow)
 if changed(linkdiff, linkshow, [pair for _, *pair in stored]):
     sys.exit("diff_tests: a pair of one state changed, and nobody touched it")
 moved = changed(linkdiff, linkshow, [pair for _, *pair in stored], "--counters")

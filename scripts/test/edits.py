@@ -164,5 +164,4 @@ def main(words):
     return take_apart(*words)
 
 
-if __name__ == "__main__":
-    sys.exit(main(sys.argv[1:]))
+sys.exit(main(sys.argv[1:]))

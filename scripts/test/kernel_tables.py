@@ -342,21 +342,10 @@ def show(report):
     return int(bool(report.faults))
 
 
-def main():
-    parser = argparse.ArgumentParser(description=__doc__, formatter_class=argparse.RawDescriptionHelpFormatter)
-    parser.add_argument("kernel", nargs="?", default=os.environ.get("KERNEL") or PACKAGE, help="the kernel's files")
-    parser.add_argument("--tree", default=TOP, help="another tree of this repository")
-    parser.add_argument("--json", action="store_true", help="print the tables as JSON, and compare nothing")
-    parser.add_argument("--unpack", metavar="FOLDER", help="only unpack the files that are read, for more than one run")
-    given = parser.parse_args()
-    if given.unpack:
-        return unpack(given.kernel, given.unpack)
-    ours = Repository(given.tree)
-    if given.json:
-        return print(as_json(ours))
-    kernel, report = Kernel(given.kernel), Report()
+def compare(ours, files):
+    kernel, report = Kernel(files), Report()
     if not kernel.yaml:
-        print(f"kernel_tables: skipped: no rt_link.yaml in {given.kernel}")
+        print(f"kernel_tables: skipped: no rt_link.yaml in {files}")
     kernel_shown.compare_shown(ours, kernel.yaml and kernel.headers, report)
     compare_names(ours, report)
     for step in (compare_constants, compare_places, compare_kinds, compare_records, compare_values, compare_levels):
@@ -365,5 +354,15 @@ def main():
     return show(report)
 
 
-if __name__ == "__main__":
-    sys.exit(main())
+parser = argparse.ArgumentParser(description=__doc__, formatter_class=argparse.RawDescriptionHelpFormatter)
+parser.add_argument("kernel", nargs="?", default=os.environ.get("KERNEL") or PACKAGE, help="the kernel's files")
+parser.add_argument("--tree", default=TOP, help="another tree of this repository")
+parser.add_argument("--json", action="store_true", help="print the tables as JSON, and compare nothing")
+parser.add_argument("--unpack", metavar="FOLDER", help="only unpack the files that are read, for more than one run")
+given = parser.parse_args()
+if given.unpack:
+    unpack(given.kernel, given.unpack)
+elif given.json:
+    print(as_json(Repository(given.tree)))
+else:
+    sys.exit(compare(Repository(given.tree), given.kernel))

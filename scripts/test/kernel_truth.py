@@ -430,12 +430,7 @@ def live(program, linkdump, rows):
     return report.finish()
 
 
-def main():
-    arguments = [it for it in sys.argv[1:] if not it.startswith("--")]
-    program, linkdump = arguments + [f"{TOP}/out/{it}" for it in ("linkshow", "linkdump")[len(arguments):]]
-    rows = read_table("scripts/test/kernel_fields.txt")
-    return live(program, linkdump, rows) if "--live" in sys.argv else of_folder(program, rows)
-
-
-if __name__ == "__main__":
-    sys.exit(main())
+arguments = [it for it in sys.argv[1:] if not it.startswith("--")]
+show, dump = arguments + [f"{TOP}/out/{it}" for it in ("linkshow", "linkdump")[len(arguments):]]
+fields = read_table("scripts/test/kernel_fields.txt")
+sys.exit(live(show, dump, fields) if "--live" in sys.argv else of_folder(show, fields))

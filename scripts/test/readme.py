@@ -155,22 +155,19 @@ def namespace():
     return None
 
 
-def main(library="out/liblinkwire.a", *programs):
-    if not os.path.exists(library):
-        sys.exit(f"readme: there is no {library}: run 'make build lib' first")
-    folders = map(os.path.abspath, programs or ["out"])
-    path = {name: value for name, value in os.environ.items() if not name.startswith(("MAKE", "MFLAGS"))}
-    path["PATH"] = os.pathsep.join([*folders, os.environ["PATH"]])
-    names = *PAGES, *sorted(glob.glob("man/*.[1-9]", root_dir=TOP))
-    pages = [Page(name, os.path.abspath(library), path) for name in names]
-    for page in pages:
-        page.hold()
-    for page in pages:
-        page.named(pages if page.in_man else [page])
-    told = ("{run} commands are run, {compiled} programs in C compiled and run, {only compiled} only compiled, "
-            "{parts} parts stand in their files; {not run} commands are marked as not run")
-    print(f"readme: {len(pages)} pages:", told.format_map(Page.counts))
-    print("readme: ok")
-
-
-main(*sys.argv[1:])
+library, *programs = sys.argv[1:] or ["out/liblinkwire.a"]
+if not os.path.exists(library):
+    sys.exit(f"readme: there is no {library}: run 'make build lib' first")
+folders = map(os.path.abspath, programs or ["out"])
+path = {name: value for name, value in os.environ.items() if not name.startswith(("MAKE", "MFLAGS"))}
+path["PATH"] = os.pathsep.join([*folders, os.environ["PATH"]])
+names = *PAGES, *sorted(glob.glob("man/*.[1-9]", root_dir=TOP))
+pages = [Page(name, os.path.abspath(library), path) for name in names]
+for page in pages:
+    page.hold()
+for page in pages:
+    page.named(pages if page.in_man else [page])
+told = ("{run} commands are run, {compiled} programs in C compiled and run, {only compiled} only compiled, "
+        "{parts} parts stand in their files; {not run} commands are marked as not run")
+print(f"readme: {len(pages)} pages:", told.format_map(Page.counts))
+print("readme: ok")

@@ -67,5 +67,4 @@ def main(doc, kept=None):
     return "\n".join(told) or None
 
 
-if __name__ == "__main__":
-    sys.exit(main(*sys.argv[1:]))
+sys.exit(main(*sys.argv[1:]))
