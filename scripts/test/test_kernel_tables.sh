@@ -18,26 +18,19 @@ tries "${tables[@]}"
 ! grep 'skipped' "$folder/out" || exit 0
 echo 'test_kernel_tables: the crates as they are: ok'
 
-# slip WORDS EDIT FILE..: with the edit of sed in these files, the refusal has to say the words
-slip() {
-    local file
-    for file in "${@:3}"; do
-        sed -i -E "$2" "$file"
-        ! cmp -s "$file" "$top/crates/$file" || fails "$1: nothing to edit in $file"
-    done
-    fails_with "$1" "${tables[@]}"
-    [ "$status" = 1 ] || fails "$1: status $status"
-    echo "test_kernel_tables: $1: refused"
-    for file in "${@:3}"; do
-        cp "$top/crates/$file" "$file"
-    done
-}
-
+# with the edit of sed in these files, the refusal has to say the words
 slips=()
 reads slips kernel_slips.txt
 for it in "${slips[@]}"; do
-    rest=${it#*  }
+    words=${it%%  *} rest=${it#*  }
     read -ra files <<<"${rest%%  *}"
-    slip "${it%%  *}" "${rest#*  }" "${files[@]}"
+    sed -i -E "${rest#*  }" "${files[@]}"
+    for file in "${files[@]}"; do
+        ! cmp -s "$file" "$top/crates/$file" || fails "$words: nothing to edit in $file"
+    done
+    fails_with "$words" "${tables[@]}"
+    [ "$status" = 1 ] || fails "$words: status $status"
+    echo "test_kernel_tables: $words: refused"
+    (cd "$top/crates" && cp --parents "${files[@]}" "$folder/tree/crates")
 done
 echo 'test_kernel_tables: ok'
