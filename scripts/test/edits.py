@@ -164,4 +164,5 @@ def main(words):
     return take_apart(*words)
 
 
-sys.exit(main(sys.argv[1:]))
+if __name__ == "__main__":
+    sys.exit(main(sys.argv[1:]))
