@@ -27,23 +27,19 @@ def unwrap_functions(s):
     s.put(FAILS, put)
 
 
-def asked_calls(s, names):
-    """Calls of them, and those that make memory or room: nothing is asked of what they return."""
-    calls = rf"(?<!fn )\b(?:{'|'.join(names) or '!'})"
-    for found in s.find(rf"/{calls}/ (..) /(?!\s*\?)/"):
-        # what a function that fails for memory alone returns
-        if not (s.text[found.end():].lstrip()[0] in ",}" and s.outer(found.start()) == "{"):
-            s.fail(found.start(), "a call that fails for memory alone is not asked at once whether it failed")
-    s.put(rf"/(?P<call>(?:{calls}|\.\s*(?:{GROWS}))/ (..) /)\s*\?/", "$call")
-
-
 def memory(s, names):
     """All of it. `names` are the functions of the whole package that fail for memory alone."""
     paths.drop_names(s, lambda name, _: name in rules.WORDS["GONE"])
     rules.apply(s, "memory")
     unwrap_functions(s)
     rules.apply(s, "makers")
-    asked_calls(s, names)
+    # calls of them, and those that make memory or room: nothing is asked of what they return
+    calls = rf"(?<!fn )\b(?:{'|'.join(names) or '!'})"
+    for found in s.find(rf"/{calls}/ (..) /(?!\s*\?)/"):
+        # what a function that fails for memory alone returns
+        if not (s.text[found.end():].lstrip()[0] in ",}" and s.outer(found.start()) == "{"):
+            s.fail(found.start(), "a call that fails for memory alone is not asked at once whether it failed")
+    s.put(rf"/(?P<call>(?:{calls}|\.\s*(?:{GROWS}))/ (..) /)\s*\?/", "$call")
     rules.apply(s, "own_types")
     enums = [range(*it.span("x")) for it in s.find("enum /\\w+/ {$x..}")]
     # but for variants of their names

@@ -10,10 +10,30 @@ same() {
     echo "compilers: by $1: $(cat "$folder/told")"
 }
 
+# calls WHO LIBRARY WORD..: the calls of a library that another compiler made
+calls() {
+    local set
+    makes_lines "${@:2}"
+    for set in all more mixed; do
+        "$folder/lines" "$set" calls | same "$1" "$set" calls stored
+        "$folder/lines" "$set" held | same "$1" "$set" held held
+    done
+}
+
 # each takes two minutes of the processor's time at most
 ulimit -t 120
-of_programs() {
-    local name set it
+if [ "${1:-}" = --library ]; then
+    library=crates/link_c/out/liblink_c.by-rattle.a
+    if [ -e "$library" ]; then
+        calls "$own" "$library" dist/heap.c
+    else
+        lacks "the library by $own: it has not been built"
+    fi
+    if has 'the library by rustc' cargo; then
+        CARGO_NET_OFFLINE=true runs cargo build --release --manifest-path rust/capi/Cargo.toml --target-dir out/capi
+        calls rustc out/capi/release/liblinkwire.a -lgcc_s -lpthread -ldl -lm
+    fi
+else
     mkdir "$folder/by"
     for name in linkwire linkstate linkshow linkdiff; do
         cp "crates/$name/out/$name.by-rattle" "$folder/by/$name" 2>/dev/null ||
@@ -30,29 +50,4 @@ of_programs() {
     tests/second/held.sh "$folder/by" >"$folder/held"
     grep -v '^#\|^held ' tests/second/held.txt | diff - "$folder/held" >&2 || fails "$own makes another one of it"
     echo "compilers: by $own: linkshow and linkdiff: $(wc -l <"$folder/held") sums: the same"
-}
-
-# calls WHO LIBRARY WORD..: the calls of a library that another compiler made
-calls() {
-    local set
-    makes_lines "${@:2}"
-    for set in all more mixed; do
-        "$folder/lines" "$set" calls | same "$1" "$set" calls stored
-        "$folder/lines" "$set" held | same "$1" "$set" held held
-    done
-}
-
-of_library() {
-    local library=crates/link_c/out/liblink_c.by-rattle.a
-    if [ -e "$library" ]; then
-        calls "$own" "$library" dist/heap.c
-    else
-        lacks "the library by $own: it has not been built"
-    fi
-    if has 'the library by rustc' cargo; then
-        CARGO_NET_OFFLINE=true runs cargo build --release --manifest-path rust/capi/Cargo.toml --target-dir out/capi
-        calls rustc out/capi/release/liblinkwire.a -lgcc_s -lpthread -ldl -lm
-    fi
-}
-
-if [ "${1:-}" = --library ]; then of_library; else of_programs; fi
+fi

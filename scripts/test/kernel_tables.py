@@ -227,7 +227,10 @@ def compare_form(where, row, named, beside, report):
         here = put(row.form, ours)
         report.compare("rows, code", where, ("put", here, here if here in puts else "/".join(sorted(map(str, puts)))))
     elif taken is not None:
-        report.compare("rows, code", where, ("taken", take(row.form, taken, ours), taken))
+        is_struct = row.form.word == "struct" and str(taken).startswith("struct ")
+        here = "nest" if taken == "nest" and row.form.word.startswith("list ") else \
+            "struct " + RECORDS[row.form.record].header if is_struct else ours.size(row.form)
+        report.compare("rows, code", where, ("taken", here, taken))
     if not (attribute or puts or taken is not None):
         report.left["forms"].append(where)
 
@@ -256,12 +259,6 @@ def put(form, ours):
         known = RECORDS.get(form.record)
         return "struct " + known.header if known else ours.size(form)
     return 6 if form.word == "mac" else "nest" if form.word.startswith("list ") else form.word
-
-
-def take(form, there, ours):
-    if form.word == "struct" and str(there).startswith("struct "):
-        return "struct " + RECORDS[form.record].header
-    return "nest" if there == "nest" and form.word.startswith("list ") else ours.size(form)
 
 
 def compare_kinds(ours, kernel, report):

@@ -77,11 +77,6 @@ def fails(what):
 
 # ** definitions
 
-def of_linkdiff():
-    """What one reads of message_diff and frame_diff from the contracts on."""
-    return walk(STARTS, lambda module, name: not module.startswith(OURS) or (module, name) in SAID)
-
-
 def quotes(page, found):
     """How many definitions the page quotes, each as it stands in its file, comments aside."""
     texts = {}
@@ -162,15 +157,13 @@ def streams(linkdiff, page):
     return held
 
 
-def main(linkdiff="out/linkdiff"):
-    page, found = read(PAGE), of_linkdiff()
-    files = {module for module, _ in found}
-    counted = f"{size(found)} in {len(files)} files", f"quotes {quotes(page, found)} of them as they stand"
-    hold_words(fails, page, [*counted, *(f"`{file.split('.')[-1]}.antt`" for file in sorted(files))])
-    print(f"linkdiff page: {'; '.join(counted)}")
-    held = streams(linkdiff, page)
-    print(f"linkdiff page: {held} lines of {len(STREAM.findall(page))} streams\nlinkdiff page: ok")
-
-
-if __name__ == "__main__":
-    show(of_linkdiff()) if sys.argv[1:] == ["--list"] else main(*sys.argv[1:])
+# what one reads of message_diff and frame_diff from the contracts on
+found = walk(STARTS, lambda module, name: not module.startswith(OURS) or (module, name) in SAID)
+if sys.argv[1:] == ["--list"]:
+    sys.exit(show(found))
+page, files = read(PAGE), {module for module, _ in found}
+counted = f"{size(found)} in {len(files)} files", f"quotes {quotes(page, found)} of them as they stand"
+hold_words(fails, page, [*counted, *(f"`{file.split('.')[-1]}.antt`" for file in sorted(files))])
+print(f"linkdiff page: {'; '.join(counted)}")
+held = streams(sys.argv[1] if sys.argv[1:] else "out/linkdiff", page)
+print(f"linkdiff page: {held} lines of {len(STREAM.findall(page))} streams\nlinkdiff page: ok")

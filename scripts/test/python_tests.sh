@@ -12,60 +12,12 @@ offline() {
     "$@"
 }
 
-# the bytes are the same twice, and what lacks is said
-wheels() {
-    local it
-    mkdir "$folder/one" "$folder/two" "$folder/none" "$folder/tools"
-    for it in one two; do
-        (cd / && python3 "$top/python/backend.py" "$folder/$it") >/dev/null
-        sleep 1.1 # a time would differ
-    done
-    cmp "$folder"/one/*.whl "$folder"/two/*.whl
-    ln -s "$(python3 -c 'import sys; print(sys.executable)')" "$folder/tools/python3"
-    fails_with 'linkwire: there is no cc, and no installed liblinkwire.so.0: install' \
-        env PATH="$folder/tools" LINKWIRE=/nothing python3 python/backend.py "$folder/none"
-    PATH=$folder/tools LINKWIRE=$programs/liblinkwire.so.0 python3 python/backend.py "$folder/none" >"$folder/name"
-    grep -q -- '-any.whl$' "$folder/name" || fails "without a compiler: $(cat "$folder/name")"
-    fails_with '' env CC="$folder/tools/python3" python3 python/backend.py "$folder/none"
-    fails_with 'ImportError: linkwire: LINKWIRE names a library that does not load: /nothing: cannot open' \
-        env LINKWIRE=/nothing PYTHONPATH=python python3 -c 'import linkwire'
-    if PYTHONPATH=python python3 -c 'import linkwire' 2>/dev/null; then
-        lacks 'what is said without a library: one is installed'
-    else
-        fails_with 'ImportError: linkwire: no shared library: install liblinkwire.so.0' \
-            env PYTHONPATH=python python3 -c 'import linkwire'
-    fi
-    echo 'python: the wheel: the same bytes twice; without a compiler or a library what lacks is said'
-}
-
 # builds CC TAG: a wheel by this compiler has this tag
 builds() {
     has "a wheel for $2" "$1" || return 0
     mkdir "$folder/$2"
     CC=$1 python3 python/backend.py "$folder/$2" >"$folder/name"
     grep -q -- "-py3-none-$2.whl\$" "$folder/name" || fails "by $1: $(cat "$folder/name")"
-}
-
-compilers() {
-    local it
-    builds cc "linux_$(uname -m)"
-    grep -q 'linkwire-.*/LICENSE' <(python3 -m zipfile -l "$folder/linux_$(uname -m)"/*.whl) || fails 'no LICENSE'
-    builds aarch64-linux-gnu-gcc linux_aarch64
-    builds musl-gcc "musllinux_1_1_$(uname -m)"
-    for it in riscv64 arm s390x i686; do
-        script "$folder/other-cc" "echo $it-linux-gnu"
-        fails_with "linkwire: processors of $it-linux-gnu are not supported, only aarch64 and x86_64. linkdump is C" \
-            env CC="$folder/other-cc" python3 python/backend.py "$folder"
-    done
-    mkdir "$folder/odd"
-    cp -r python/linkwire "$folder/odd"
-    it=$folder/odd/linkwire/liblinkwire.so.0
-    echo nothing >"$it"
-    [ ! -e "$folder/linux_aarch64" ] || python3 -m zipfile -e "$folder"/linux_aarch64/*.whl "$folder/odd"
-    [ "$(uname -m)" != aarch64 ] || echo nothing >"$it"
-    fails_with "ImportError: linkwire: the shared library is there and does not load: $it" \
-        env PYTHONPATH="$folder/odd" python3 -c 'import linkwire'
-    echo 'python: the tag of a wheel is of its compiler, and what does not fit is said'
 }
 
 # makes FOLDER PYTHON: a fresh environment there; `pip` installs into it
@@ -78,24 +30,6 @@ makes() {
     else
         return 1
     fi
-}
-
-# sources: a wheel of an archive of sources is the one of the repository; an installation that follows the sources
-sources() {
-    local env=$folder/editable pip
-    mkdir "$folder/sources" "$folder/of-sources" "$folder/tree"
-    python3 python/backend.py --sdist "$folder/sources" >/dev/null
-    tar -xzf "$folder"/sources/*.tar.gz -C "$folder/sources"
-    (cd / && python3 "$folder"/sources/linkwire-*/backend.py "$folder/of-sources") >/dev/null
-    cmp "$folder"/one/*.whl "$folder"/of-sources/*.whl
-    cp -r python dist LICENSE "$folder/tree"
-    makes "$env" python3 || { lacks 'an installation that follows the sources: no venv' && return; }
-    runs offline "${pip[@]}" install --no-index -e "$folder/tree/python"
-    echo 'added = 1' >>"$folder/tree/python/linkwire/numbers.py"
-    (cd / && "$env/bin/python" -c 'import linkwire; linkwire.check(bytes(16)); print(linkwire.numbers.added)') \
-        >"$folder/said"
-    grep -qx 1 "$folder/said" || fails 'an installation does not follow the sources'
-    echo 'python: the archive of sources builds the same wheel, and pip install -e follows the sources'
 }
 
 # environment VERSION PYTHON: installs, and runs the tests
@@ -116,26 +50,80 @@ ours() {
     PATH=$folder/bin:$programs:$PATH PYTHONPATH=$top/python LINKWIRE=$programs/liblinkwire.so.0 "$@"
 }
 
-live() {
-    has_namespace 'the running kernel' -n || return 0
-    ours unshare -n python3 tests/python/live.py
-    ours unshare -n python3 tests/python/beside.py made
-    ours python3 tests/python/pages.py README.md docs/PYTHON.md docs/FLEET.md
-}
-
 mkdir "$folder/bin"
 system=/usr/bin/python3
 [ -x "$system" ] || system=$(command -v python3)
 ln -s "$system" "$folder/bin/python3"
 strict linkwire
-wheels
-compilers
-sources
+
+# the bytes are the same twice, and what lacks is said
+mkdir "$folder/one" "$folder/two" "$folder/none" "$folder/tools"
+for it in one two; do
+    (cd / && python3 "$top/python/backend.py" "$folder/$it") >/dev/null
+    sleep 1.1 # a time would differ
+done
+cmp "$folder"/one/*.whl "$folder"/two/*.whl
+ln -s "$(python3 -c 'import sys; print(sys.executable)')" "$folder/tools/python3"
+fails_with 'linkwire: there is no cc, and no installed liblinkwire.so.0: install' \
+    env PATH="$folder/tools" LINKWIRE=/nothing python3 python/backend.py "$folder/none"
+PATH=$folder/tools LINKWIRE=$programs/liblinkwire.so.0 python3 python/backend.py "$folder/none" >"$folder/name"
+grep -q -- '-any.whl$' "$folder/name" || fails "without a compiler: $(cat "$folder/name")"
+fails_with '' env CC="$folder/tools/python3" python3 python/backend.py "$folder/none"
+fails_with 'ImportError: linkwire: LINKWIRE names a library that does not load: /nothing: cannot open' \
+    env LINKWIRE=/nothing PYTHONPATH=python python3 -c 'import linkwire'
+if PYTHONPATH=python python3 -c 'import linkwire' 2>/dev/null; then
+    lacks 'what is said without a library: one is installed'
+else
+    fails_with 'ImportError: linkwire: no shared library: install liblinkwire.so.0' \
+        env PYTHONPATH=python python3 -c 'import linkwire'
+fi
+echo 'python: the wheel: the same bytes twice; without a compiler or a library what lacks is said'
+
+builds cc "linux_$(uname -m)"
+grep -q 'linkwire-.*/LICENSE' <(python3 -m zipfile -l "$folder/linux_$(uname -m)"/*.whl) || fails 'no LICENSE'
+builds aarch64-linux-gnu-gcc linux_aarch64
+builds musl-gcc "musllinux_1_1_$(uname -m)"
+for it in riscv64 arm s390x i686; do
+    script "$folder/other-cc" "echo $it-linux-gnu"
+    fails_with "linkwire: processors of $it-linux-gnu are not supported, only aarch64 and x86_64. linkdump is C" \
+        env CC="$folder/other-cc" python3 python/backend.py "$folder"
+done
+mkdir "$folder/odd"
+cp -r python/linkwire "$folder/odd"
+it=$folder/odd/linkwire/liblinkwire.so.0
+echo nothing >"$it"
+[ ! -e "$folder/linux_aarch64" ] || python3 -m zipfile -e "$folder"/linux_aarch64/*.whl "$folder/odd"
+[ "$(uname -m)" != aarch64 ] || echo nothing >"$it"
+fails_with "ImportError: linkwire: the shared library is there and does not load: $it" \
+    env PYTHONPATH="$folder/odd" python3 -c 'import linkwire'
+echo 'python: the tag of a wheel is of its compiler, and what does not fit is said'
+
+# a wheel of an archive of sources is the one of the repository; an installation follows the sources
+mkdir "$folder/sources" "$folder/of-sources" "$folder/tree"
+python3 python/backend.py --sdist "$folder/sources" >/dev/null
+tar -xzf "$folder"/sources/*.tar.gz -C "$folder/sources"
+(cd / && python3 "$folder"/sources/linkwire-*/backend.py "$folder/of-sources") >/dev/null
+cmp "$folder"/one/*.whl "$folder"/of-sources/*.whl
+cp -r python dist LICENSE "$folder/tree"
+if makes "$folder/editable" python3; then
+    runs offline "${pip[@]}" install --no-index -e "$folder/tree/python"
+    echo 'added = 1' >>"$folder/tree/python/linkwire/numbers.py"
+    (cd / && "$folder/editable/bin/python" -c 'import linkwire as it; it.check(bytes(16)); print(it.numbers.added)') |
+        grep -qx 1 || fails 'an installation does not follow the sources'
+    echo 'python: the archive of sources builds the same wheel, and pip install -e follows the sources'
+else
+    lacks 'an installation that follows the sources: no venv'
+fi
+
 each_python environment
 if [ -e python/build ] || [ -e python/linkwire.egg-info ]; then
     fails 'the build leaves something in the tree'
 fi
-live
+if has_namespace 'the running kernel' -n; then
+    ours unshare -n python3 tests/python/live.py
+    ours unshare -n python3 tests/python/beside.py made
+    ours python3 tests/python/pages.py README.md docs/PYTHON.md docs/FLEET.md
+fi
 ours nice -n 12 python3 tests/python/rules.py "$LINKDIFF"
 ours python3 tests/python/beside.py
 ours python3 tests/python/fleet.py

@@ -96,6 +96,11 @@ def pairs():
     return [(name, first, bytes(second)) for name, first, second in found]
 
 
+def kernel_messages():
+    """Returns the messages of tests/kernels, each as the kernel's release and digits."""
+    return re.findall(r"^# (.*?):.*\n([0-9a-f]+)$", read("tests/kernels/messages.txt"), re.M)
+
+
 def kernels(who):
     """Yields the release of each kernel of the folder that KERNELS names in the environment, and its folder out/, the
     oldest first; archives are unpacked. Without such a folder it says that this is skipped."""

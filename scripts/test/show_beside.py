@@ -6,8 +6,7 @@ import random
 import sys
 
 from damaged import LONG, damaged, made, sources
-from kernel_messages import messages
-from shared import answers, compare
+from shared import answers, compare, kernel_messages
 
 # the words of each program for each order of the counters of IPv6, and for lenient reading
 WAYS = [((), ()), (("before",), ("--kernel", "6.12")), (("since",), ("--kernel", "6.16")),
@@ -28,7 +27,7 @@ def wanted_of(shown):
 
 beside, show = sys.argv[1:]
 chance = random.Random(3)
-whole = sources() + [digits for _, digits in messages()] + LONG + made(MADE_LINES)
+whole = sources() + [digits for _, digits in kernel_messages()] + LONG + made(MADE_LINES)
 lines = whole + [damaged(chance, line) for line in whole for _ in range(2 if len(line) < 20_000 else 1)]
 # linkshow takes what stands in front of a blank as words
 lines = [line for line in lines if " " not in line and "=" not in line]
