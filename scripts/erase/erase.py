@@ -198,18 +198,14 @@ def make_all(mode, out):
         if mode.examples:
             raise Unknown(f"examples.md: no public call is named {min(mode.examples)}")
         write(out / "conditions.txt", "\n".join(sorted(mode.conditions)) + "\n")
-        lay_out(out / "src" / "generated")
-
-
-def lay_out(folder):
-    """The layout is rustfmt's; the comma at the end of what a macro is given goes first, which rustfmt keeps."""
-    if not shutil.which("rustfmt"):
-        raise Unknown("there is no rustfmt, by which what is made is laid out")
-    made = [*folder.rglob("*.rs")]
-    for path in made:
-        write(path, AT_END.sub(r"\1)", read(path)))
-    config = TOP / "rust" / "rustfmt.toml"
-    subprocess.run(["rustfmt", "--edition", "2021", "--config-path", config, *made], check=True)
+        # the layout is rustfmt's; the comma at the end of what a macro is given goes first, which rustfmt keeps
+        if not shutil.which("rustfmt"):
+            raise Unknown("there is no rustfmt, by which what is made is laid out")
+        made = [*(out / "src" / "generated").rglob("*.rs")]
+        for path in made:
+            write(path, AT_END.sub(r"\1)", read(path)))
+        config = TOP / "rust" / "rustfmt.toml"
+        subprocess.run(["rustfmt", "--edition", "2021", "--config-path", config, *made], check=True)
 
 
 def files(folder):

@@ -24,21 +24,6 @@ sources() {
     sha256sum "${files[@]}" </dev/null
 }
 
-make_sums() {
-    local all arch crate
-    mapfile -t all < <(for it in "${names[@]}"; do crates_below "$it"; done | sort -u)
-    echo "# What dist/ and a build are made of: sha256sum -c dist/SUMS compares the files, scripts/make/sums.sh all."
-    echo "# toolchain $(rt version)"
-    for crate in "${all[@]}"; do
-        sed -n "s/^${crate}[: ]/# crates.txt &/p" crates.txt
-    done
-    sources "${all[@]}" | sort -k 2
-    for arch in "${archs[@]}"; do
-        printf "dist/$arch/%s.s\n" "${names[@]}" | xargs sha256sum
-    done
-    sha256sum "${by_hand[@]}"
-}
-
 # unfit ARCH NAME..: of each text that does not fit a line, its name and what changed. Each file is read once.
 unfit() {
     local it all was now
@@ -86,8 +71,25 @@ why() {
     sha256sum "${files[@]}" | grep -vxFf "$sums" | sed -n "1s|^[^ ]* *\(.*\)|\1 is not the file of $sums$fix|p" || true
 }
 
-check() {
-    local arch what by files
+case $1 in
+make)
+    mapfile -t all < <(for it in "${names[@]}"; do crates_below "$it"; done | sort -u)
+    echo "# What dist/ and a build are made of: sha256sum -c dist/SUMS compares the files, scripts/make/sums.sh all."
+    echo "# toolchain $(rt version)"
+    for crate in "${all[@]}"; do
+        sed -n "s/^${crate}[: ]/# crates.txt &/p" crates.txt
+    done
+    sources "${all[@]}" | sort -k 2
+    for arch in "${archs[@]}"; do
+        printf "dist/$arch/%s.s\n" "${names[@]}" | xargs sha256sum
+    done
+    sha256sum "${by_hand[@]}"
+    ;;
+# the texts and their sources stay as they were
+written) grep -E '^#|  crates/|  dist/.*\.s$' "$sums" && sha256sum "${by_hand[@]}" ;;
+unfit) unfit "${@:2}" | cut -d ' ' -f 1 ;;
+why) why "${@:2}" ;;
+check)
     mapfile -t files < <(grep -vE '^#|  crates/|\.s$' "$sums" | sed 's/^[^ ]* *//')
     for arch in "${archs[@]}"; do
         what=$(why "$arch" "${names[@]}" -- "${by_hand[@]}" "${files[@]}")
@@ -98,14 +100,6 @@ check() {
         echo "dist: made by $by, and rt is $(rt version): make check makes the texts anew and compares them" >&2
     fi
     echo "dist: the sums fit"
-}
-
-case $1 in
-make) make_sums ;;
-# the texts and their sources stay as they were
-written) grep -E '^#|  crates/|  dist/.*\.s$' "$sums" && sha256sum "${by_hand[@]}" ;;
-unfit) unfit "${@:2}" | cut -d ' ' -f 1 ;;
-why) why "${@:2}" ;;
-check) check ;;
+    ;;
 *) fails "no $1" ;;
 esac

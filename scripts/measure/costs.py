@@ -145,13 +145,6 @@ def stored(path):
     return rows, dict(line.removeprefix("#: ").split("=", 1) for line in lines if line.startswith("#: "))
 
 
-def passed_over(was, now):
-    """What is not compared here: rows by their program, and columns."""
-    left = [DUMP] * (was["cc"] != now["cc"] or now["libpcap"] == "none") + [CRATE] * (was["rustc"] != now["rustc"])
-    columns = {OF_SYSTEM} if was["libc"] != now["libc"] else set()
-    return {what for what, (of, _) in COUNTED.items() if of in left}, columns
-
-
 def remarks(at_most, now, columns):
     """What is to be said of rows that were counted, by those that are stored; these columns are passed over."""
     for row in sorted(at_most.keys() ^ now.keys()):
@@ -193,7 +186,11 @@ def main():
         stop(f"no such row: {', '.join(map('/'.join, sorted(wanted - set(rows))))}")
     here = versions()
     most, was = stored(asked.rows)
-    over, columns = (set(), set()) if asked.make else passed_over(was, here)
+    # what is not compared here: rows by their program, and columns
+    others = {name for name in here if was[name] != here[name]}
+    programs = [DUMP] * ("cc" in others or here["libpcap"] == "none") + [CRATE] * ("rustc" in others)
+    over = {what for what, (of, _) in COUNTED.items() if of in programs and not asked.make}
+    columns = [OF_SYSTEM] * ("libc" in others)
     now = counted(os.path.abspath(asked.texts or TEXTS), workloads, [row for row in rows if row[0] not in over])
     if asked.make:
         versions_ = [f"#: {name}={version}" for name, version in here.items()]

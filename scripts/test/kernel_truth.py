@@ -61,11 +61,6 @@ def words(theirs, ours, _, args):
     return (int(text, 0) if isinstance(ours, int) and re.fullmatch(r"-?\d+", text) else text), ours
 
 
-def named(theirs, ours, _, args):
-    """A number of ours that they name; two numbers can have one name."""
-    return theirs, {int(number, 0): name for number, name in mapping(args).items()}.get(ours, ours)
-
-
 def address(theirs, ours, world, _):
     """A hardware address by the link's type, as ip writes it; seven bytes of AX.25 are a call sign."""
     octets, kind = bytes.fromhex(ours.replace(":", "")), world.first.get("ifi-type")
@@ -93,11 +88,6 @@ def bridge_id(theirs, ours, *_):
     return tuple([int(it, 16) for it in text.split(":")] for text in both)
 
 
-def device(theirs, ours, world, _):
-    """The name of a link, where we have its number; 0 is none."""
-    return theirs, world.names.get(ours) if ours not in (0, MISSING) else None
-
-
 def nanoseconds(theirs, ours, *_):
     """ip takes the hundredths of seconds of these timers for nanoseconds, and writes three digits."""
     number, unit = re.fullmatch(r"([\d.e+-]+)(ns|us|ms|s)?", str(theirs)).groups()
@@ -115,15 +105,18 @@ def flag_bits(theirs, ours, _, args):
     return int(theirs, 0) & sum(bits.values()), sum(bits.get(name, 0) for name in ours)
 
 
-def same(theirs, ours, *_):
-    return (int(theirs, 0) if isinstance(ours, int) and isinstance(theirs, str) and theirs else theirs), ours
-
-
 # the numbers of programs at a link, by the modes that ip has
 PROGRAMS = {1: "drv-prog-id", 2: "skb-prog-id", 3: "hw-prog-id"}
 HOW = {
-    "same": same, "words": words, "named": named, "address": address, "octets": octets, "bridge-id": bridge_id,
-    "device": device, "flag-bits": flag_bits, "nanoseconds": nanoseconds,
+    "words": words, "address": address, "octets": octets, "bridge-id": bridge_id, "flag-bits": flag_bits,
+    "nanoseconds": nanoseconds,
+    "same": lambda theirs, ours, *_: (
+        int(theirs, 0) if isinstance(ours, int) and isinstance(theirs, str) and theirs else theirs, ours),
+    # a number of ours that they name; two numbers can have one name
+    "named": lambda theirs, ours, _, args: (
+        theirs, {int(number, 0): name for number, name in mapping(args).items()}.get(ours, ours)),
+    # the name of a link, where we have its number; 0 is none
+    "device": lambda theirs, ours, world, _: (theirs, world.names.get(ours) if ours not in (0, MISSING) else None),
     "dashes": lambda theirs, ours, *_: (theirs.lower().replace(" ", "-").replace("_", "-"), ours),
     "yes": lambda theirs, ours, *_: (bool(theirs), ours is not MISSING and bool(ours)),
     "there": lambda theirs, ours, *_: (theirs in (True, None), ours is not MISSING),

@@ -10,15 +10,6 @@ export CARGO_PROFILE_DEV_OPT_LEVEL=1 CARGO_PROFILE_TEST_OPT_LEVEL=1
 needs cargo rustc python3
 count=20000 tested=0
 
-# rust_of TARGET: a rustc that has the library of this target
-rust_of() {
-    local it
-    for it in "$(command -v rustc)" /usr/bin/rustc; do
-        ! compgen -G "$("$it" --print target-libdir --target "$1" 2>/dev/null)/libstd-*.rlib" >/dev/null ||
-            { echo "$it" && return; }
-    done
-}
-
 # asks: once, lines, and what the proved programs answer to them, by each encoding; nothing where these are not built
 asks() {
     local linkwire linkstate
@@ -55,7 +46,11 @@ answers() {
 
 while read -r name target triplet qemu; do
     emulator=$(command -v "qemu-$qemu" || command -v "qemu-$qemu-static" || true)
-    rustc=$(rust_of "$target")
+    rustc='' # which has the library of this target
+    for it in /usr/bin/rustc "$(command -v rustc)"; do
+        ! compgen -G "$("$it" --print target-libdir --target "$target" 2>/dev/null)/libstd-*.rlib" >/dev/null ||
+            rustc=$it
+    done
     runner=("$emulator" -L "/usr/$triplet") loader=/usr/$triplet/lib/ld-linux.so.2 is_turned='' missing=''
     if "$loader" --version >/dev/null 2>&1; then
         runner=("$loader" --library-path "/usr/$triplet/lib")

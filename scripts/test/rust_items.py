@@ -57,14 +57,11 @@ def without_example(folder):
         yield from (name for name, docs in calls if not EXAMPLE.search(docs))
 
 
-def main(doc, kept=None):
-    found = items(doc)
-    if kept is None:
-        return print(*found, sep="\n")
-    lines = Path(kept).read_text("utf-8").splitlines()
-    told = [*difflib.unified_diff(lines, found, kept, "what is public", lineterm="", n=1)]
-    told += [f"{call}: no example, and no link to one" for call in without_example(doc)]
-    return "\n".join(told) or None
-
-
-sys.exit(main(*sys.argv[1:]))
+doc, *kept = sys.argv[1:]
+found = items(doc)
+if not kept:
+    sys.exit(print(*found, sep="\n"))
+lines = Path(*kept).read_text("utf-8").splitlines()
+told = [*difflib.unified_diff(lines, found, *kept, "what is public", lineterm="", n=1)]
+told += [f"{call}: no example, and no link to one" for call in without_example(doc)]
+sys.exit("\n".join(told) or 0)
