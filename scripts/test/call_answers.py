@@ -49,18 +49,6 @@ def of_one_interface(old, new):
     return old[:1] + new[1:4] + old[4:8] + new[8:] if is_whole else new
 
 
-def pairs_of(lines, chance):
-    """Each message and the next one, as if it were of the same interface, each and a damaged one, and each and itself
-    with IFLA_EVENT."""
-    messages = [unannounced(line) for line in lines]
-    pairs = [(old, of_one_interface(old, new)) for old, new in zip(messages, messages[1:])]
-    pairs += [(new, old) for old, new in pairs]
-    pairs += [(it, of_one_interface(it, unannounced(damaged_bytes(chance, it.hex())))) for it in messages if it]
-    pairs += [(it, it[:HEADER_SIZE] + EVENT + it[HEADER_SIZE:]) for it in messages]
-    # a line of words alone is no message
-    return [pair for pair in pairs if all(pair)]
-
-
 def told(program, pairs, order, flags):
     """What linkdiff tells of each pair, each of a host of its own: the list of changes; '' where nothing changed; None
     of a refusal; and OTHER where the kind is another, so that the interface went and a new one came."""
@@ -78,19 +66,6 @@ def told(program, pairs, order, flags):
     return found
 
 
-def compare_told(call, program, pairs):
-    """linkwire_diff knows of no other interface."""
-    count = 0
-    for order, flags in itertools.product(ORDERS, range(4)):
-        ours = said(call, [it.hex() for pair in pairs for it in pair], "diff", str(order), str(flags))
-        ours = [None if re.fullmatch(r"-\d+", it) else it for it in map(bytes.decode, ours)]
-        theirs = [our if our and it is OTHER else it
-                  for our, it in zip(ours, told(program, pairs, order, flags), strict=True)]
-        compare(f"linkwire_diff, flags {flags}", [f"{old.hex()} {new.hex()}" for old, new in pairs], ours, theirs)
-        count += sum(map(bool, ours))
-    return count
-
-
 archive, linkshow, linkdiff = sys.argv[1:]
 lines = [it.lower() for file in FILES for it in DIGITS.findall(read(file)) if len(it) <= LONGEST]
 chance = random.Random(58)
@@ -106,7 +81,21 @@ with tempfile.TemporaryDirectory() as folder:
         compare(f"linkwire_show, flags {flags}", lines + more, ours, theirs)
     shown = len(lines + more) * len(ORDERS) * 2
     print(f"call_answers: {len(lines)} messages, {len(more)} damaged ones: {shown} answers are linkshow's")
-    pairs = pairs_of(lines, chance)
-    changes = compare_told(call, linkdiff, pairs)
+    # each message and the next one, as if it were of the same interface, each and a damaged one, and each and itself
+    # with IFLA_EVENT; a line of words alone is no message
+    messages = [unannounced(line) for line in lines]
+    pairs = [(old, of_one_interface(old, new)) for old, new in zip(messages, messages[1:])]
+    pairs += [(new, old) for old, new in pairs]
+    pairs += [(it, of_one_interface(it, unannounced(damaged_bytes(chance, it.hex())))) for it in messages if it]
+    pairs += [(it, it[:HEADER_SIZE] + EVENT + it[HEADER_SIZE:]) for it in messages]
+    pairs, changes = [pair for pair in pairs if all(pair)], 0
+    for order, flags in itertools.product(ORDERS, range(4)):
+        ours = said(call, [it.hex() for pair in pairs for it in pair], "diff", str(order), str(flags))
+        ours = [None if re.fullmatch(r"-\d+", it) else it for it in map(bytes.decode, ours)]
+        # linkwire_diff knows of no other interface
+        theirs = [our if our and it is OTHER else it
+                  for our, it in zip(ours, told(linkdiff, pairs, order, flags), strict=True)]
+        compare(f"linkwire_diff, flags {flags}", [f"{old.hex()} {new.hex()}" for old, new in pairs], ours, theirs)
+        changes += sum(map(bool, ours))
 print(f"call_answers: {len(pairs)} pairs: {changes} lists of changes are linkdiff's")
 print("call_answers: ok")

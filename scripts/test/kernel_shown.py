@@ -48,15 +48,6 @@ def compare_places(kind, rows, ours, headers, report):
         report.compare("names shown", f"{kind}.{by_number[number][0].name}", ("row", "none", number))
 
 
-def compare_parts(kind, rows, ours, report):
-    """Fields of a record as name, place and what stands there."""
-    fields = ours.records[kind][0]
-    for (name, place, field), there in zip(rows, fields):
-        report.compare("names shown", f"{kind}.{name}", ("name", name, kernel_name(f"{kind}.{there.name}")),
-                       ("place", place, there.offset), ("form", FIELDS[field], there.type))
-    report.compare("names shown", kind, ("fields", len(rows), len(fields)))
-
-
 def compare_names(kind, rows, ours, report):
     """Names by their numbers or bits, or those of fields, in their order."""
     named = enumerate(it.name for it in ours.records[kind][0]) if kind in ours.records else \
@@ -79,6 +70,11 @@ def compare_shown(ours, headers, report):
         if kind in ours.places:
             compare_places(kind, rows, ours, headers, report)
         elif rows[0][-1] in FIELDS:
-            compare_parts(kind, rows, ours, report)
+            # fields of a record as name, place and what stands there
+            fields = ours.records[kind][0]
+            for (name, place, field), there in zip(rows, fields):
+                report.compare("names shown", f"{kind}.{name}", ("name", name, kernel_name(f"{kind}.{there.name}")),
+                               ("place", place, there.offset), ("form", FIELDS[field], there.type))
+            report.compare("names shown", kind, ("fields", len(rows), len(fields)))
         else:
             compare_names(kind, rows, ours, report)

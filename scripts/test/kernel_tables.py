@@ -304,19 +304,15 @@ def compare_levels(ours, kernel, report):
                 report.compare("states, headers", f"{level}.{name}", ("row", "none", name))
 
 
-def as_json(ours):
-    """The tables: the rows of places, the fields of records, values and flags, and what the state encoding clears."""
-    rows = [{"place": place, "number": it.number, "name": it.name, "form": it.form._asdict(), "list": it.is_list}
-            for place, listed in ours.places.items() for it in listed]
-    records = [{"record": kind, "size": size, "fields": [field._asdict() for field in fields]}
-               for kind, (fields, size) in ours.records.items()]
-    values = [{"type": kind, "flags": kind in ours.flags, "values": numbers} for kind, numbers in ours.values.items()]
-    numbers = {name: n for (_, name), n in ours.constants.items()}
-    return json.dumps({"rows": rows, "records": records, "values": values, "constants": numbers,
-                       "states": ours.levels}, indent=1)
-
-
-def show(report):
+def compare(ours, files):
+    kernel, report = Kernel(files), Report()
+    if not kernel.yaml:
+        print(f"kernel_tables: skipped: no rt_link.yaml in {files}")
+    kernel_shown.compare_shown(ours, kernel.yaml and kernel.headers, report)
+    compare_names(ours, report)
+    for step in (compare_constants, compare_places, compare_kinds, compare_records, compare_values, compare_levels):
+        if kernel.yaml:
+            step(ours, kernel, report)
     for category in sorted({category for category, outcome in report.counts}):
         equal, newer, reasoned, faults = (report.counts[category, it] for it in ("equal", "newer", "reason", "fault"))
         print(f"{category:22} {equal + newer + reasoned + faults:3}: {equal:3} equal, {newer:2} newer, "
@@ -339,18 +335,6 @@ def show(report):
     return int(bool(report.faults))
 
 
-def compare(ours, files):
-    kernel, report = Kernel(files), Report()
-    if not kernel.yaml:
-        print(f"kernel_tables: skipped: no rt_link.yaml in {files}")
-    kernel_shown.compare_shown(ours, kernel.yaml and kernel.headers, report)
-    compare_names(ours, report)
-    for step in (compare_constants, compare_places, compare_kinds, compare_records, compare_values, compare_levels):
-        if kernel.yaml:
-            step(ours, kernel, report)
-    return show(report)
-
-
 parser = argparse.ArgumentParser(description=__doc__, formatter_class=argparse.RawDescriptionHelpFormatter)
 parser.add_argument("kernel", nargs="?", default=os.environ.get("KERNEL") or PACKAGE, help="the kernel's files")
 parser.add_argument("--tree", default=TOP, help="another tree of this repository")
@@ -360,6 +344,15 @@ given = parser.parse_args()
 if given.unpack:
     unpack(given.kernel, given.unpack)
 elif given.json:
-    print(as_json(Repository(given.tree)))
+    # the rows of places, the fields of records, values and flags, and what the state encoding clears
+    ours = Repository(given.tree)
+    rows = [{"place": place, "number": it.number, "name": it.name, "form": it.form._asdict(), "list": it.is_list}
+            for place, listed in ours.places.items() for it in listed]
+    records = [{"record": kind, "size": size, "fields": [field._asdict() for field in fields]}
+               for kind, (fields, size) in ours.records.items()]
+    values = [{"type": kind, "flags": kind in ours.flags, "values": numbers} for kind, numbers in ours.values.items()]
+    numbers = {name: n for (_, name), n in ours.constants.items()}
+    print(json.dumps({"rows": rows, "records": records, "values": values, "constants": numbers,
+                      "states": ours.levels}, indent=1))
 else:
     sys.exit(compare(Repository(given.tree), given.kernel))

@@ -376,23 +376,6 @@ def compare(rows, program, dumps, release, said, files, who, report):
     return links
 
 
-def of_folder(program, rows):
-    report, releases = Report(True), []
-    for report.release, out in kernels("kernel_truth"):
-        releases.append(report.release)
-        for path in sorted(glob.glob(f"{out}/truth-*.json")):
-            name = os.path.basename(path)[len("truth-"):-len(".json")]
-            dumps = [digits_of(text_of(f"{out}/truth-{name}{end}")) for end in (".hex", ".hex2")]
-            files = {source: [of_file(source, f"{out}/{source}-{name}{end}") for end in ("-a.txt", "-b.txt")]
-                     for source in ("sysfs", "proc")}
-            said = json.loads(text_of(path), strict=False)
-            compare(rows, program, dumps, report.release, said, files, f"{report.release} {name}", report)
-        report.show(report.release, releases[-1:])
-    if len(releases) > 1:
-        report.show("all kernels", releases)
-    return report.finish() if releases else None
-
-
 def ran(*words):
     return subprocess.run(words, stdin=subprocess.DEVNULL, capture_output=True, check=False)
 
@@ -426,4 +409,19 @@ def live(program, linkdump, rows):
 arguments = [it for it in sys.argv[1:] if not it.startswith("--")]
 show, dump = arguments + [f"{TOP}/out/{it}" for it in ("linkshow", "linkdump")[len(arguments):]]
 fields = read_table("scripts/test/kernel_fields.txt")
-sys.exit(live(show, dump, fields) if "--live" in sys.argv else of_folder(show, fields))
+if "--live" in sys.argv:
+    sys.exit(live(show, dump, fields))
+told, releases = Report(True), []
+for told.release, out in kernels("kernel_truth"):
+    releases.append(told.release)
+    for file in sorted(glob.glob(f"{out}/truth-*.json")):
+        moment = os.path.basename(file)[len("truth-"):-len(".json")]
+        before_after = {source: [of_file(source, f"{out}/{source}-{moment}{end}") for end in ("-a.txt", "-b.txt")]
+                        for source in ("sysfs", "proc")}
+        both = [digits_of(text_of(f"{out}/truth-{moment}{end}")) for end in (".hex", ".hex2")]
+        compare(fields, show, both, told.release, json.loads(text_of(file), strict=False), before_after,
+                f"{told.release} {moment}", told)
+    told.show(told.release, releases[-1:])
+if len(releases) > 1:
+    told.show("all kernels", releases)
+sys.exit(told.finish() if releases else 0)

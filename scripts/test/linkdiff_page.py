@@ -120,14 +120,6 @@ def told(line):
     return " ".join([it["change"], f"{family}{it['ifi-index']}", it["ifname"]]) + (f": {changes}" if changes else "")
 
 
-def runs(linkdiff, words, lines):
-    """What is told of lines, by the number of the line that brings it."""
-    out = [[] for _ in lines]
-    for it in said(linkdiff, [f"time={at} {spelled(it)}" for at, it in enumerate(lines)], *words):
-        out[int(json.loads(it)["time"])].append(told(it))
-    return out
-
-
 def hold(linkdiff, words, lines):
     """Looks whether the program tells of these lines what stands behind their arrows; returns how many they are."""
     given, arrows, wanted = zip(*(map(str.strip, it.partition("->")) for it in lines))
@@ -139,22 +131,16 @@ def hold(linkdiff, words, lines):
             found = [[told(it) for it in said(linkdiff, [], f"{folder}/OLD", f"{folder}/NEW")]]
         given, arrows, wanted = ["two files"], arrows[-1:], wanted[-1:]
     else:
-        found = runs(linkdiff, words, given)
+        # by the number of the line that brings it
+        found = [[] for _ in given]
+        for it in said(linkdiff, [f"time={at} {spelled(it)}" for at, it in enumerate(given)], *words):
+            found[int(json.loads(it)["time"])].append(told(it))
     for line, arrow, one, other in zip(given, arrows, found, wanted, strict=True):
         if not arrow:
             fails(f"'{line}' has no arrow")
         if "; ".join(one) != other:
             fails(f"'{line}': told is '{'; '.join(one)}'")
     return len(given)
-
-
-def streams(linkdiff, page):
-    held = 0
-    for block in STREAM.findall(page):
-        lines = "\n".join(it for it in block.splitlines() if it and it[0] != "#")
-        for words, part in re.findall(r"^(?:linkdiff ?(.*)\n)?((?:(?!linkdiff\b).*\n?)+)", lines, re.M):
-            held += hold(linkdiff, words.split(), part.splitlines())
-    return held
 
 
 # what one reads of message_diff and frame_diff from the contracts on
@@ -165,5 +151,9 @@ page, files = read(PAGE), {module for module, _ in found}
 counted = f"{size(found)} in {len(files)} files", f"quotes {quotes(page, found)} of them as they stand"
 hold_words(fails, page, [*counted, *(f"`{file.split('.')[-1]}.antt`" for file in sorted(files))])
 print(f"linkdiff page: {'; '.join(counted)}")
-held = streams(sys.argv[1] if sys.argv[1:] else "out/linkdiff", page)
-print(f"linkdiff page: {held} lines of {len(STREAM.findall(page))} streams\nlinkdiff page: ok")
+held, streams = 0, STREAM.findall(page)
+for block in streams:
+    lines = "\n".join(it for it in block.splitlines() if it and it[0] != "#")
+    for words, part in re.findall(r"^(?:linkdiff ?(.*)\n)?((?:(?!linkdiff\b).*\n?)+)", lines, re.M):
+        held += hold(sys.argv[1] if sys.argv[1:] else "out/linkdiff", words.split(), part.splitlines())
+print(f"linkdiff page: {held} lines of {len(streams)} streams\nlinkdiff page: ok")

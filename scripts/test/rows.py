@@ -32,37 +32,12 @@ def rows():
         yield "LinkAttribute", variant, "..", "..", constant, "attribute_tests"
 
 
-def rows_beside():
-    numbers = dict(re.findall(r"pub const (\w+): u16 = (\w+);", read_all("crates/*/src/numbers.rt")))
-    headline, laws = read(HEADLINE), read(LAWS)
-    copies = {crate: read_all(f"crates/{crate}/src/copies*.rt") for crate in ("place_tests", "attribute_tests")}
-    for enum, variant, how, held, constant, tests in rows():
-        if f"{enum}::{variant}(" not in copies[tests]:
-            yield f"crates/{tests}/src/copies*.rt: no line of {enum}::{variant}(..),"
-        if not re.search(rf"\.{variant}\b", headline):
-            yield f"{HEADLINE}: no line of row {numbers[constant]} ({how} {held}) ...{variant}"
-        if not re.search(rf"\b{constant}\b", laws):
-            yield f"{LAWS}: no line of {{{constant}, .., 0, ..}},"
-
-
 def of_header(name):
     """The names that a function of the header has, with their numbers where it has these."""
     list_ = rf"\blinkwire_{name}\(.*?\bnames\[\] = \{{\n(.*?)\n    \}};"
     body = re.search(list_, read(HEADER), re.S)
     pairs = re.findall(r'\{(\d+), "([^"]*)"\}', body[1])
     return [(int(number), text) for number, text in pairs] or re.findall(r'"([^"]*)"', body[1])
-
-
-def numbers_beside():
-    numbers = re.findall(r"^pub const (IFLA_\w+): u16 = (\d+);", read(NUMBERS), re.M)
-    assert len(numbers) > 60, "numbers"
-    header = dict(enumerate(of_header("name")))
-    python = set(re.findall(r"^(IFLA_\w+) = (\d+)$", read(PYTHON), re.M))
-    for name, number in numbers:
-        if header.get(int(number)) != name:
-            yield f"{HEADER}: linkwire_name lacks {name}, {number}"
-        if (name, number) not in python:
-            yield f"{PYTHON}: the list lacks {name}, {number}"
 
 
 def listed(name):
@@ -80,12 +55,30 @@ def types():
     return sorted((number, names[kind].lower()) for kind, number in numbers.items())
 
 
-def names_beside():
-    for name, wanted in (("operstate", listed("OPERSTATES")), ("linkmode", listed("LINK_MODES")),
-                         ("flag", listed("LINK_FLAGS")), ("type", types())):
-        if of_header(f"{name}_name") != wanted:
-            yield f"{HEADER}: linkwire_{name}_name: the names are {wanted}"
+lacking = []
+numbers = dict(re.findall(r"pub const (\w+): u16 = (\w+);", read_all("crates/*/src/numbers.rt")))
+headline, laws = read(HEADLINE), read(LAWS)
+copies = {crate: read_all(f"crates/{crate}/src/copies*.rt") for crate in ("place_tests", "attribute_tests")}
+for enum, variant, how, held, constant, tests in rows():
+    if f"{enum}::{variant}(" not in copies[tests]:
+        lacking.append(f"crates/{tests}/src/copies*.rt: no line of {enum}::{variant}(..),")
+    if not re.search(rf"\.{variant}\b", headline):
+        lacking.append(f"{HEADLINE}: no line of row {numbers[constant]} ({how} {held}) ...{variant}")
+    if not re.search(rf"\b{constant}\b", laws):
+        lacking.append(f"{LAWS}: no line of {{{constant}, .., 0, ..}},")
 
+numbers = re.findall(r"^pub const (IFLA_\w+): u16 = (\d+);", read(NUMBERS), re.M)
+assert len(numbers) > 60, "numbers"
+header = dict(enumerate(of_header("name")))
+python = set(re.findall(r"^(IFLA_\w+) = (\d+)$", read(PYTHON), re.M))
+for name, number in numbers:
+    if header.get(int(number)) != name:
+        lacking.append(f"{HEADER}: linkwire_name lacks {name}, {number}")
+    if (name, number) not in python:
+        lacking.append(f"{PYTHON}: the list lacks {name}, {number}")
 
-lacking = [*rows_beside(), *numbers_beside(), *names_beside()]
+for name, wanted in (("operstate", listed("OPERSTATES")), ("linkmode", listed("LINK_MODES")),
+                     ("flag", listed("LINK_FLAGS")), ("type", types())):
+    if of_header(f"{name}_name") != wanted:
+        lacking.append(f"{HEADER}: linkwire_{name}_name: the names are {wanted}")
 sys.exit("\n".join(f"rows: {it}" for it in lacking) or 0)

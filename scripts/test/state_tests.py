@@ -57,13 +57,6 @@ def dump(path):
     return {int.from_bytes(message[4:8], "little"): message for message in messages}
 
 
-def pairs_of(release, out):
-    """Returns the pairs of the links that are in both dumps, as (name, first, second)."""
-    dumps = [(path.stem, dump(path), dump(f"{path}2")) for path in sorted(Path(out).glob("*.hex"))]
-    return [(f"{release} {name} {index}", first[index], second[index])
-            for name, first, second in dumps for index in first.keys() & second.keys()]
-
-
 def has_asked(name, first, second):
     """Whether the two states are those of an interface of ASKED."""
     if len(first) != len(second) or not first[:3] == second[:3] == b"ok ":
@@ -81,7 +74,10 @@ if wrong:
     sys.exit(f"state_tests: two states, or a refusal: {wrong}")
 print(f"state_tests: {with_words} lines with words; {len(found)} pairs of one state")
 for release, out in kernels("state_tests"):
-    found = states(linkstate, pairs_of(release, out))
+    # the pairs of the links that are in both dumps
+    dumps = [(path.stem, dump(path), dump(f"{path}2")) for path in sorted(Path(out).glob("*.hex"))]
+    found = states(linkstate, [(f"{release} {name} {index}", first[index], second[index])
+                               for name, first, second in dumps for index in first.keys() & second.keys()])
     moved = {name: pair for name, pair in found.items() if pair[0] != pair[1]}
     wrong = [name for name, pair in moved.items() if not has_asked(name, *pair)]
     if wrong or not found:
