@@ -187,7 +187,7 @@ def main():
     here = versions()
     most, was = stored(asked.rows)
     # what is not compared here: rows by their program, and columns
-    others = {name for name in here if was[name] != here[name]}
+    others = {name for name in here if was.get(name) != here[name]}
     programs = [DUMP] * ("cc" in others or here["libpcap"] == "none") + [CRATE] * ("rustc" in others)
     over = {what for what, (of, _) in COUNTED.items() if of in programs and not asked.make}
     columns = [OF_SYSTEM] * ("libc" in others)

@@ -77,13 +77,6 @@ def around(name, text, at, new, function):
                       *four(text[at + 1:]), *(f"of {it}" for it in own if it)])
 
 
-def alike():
-    """The patterns of tests/second/alike.txt, in which * is anything, and {a,b} one of the two."""
-    rows = (TOP / "tests/second/alike.txt").read_text().splitlines()
-    found = [re.escape(row.strip()).replace("\\*", ".*") for row in rows if row.startswith("  ")]
-    return re.compile("|".join(re.sub(r"\\{(.*?)\\}", lambda it: f"(?:{it[1].replace(',', '|')})", it) for it in found))
-
-
 def compiles(*command):
     return subprocess.run(["cc", *map(str, command)], capture_output=True, check=False).returncode == 0
 
@@ -211,7 +204,11 @@ def main():
         prepare(name, folder, text)
         wanted = answers(name, folder, text, sorted({at for at, *_ in picked}))
         there = set().union(*(there for *_, there in wanted))
-        pattern, results, work = alike(), collections.Counter(), []
+        # the patterns of tests/second/alike.txt, in which * is anything, and {a,b} one of the two
+        alike = [re.escape(row.strip()).replace("\\*", ".*")
+                 for row in Path("tests/second/alike.txt").read_text().splitlines() if row.startswith("  ")]
+        alike = re.sub(r"\\{(.*?)\\}", lambda it: f"(?:{it[1].replace(',', '|')})", "|".join(alike))
+        results, work = collections.Counter(), []
 
         def count(found, what):
             results[found] += 1
@@ -220,7 +217,7 @@ def main():
         for at, how, function in picked:
             new = changed(text[at], how, random.Random(chance.random()))
             what = f"{function}: {at + 1}: {' '.join(text[at].split())} -> {' '.join(new.split())}"
-            fits = bool(pattern.search(around(name, text, at, new, function)))
+            fits = bool(re.search(alike, around(name, text, at, new, function)))
             if at in there:
                 work.append((at, new, what, fits))
             else:

@@ -29,21 +29,18 @@ class Headers:
 
     def __init__(self, texts):
         self.values, self.defines, self.structs, self.block, self.names = {}, {}, {}, {}, {}
-        for name, text in texts.items():
-            self.read(name, text)
-
-    def read(self, header, text):
-        text = re.sub(r"/\*.*?\*/|//[^\n]*", " ", text, flags=re.S).replace("\\\n", " ")
-        names = self.names.setdefault(header, [])
-        for name, body in re.findall(r"^[ \t]*#[ \t]*define[ \t]+(\w+)[ \t]+(\S.*?)[ \t]*$", text, flags=re.M):
-            if name != body:
-                self.defines.setdefault(name, body)
-                names.append(name)
-        text = re.sub(r"^[ \t]*#.*$", "", text, flags=re.M)
-        for body in re.findall(r"\benum\b\s*\w*\s*\{([^{}]*)\}", text):
-            self.read_enum(body, names)
-        for name, body in re.findall(r"\bstruct\s+(\w+)\s*\{([^{}]*)\}", text):
-            self.read_struct(name, body)
+        for header, text in texts.items():
+            text = re.sub(r"/\*.*?\*/|//[^\n]*", " ", text, flags=re.S).replace("\\\n", " ")
+            names = self.names.setdefault(header, [])
+            for name, body in re.findall(r"^[ \t]*#[ \t]*define[ \t]+(\w+)[ \t]+(\S.*?)[ \t]*$", text, flags=re.M):
+                if name != body:
+                    self.defines.setdefault(name, body)
+                    names.append(name)
+            text = re.sub(r"^[ \t]*#.*$", "", text, flags=re.M)
+            for body in re.findall(r"\benum\b\s*\w*\s*\{([^{}]*)\}", text):
+                self.read_enum(body, names)
+            for name, body in re.findall(r"\bstruct\s+(\w+)\s*\{([^{}]*)\}", text):
+                self.read_struct(name, body)
 
     def read_enum(self, body, names):
         block, last = [], -1
@@ -127,8 +124,15 @@ class Kernel:
         self.lists, self.structs, self.sets = {}, {}, {}
         for it in spec.get("definitions", []):
             self.define(it)
+        # a set as number: attribute; numbers count from 1, and a subset has those of its whole
         for it in spec.get("attribute-sets", []):
-            self.attributes(it)
+            numbers, following = {}, 1
+            whole = {a["name"]: n for n, a in self.sets.get(it.get("subset-of"), {}).items()}
+            for attribute in it["attributes"]:
+                following = whole.get(attribute["name"], attribute.get("value", following))
+                numbers[following] = dict(whole and self.sets[it["subset-of"]][following], **attribute)
+                following += 1
+            self.sets[it["name"]] = numbers
         self.messages = {it["name"]: {form["value"]: form["attribute-set"] for form in it["formats"]}
                          for it in spec.get("sub-messages", [])}
         for name, attributes in LEFT_OUT.items():
@@ -154,16 +158,6 @@ class Kernel:
                 values[str(name)] = 1 << following if it["type"] == "flags" else following
                 following += 1
             self.lists[it["name"]] = values
-
-    def attributes(self, it):
-        """A set as number: attribute; numbers count from 1, and a subset has those of its whole."""
-        numbers, following = {}, 1
-        whole = {a["name"]: n for n, a in self.sets.get(it.get("subset-of"), {}).items()}
-        for attribute in it["attributes"]:
-            following = whole.get(attribute["name"], attribute.get("value", following))
-            numbers[following] = dict(whole and self.sets[it["subset-of"]][following], **attribute)
-            following += 1
-        self.sets[it["name"]] = numbers
 
 
 class Code:

@@ -215,31 +215,27 @@ def compare_places(ours, kernel, report):
 
 def compare_form(where, row, named, beside, report):
     """The form beside rt_link.yaml, and beside the code."""
-    known, attribute, code, ours = beside
+    (known, attribute, code, ours), form = beside, row.form
     if attribute:
         constant = next((it for it in named if plain(it) == plain(attribute["name"])), None)
         facts = [("constant", constant, attribute["name"]) if constant else ("name", row.name, attribute["name"])]
-        facts += [("form", in_words(row.form), described(attribute, known.files))] if row.form.word != "kept" else []
+        # a form as rt_link.yaml describes one
+        here = f"nest {PLACES[form.place].set or form.place}" if form.word == "nest" else \
+            f"struct {RECORDS[form.record].struct or form.record}" if form.word == "struct" else form.word
+        facts += [("form", here, described(attribute, known.files))] if here != "kept" else []
         report.compare("rows, left out" if "left out" in attribute else "rows, yaml", where, *facts)
     puts = set().union(*(code.puts.get(known.prefix + it, set()) for it in named))
     taken = next((code.policies[known.prefix + it] for it in named if known.prefix + it in code.policies), None)
     if puts:
-        here = put(row.form, ours)
+        here = put(form, ours)
         report.compare("rows, code", where, ("put", here, here if here in puts else "/".join(sorted(map(str, puts)))))
     elif taken is not None:
-        is_struct = row.form.word == "struct" and str(taken).startswith("struct ")
-        here = "nest" if taken == "nest" and row.form.word.startswith("list ") else \
-            "struct " + RECORDS[row.form.record].header if is_struct else ours.size(row.form)
+        is_struct = form.word == "struct" and str(taken).startswith("struct ")
+        here = "nest" if taken == "nest" and form.word.startswith("list ") else \
+            "struct " + RECORDS[form.record].header if is_struct else ours.size(form)
         report.compare("rows, code", where, ("taken", here, taken))
     if not (attribute or puts or taken is not None):
         report.left["forms"].append(where)
-
-
-def in_words(form):
-    """A form as rt_link.yaml describes one."""
-    if form.word == "nest":
-        return f"nest {PLACES[form.place].set or form.place}"
-    return f"struct {RECORDS[form.record].struct or form.record}" if form.word == "struct" else form.word
 
 
 def described(attribute, has_hints):

@@ -67,10 +67,14 @@ class Page:
                 self.counts["run"] += 1
 
     def namespace(self, commands):
-        unshare = namespace()
-        if unshare is None:
-            print(f"readme: {self.name}: skipped: no right to make a namespace with links, or no jq")
-            return
+        for flag in "-n", "-rn":
+            unshare = ["unshare", flag]
+            tried = subprocess.run([*unshare, "sh", "-c", f"{LINKS} && jq --version"], capture_output=True, timeout=60,
+                                   check=False)
+            if tried.returncode == 0:
+                break
+        else:
+            return print(f"readme: {self.name}: skipped: no right to make a namespace with links, or no jq")
         for command, wanted in commands:
             found = self.output(f"{LINKS} && {command}", prefix=unshare).splitlines()
             for line in wanted.splitlines():
@@ -143,16 +147,6 @@ def plain(shown):
     """The text of a block of a manual page."""
     letters = {"\\-": "-", "\\(dq": '"', "\\(aq": "'", "\\(->": "→", "\\e": "\\"}
     return re.sub(r"\\(?:\(..|.)", lambda it: letters.get(it[0], it[0]), shown)
-
-
-def namespace():
-    """How to run a command in a network namespace with links, or None."""
-    for flag in "-n", "-rn":
-        tried = subprocess.run(["unshare", flag, "sh", "-c", f"{LINKS} && jq --version"], capture_output=True,
-                               timeout=60, check=False)
-        if tried.returncode == 0:
-            return ["unshare", flag]
-    return None
 
 
 library, *programs = sys.argv[1:] or ["out/liblinkwire.a"]

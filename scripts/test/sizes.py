@@ -109,25 +109,6 @@ def look_at_linkdiff(programs, made, size):
     laws.hold_files(programs["linkdiff"], [], known, [lines[0], lines[1]], [lines[3], lines[1]], Counter())
 
 
-def look_at_growth(program):
-    """Lists sixteen times as long take linkdiff as many times as long, and little more: their length to this power."""
-    names = [attribute(53, b"%05d" % at) for at in range(5000)]
-    functions = [attribute(1, attribute(4, struct.pack("<II", at, 1))) for at in range(2500)]
-    for what, kind, values, step in (("names reversed", 52, names, -1), ("each second name goes", 52, names, 2),
-                                     ("functions reversed", 22, functions, -1)):
-        seconds = []
-        for part in 16, 1, 16, 1, 16, 1:
-            some = values[:len(values) // part]
-            lines = [(header(0) + attribute(kind, b"".join(it))).hex() for it in (some, some[::step])] * (12 * part)
-            start = getrusage(RUSAGE_CHILDREN).ru_utime
-            answers(program, lines)
-            seconds.append(getrusage(RUSAGE_CHILDREN).ru_utime - start)
-        power = 1 + math.log(min(seconds[1::2]) / min(seconds[::2]), 16)
-        print(f"sizes: linkdiff: {what}: {power:.2f}")
-        if power > 1.2:
-            sys.exit(f"sizes: linkdiff: {what}: {seconds}")
-
-
 def look_at_linkdump(program, size):
     """Whether it reads captures."""
     if any(b"built without libpcap" in it for it in said(program, [], "--help")):
@@ -149,7 +130,22 @@ path = os.pathsep.join(map(os.path.abspath, sys.argv[1:]))
 programs = {it: shutil.which(it, path=path) or sys.exit(f"sizes: no {it} in {path}") for it in [*LOOKS, "linkdump"]}
 if not all(look_at_linkdump(programs["linkdump"], size) for size in PACKETS):
     print("sizes: linkdump: skipped: it is built without libpcap")
-look_at_growth(programs["linkdiff"])
+# lists sixteen times as long take linkdiff as many times as long, and little more: their length to this power
+names = [attribute(53, b"%05d" % at) for at in range(5000)]
+functions = [attribute(1, attribute(4, struct.pack("<II", at, 1))) for at in range(2500)]
+for what, kind, values, step in (("names reversed", 52, names, -1), ("each second name goes", 52, names, 2),
+                                 ("functions reversed", 22, functions, -1)):
+    taken = []
+    for part in 16, 1, 16, 1, 16, 1:
+        some = values[:len(values) // part]
+        lines = [(header(0) + attribute(kind, b"".join(it))).hex() for it in (some, some[::step])] * (12 * part)
+        start = getrusage(RUSAGE_CHILDREN).ru_utime
+        answers(programs["linkdiff"], lines)
+        taken.append(getrusage(RUSAGE_CHILDREN).ru_utime - start)
+    power = 1 + math.log(min(taken[1::2]) / min(taken[::2]), 16)
+    print(f"sizes: linkdiff: {what}: {power:.2f}")
+    if power > 1.2:
+        sys.exit(f"sizes: linkdiff: {what}: {taken}")
 seconds = Counter()
 for size in SIZES.values():
     made = Made(size)

@@ -35,8 +35,6 @@ STAND_IN=waits PATH="$folder/bin:$PATH" "$folder/scripts/make/progress.sh" top "
 waits 10 test -s "$folder/crates/mid/pid" || fails 'the second crate is not reached'
 kill $!
 wait $! && fails 'its end is no failure'
-ended() {
-    ! kill -0 "$(cat "$folder/crates/mid/pid")" 2>/dev/null
-}
-waits 5 ended || fails 'what was started goes on after its end'
+pid=$(cat "$folder/crates/mid/pid")
+waits 5 sh -c '! kill -0 "$0" 2>/dev/null' "$pid" || fails 'what was started goes on after its end'
 echo 'progress: ended from outside: ok'
