@@ -18,26 +18,24 @@ message() {
         -e 's/kept(\([0-9]*\), \([0-9]*\))/DefaultNla { kind: \1, value: [\2] }/g' <<<"[$2] }"
 }
 
-# How many lists, texts and bytes a message has, each of which takes memory.
-places_of() {
-    grep -oE 'vec: \[|string: "|value: \[' <<<"$1" | wc -l
-}
-
 # What the program prints where this allocation is refused.
 answers() {
     refusing "$1" "$program" <"$folder/message" || echo "status $?"
 }
 
-# refuses NAME FAMILY ATTRIBUTES TEXT MEANING: each allocation on this message is refused, those of one call after those
-# of the other; then none is.
-refuses() {
-    local zeros=000000000000000000000000000000 means want refused call allocation=1 count places
-    means=$(message "$2" "$5")
-    places=$(places_of "$means")
-    want=$(printf '%s\n' "parse: $means" "clone_in: $means" "to_vec: $2$zeros$4" "reads_back: true" \
-        "canonical: $2$zeros$4" "same_message: true" "parse_before_fault: ($means, None)" \
+# each allocation on each message is refused, those of one call after those of the other; then none is
+total=0 rows=() zeros=000000000000000000000000000000
+reads rows program/refused_parse.txt
+for ((at = 0; at < ${#rows[@]}; at += 2)); do
+    read -r family attributes text name <<<"${rows[at]}"
+    allocation=1
+    means=$(message "$family" "${rows[at + 1]}")
+    # how many lists, texts and bytes it has, each of which takes memory
+    places=$(grep -oE 'vec: \[|string: "|value: \[' <<<"$means" | wc -l)
+    want=$(printf '%s\n' "parse: $means" "clone_in: $means" "to_vec: $family$zeros$text" "reads_back: true" \
+        "canonical: $family$zeros$text" "same_message: true" "parse_before_fault: ($means, None)" \
         "list_from: [Vf, SkipStats, Other(256)]")
-    printf '%b' "$(printf '%s' "$2$zeros$3" | sed 's/../\\x&/g')" >"$folder/message"
+    printf '%b' "$(printf '%s' "$family$zeros$attributes" | sed 's/../\\x&/g')" >"$folder/message"
     for call in "${calls[@]}"; do
         refused=$(printf '%s\n' "$want" | sed "s/^$call: .*/$call: out of memory/")
         count=0
@@ -48,21 +46,14 @@ refuses() {
         case $call in
         parse | clone_in | parse_before_fault) ((count >= places)) ;;
         reads_back) ((count > places)) ;;
-        same_message) ((count == (${#4} > 480 ? 2 : 0))) ;; # short encodings are compared without memory
+        same_message) ((count == (${#text} > 480 ? 2 : 0))) ;; # short encodings are compared without memory
         to_vec | canonical) ((count == 1)) ;;
         *) ((count > 0)) ;;
-        esac || fails "$1: of $call $count allocations are refused, of $places places: $(answers "$allocation")"
+        esac || fails "$name: of $call $count allocations are refused, of $places places: $(answers "$allocation")"
         total=$((total + count))
     done
     answer=$(answers "$allocation")
-    [ "$answer" = "$want" ] || fails "$1: $answer, not $want"
-    [ ! -e "$folder/refused" ] || fails "$1: allocation $allocation is refused, and no call says so"
-}
-
-total=0 rows=()
-reads rows program/refused_parse.txt
-for ((at = 0; at < ${#rows[@]}; at += 2)); do
-    read -r family attributes text name <<<"${rows[at]}"
-    refuses "$name" "$family" "$attributes" "$text" "${rows[at + 1]}"
+    [ "$answer" = "$want" ] || fails "$name: $answer, not $want"
+    [ ! -e "$folder/refused" ] || fails "$name: allocation $allocation is refused, and no call says so"
 done
 echo "refused_parse: $total allocations on $((${#rows[@]} / 2)) messages refused in turn: ok"
