@@ -12,6 +12,21 @@ from rules import TABLES
 VIEW = keys.CRATES / "link_view"
 READ = dict(TABLES["arms"])
 HELD = {held: new.split("  ") for held, new in TABLES["borrowed"]}
+OTHER = keys.Row("", "Other", "DefaultNla", "", "", "")
+# What is written of an enum: what is said of it, its variants, the places it opens, and the arms.
+BLOCK = re.compile(r"""^/// (.*)
+#\[derive\(Drop\)\]
+pub enum Borrowed(\w+)<'a> \{
+([\s\S]*?)
+\}
+
+impl<'a> [\s\S]*?unfolding\(([\s\S]*?)\)\)\]
+[\s\S]*?
+    \{
+([\s\S]*?)
+    \}
+[\s\S]*?^\}
+""", re.M)
 
 
 @functools.lru_cache(maxsize=None)
@@ -76,9 +91,6 @@ def attributes(text):
     return between(text, r"^pub\(crate\) fn read_frame<[\s\S]*?    match kind \{\n([\s\S]*?)\n    \}\n", arms)
 
 
-OTHER = keys.Row("", "Other", "DefaultNla", "", "", "")
-
-
 def attribute_specs(text):
     # by variant the reader of its list, as the table names it
     reader = {variant: f"{name}.grammar.reads" if line == "written" else f"{name}.codec.grammar.reads"
@@ -102,22 +114,6 @@ def place_of(crate, enum):
 
 def module_of(crate):
     return crate.removeprefix("link_")
-
-
-# What is written of an enum: what is said of it, its variants, the places it opens, and the arms.
-BLOCK = re.compile(r"""^/// (.*)
-#\[derive\(Drop\)\]
-pub enum Borrowed(\w+)<'a> \{
-([\s\S]*?)
-\}
-
-impl<'a> [\s\S]*?unfolding\(([\s\S]*?)\)\)\]
-[\s\S]*?
-    \{
-([\s\S]*?)
-    \}
-[\s\S]*?^\}
-""", re.M)
 
 
 def names(crate, enum):

@@ -32,6 +32,10 @@ NAMED, NUMBERS, FLAGS = map(names, ("named", "numbers", "flags"))
 BITS = {"LacpState": 1}
 KINDS = "Style", "Names", "[Member]", "[Row]", "[(Place, u16)]"
 CONSTANT = re.compile(r"const (\w+): ([^=]+?)\s* = ([^;]+);", re.S)
+BLOCK = re.compile(r"(?<=<!-- made by scripts/erase/typed.py -->\n)[\s\S]*?(?=<!-- made: to here -->)")
+# Payloads of variants in netlink-packet-route, where they differ from those here.
+THERE_HELD = {("Vlan", "flag"): "(VlanFlags, VlanFlags)", ("VlanQos", "mapping"): "u32, u32",
+              ("Vxlan", "port-range"): "(u16, u16)", ("Macvlan", "macaddr-data"): "Vec<InfoMacVlan>"}
 
 
 def read(name, crate=CRATE):
@@ -195,11 +199,6 @@ class Maker:
         return "\n".join([MARK + re.sub(r"^// .*\n", "", MORE, flags=re.M), *enums, *types])
 
 
-# Payloads of variants in netlink-packet-route, where they differ from those here.
-THERE_HELD = {("Vlan", "flag"): "(VlanFlags, VlanFlags)", ("VlanQos", "mapping"): "u32, u32",
-              ("Vxlan", "port-range"): "(u16, u16)", ("Macvlan", "macaddr-data"): "Vec<InfoMacVlan>"}
-
-
 class Held(Maker):
     """What variants hold that is no single number, name or text: records, lists, nests and messages."""
 
@@ -226,9 +225,6 @@ class Held(Maker):
             held = [f"`{shown}`" for one, _, shown in found if one == place and shown]
             lines += [f"| `{place_name(place)}` | {', '.join(held)} |"] if held else []
         return "\n".join(lines) + "\n"
-
-
-BLOCK = re.compile(r"(?<=<!-- made by scripts/erase/typed.py -->\n)[\s\S]*?(?=<!-- made: to here -->)")
 
 
 def moving(page):

@@ -137,14 +137,6 @@ def versions():
             "libpcap": said(["pkg-config", "--modversion", "libpcap"])}
 
 
-def stored(path):
-    """The rows of a file, and the versions that they were made by."""
-    lines = pathlib.Path(path).read_text("ascii").splitlines()
-    words = [line.split() for line in lines if not line.startswith("#")]
-    rows = {(what, workload): [float(number) for number in numbers] for what, workload, *numbers in words}
-    return rows, dict(line.removeprefix("#: ").split("=", 1) for line in lines if line.startswith("#: "))
-
-
 def remarks(at_most, now, columns):
     """What is to be said of rows that were counted, by those that are stored; these columns are passed over."""
     for row in sorted(at_most.keys() ^ now.keys()):
@@ -185,7 +177,11 @@ def main():
     if wanted - set(rows):
         stop(f"no such row: {', '.join(map('/'.join, sorted(wanted - set(rows))))}")
     here = versions()
-    most, was = stored(asked.rows)
+    # the rows that are stored, and the versions that they were made by
+    lines = pathlib.Path(asked.rows).read_text("ascii").splitlines()
+    words = [line.split() for line in lines if not line.startswith("#")]
+    most = {(what, workload): [float(number) for number in numbers] for what, workload, *numbers in words}
+    was = dict(line.removeprefix("#: ").split("=", 1) for line in lines if line.startswith("#: "))
     # what is not compared here: rows by their program, and columns
     others = {name for name in here if was.get(name) != here[name]}
     programs = [DUMP] * ("cc" in others or here["libpcap"] == "none") + [CRATE] * ("rustc" in others)

@@ -30,6 +30,9 @@ CONDITION = re.compile(r"(j|set|(cmov))([abgl]e|n[es]|[abegls])((?(2)[qlw]?))")
 BY_ONE = {"jb": "jbe", "jbe": "jb", "ja": "jae", "jae": "ja", "jl": "jle", "jle": "jl", "jg": "jge", "jge": "jg"}
 # as dist/Makefile links a program
 WRAPS = [f"-Wl,--wrap={name}" for name in ("main", "read", "write")]
+PARTS = 8  # of the lines: a mutant runs those that come to it
+LIBRARY = "liblinkwire.so.0"
+TESTS = "calls", "lenient", "lists", "memory", "shown", "sizes", "state", "writer"
 # The words of a command, in which TO is the program, the file it reads, the file it writes to if it is not looked at,
 # and whether it calls the library, which it then preloads.
 Run = collections.namedtuple("Run", "words reads writes preloads", defaults=[("TO",), "/dev/null", "", False])
@@ -112,11 +115,6 @@ def prepare(name, folder, text):
         for it in ("lines", *TESTS):
             source = TOP / ("tests/second/lines.c" if it == "lines" else f"tests/c/{it}.c")
             compiles(*compiler, "-o", f"{folder}/test.{it}", source, f"{folder}/{LIBRARY}")
-
-
-PARTS = 8  # of the lines: a mutant runs those that come to it
-LIBRARY = "liblinkwire.so.0"
-TESTS = "calls", "lenient", "lists", "memory", "shown", "sizes", "state", "writer"
 
 
 @functools.lru_cache

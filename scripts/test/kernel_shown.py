@@ -26,12 +26,6 @@ def kernel_name(where):
                  if what == "name" and here in ("*", own) and fnmatch.fnmatchcase(where, pattern)), own)
 
 
-def form_of(form):
-    """The form that is shown of a form, by its type or that of its value."""
-    return form.value if form.value in FORMS.values() else "own" if form.value or form.word in ("nest", "struct") \
-        else form.word
-
-
 def compare_places(kind, rows, ours, headers, report):
     """Rows of a place as number, name and form; of the outermost place as name and form."""
     place, by_number = PLACES[kind], {}
@@ -42,8 +36,12 @@ def compare_places(kind, rows, ours, headers, report):
     for number, (name, form) in shown.items():
         found = by_number.get(number, [])
         there = [kernel_name(f"{kind}.{it.name}") for it in found[:1]] or [it for it, n in kept.items() if n == number]
+        # the form that is shown of the row's, by its type or that of its value
+        of, shows = found[0].form if len(found) == 1 else None, "own"
+        if of and (of.value in FORMS.values() or not of.value and of.word not in ("nest", "struct")):
+            shows = of.value or of.word
         report.compare("names shown", f"{kind}.{name}", ("name", name, (there or [name])[0]),
-                       ("form", FORMS.get(form, "own"), form_of(found[0].form) if len(found) == 1 else "own"))
+                       ("form", FORMS.get(form, "own"), shows))
     for number in by_number.keys() - shown.keys():
         report.compare("names shown", f"{kind}.{by_number[number][0].name}", ("row", "none", number))
 

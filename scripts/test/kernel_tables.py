@@ -16,6 +16,8 @@ from kernel_ours import BYTES, Repository, width
 from shared import TOP
 
 PACKAGE = "/usr/src/linux-source-6.12.tar.xz"
+# what a name of the kernel has where its value counts, or runs down
+COUNTS = re.compile(r"TIMER|STATS(?!_PAD|_MAX)|COUNT|_CNT|_N_|CHANGES|SEQ_NR|EVENT|CACHEINFO")
 
 
 def plain(name):
@@ -86,14 +88,23 @@ def compare_numbers(category, kind, numbers, theirs, report, has_all=True):
 
 def compare_records(ours, kernel, report):
     report.same_names("record", ours.records, RECORDS)
-    here = {f"{kind}.{field.name}" for kind, (fields, _) in ours.records.items() for field in fields}
-    report.faults += [f"{name}: no such field is here" for name in OWN_FIELDS if name not in here]
+    names = {f"{kind}.{field.name}" for kind, (fields, _) in ours.records.items() for field in fields}
+    report.faults += [f"{name}: no such field is here" for name in OWN_FIELDS if name not in names]
     for kind in filter(RECORDS.get, ours.records):
         (fields, size), known, headers = ours.records[kind], RECORDS[kind], kernel.headers
         if known.struct and report.has(kind, known.struct, kernel.structs):
             in_yaml(kind, fields, kernel.structs[known.struct], report)
         if known.header.endswith("_"):
-            by_number(kind, fields, size, headers.group(known.header), known.header, report)
+            # fields of one width by the numbers that an enum gives them, of which the first is that of the first field
+            numbers, wide = headers.group(known.header), width(fields[0].type)
+            own = [field.name for field in fields if f"{kind}.{field.name}" in OWN_FIELDS]
+            for name in own:
+                report.compare("fields, headers", f"{kind}.{name}", ("field", name, "none"))
+            first = min(numbers.values(), default=0)
+            here = {field.name: first + field.offset // wide for field in fields if field.name not in own}
+            if report.has(kind, known.header, numbers and {known.header}):
+                compare_numbers("fields, headers", kind, here, numbers, report)
+            report.compare("records, headers", kind, ("size", size, wide * len(here)))
         elif report.has(kind, known.header, headers.structs):
             there, whole = headers.structs[known.header]
             theirs = [field for field in there if "pad" not in field.name]
@@ -116,18 +127,6 @@ def in_yaml(kind, fields, listed, report):
         else:
             report.is_newer("fields, yaml", where)
     report.compare("records, yaml", kind, *[("field", "none", there.name) for there in listed])
-
-
-def by_number(kind, fields, size, numbers, prefix, report):
-    """Fields of one width by the numbers that an enum gives them, of which the first is that of the first field."""
-    first, wide = min(numbers.values(), default=0), width(fields[0].type)
-    own = [field.name for field in fields if f"{kind}.{field.name}" in OWN_FIELDS]
-    for name in own:
-        report.compare("fields, headers", f"{kind}.{name}", ("field", name, "none"))
-    here = {field.name: first + field.offset // wide for field in fields if field.name not in own}
-    if report.has(kind, prefix, numbers and {prefix}):
-        compare_numbers("fields, headers", kind, here, numbers, report)
-    report.compare("records, headers", kind, ("size", size, wide * len(here)))
 
 
 def compare_values(ours, kernel, report):
@@ -274,10 +273,6 @@ def compare_kinds(ours, kernel, report):
             report.compare("row kinds, code", f"{call}.{kind}", ("place", here, there[0]))
         else:
             report.left["kinds"].append(f"{call}.{kind}")
-
-
-# what a name of the kernel has where its value counts, or runs down
-COUNTS = re.compile(r"TIMER|STATS(?!_PAD|_MAX)|COUNT|_CNT|_N_|CHANGES|SEQ_NR|EVENT|CACHEINFO")
 
 
 def compare_levels(ours, kernel, report):

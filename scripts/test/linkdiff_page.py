@@ -31,7 +31,8 @@ ATTRIBUTES = {"name": lambda it: attribute(3, it.encode() + b"\0"),
               "ipv6": lambda it: attribute(12, attribute(3, struct.pack(f"<{it}Q", *range(int(it))))),
               "alias": lambda it: attribute(20, bytes.fromhex(it)),
               "trees": lambda it: attribute(26, attribute(6, b"".join(map(tree, it.split(","))))),
-              "vlans": lambda it: attribute(26, b"".join(vlan(*one) for one in ranges(it))),
+              "vlans": lambda it: attribute(26, b"".join(
+                  attribute(2, struct.pack("<HH", flags | end, number)) for number, end, flags, _ in ranges(it))),
               "tunnels": lambda it: attribute(26, b"".join(tunnel(*one) for one in ranges(it))),
               "names": lambda it: attribute(52, b"".join(attribute(53, one.encode()) for one in it.split(","))),
               "targets": lambda it: attribute(18, attribute(1, b"bond") + attribute(2, attribute(8, b"".join(
@@ -60,10 +61,6 @@ def ranges(text):
         first, *last = map(int, numbers.split("-"))
         yield first, 8 * len(last), int(said or 0), 0
         yield from ((it, 16, int(said or 0), it - first) for it in last)
-
-
-def vlan(number, end, flags, _):
-    return attribute(2, struct.pack("<HH", flags | end, number))
 
 
 def tunnel(number, end, it, behind):

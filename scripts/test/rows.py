@@ -47,14 +47,6 @@ def listed(name):
     return [row[-1] for row in found]
 
 
-def types():
-    """Numbers and names of hardware types, in the order of their numbers."""
-    numbers = {kind: int(number) for kind, number in re.findall(r"LinkLayerType::(\w+) => (\d+),", read(TYPES))}
-    names = dict(re.findall(r'LinkLayerType::(\w+) => "([^"]*)",', read(TYPES)))
-    assert numbers.keys() == names.keys() and len(numbers) > 60, "numbers and names"
-    return sorted((number, names[kind].lower()) for kind, number in numbers.items())
-
-
 lacking = []
 numbers = dict(re.findall(r"pub const (\w+): u16 = (\w+);", read_all("crates/*/src/numbers.rt")))
 headline, laws = read(HEADLINE), read(LAWS)
@@ -77,8 +69,13 @@ for name, number in numbers:
     if (name, number) not in python:
         lacking.append(f"{PYTHON}: the list lacks {name}, {number}")
 
+# hardware types, in the order of their numbers
+kinds = {kind: int(number) for kind, number in re.findall(r"LinkLayerType::(\w+) => (\d+),", read(TYPES))}
+names = dict(re.findall(r'LinkLayerType::(\w+) => "([^"]*)",', read(TYPES)))
+assert kinds.keys() == names.keys() and len(kinds) > 60, "numbers and names"
+types = sorted((number, names[kind].lower()) for kind, number in kinds.items())
 for name, wanted in (("operstate", listed("OPERSTATES")), ("linkmode", listed("LINK_MODES")),
-                     ("flag", listed("LINK_FLAGS")), ("type", types())):
+                     ("flag", listed("LINK_FLAGS")), ("type", types)):
     if of_header(f"{name}_name") != wanted:
         lacking.append(f"{HEADER}: linkwire_{name}_name: the names are {wanted}")
 sys.exit("\n".join(f"rows: {it}" for it in lacking) or 0)

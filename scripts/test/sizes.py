@@ -2,6 +2,7 @@
 """Holds each program to a model over long messages and long lines, from 5 kB to 20 MB.
 
     python3 scripts/test/sizes.py FOLDER..      these have the five programs; of two the first counts"""
+import itertools
 import json
 import math
 import os
@@ -28,6 +29,8 @@ PAYLOADS = [0, 1, 2, 3, 5, 8, 100, 1000, 4096, 65531]
 IFNAME, MTU, IFALIAS, CARRIER_CHANGES, UNKNOWN = 3, 4, 20, 35, 300
 FLAGS = 0xC000
 LETTERS = 'a"\\/\n\x01\x1f\x7f\u00e9\U0001f517 '
+# how many words of a line are members of its answer; a list has the others
+MEMBERS = 32
 
 
 def header(reserved, index=7):
@@ -74,10 +77,6 @@ def look_at_linkstate(programs, made, size):
             [front + (Said(it).stated.encode() if it else b"") for front, it in lines])
 
 
-# how many words of a line are members of its answer; a list has the others
-MEMBERS = 32
-
-
 def look_at_linkshow(programs, made, size):
     program = programs["linkshow"]
     host = (LETTERS.replace(" ", "").replace("\n", "\r") * (size // 8)).encode()[:size].decode(errors="ignore")
@@ -109,27 +108,21 @@ def look_at_linkdiff(programs, made, size):
     laws.hold_files(programs["linkdiff"], [], known, [lines[0], lines[1]], [lines[3], lines[1]], Counter())
 
 
-def look_at_linkdump(program, size):
-    """Whether it reads captures."""
-    if any(b"built without libpcap" in it for it in said(program, [], "--help")):
-        return False
-    texts = [Made(size).message, header(0), Made(size // 3).message, header(1)]
-    packets = [captures.cooked([captures.message(16, it)]) for it in texts[:2]]
-    packets.append(captures.cooked([captures.message(16, it) for it in texts[2:]]))
-    for name, form in captures.FORMS.items():
-        found = ran(program, form([(10**9, it) for it in packets]), "--read", "-", "--plain")
-        wanted = [it.hex().encode() for it in texts]
-        compare(f"sizes: linkdump of a {name}", wanted, found, wanted)
-    return True
-
-
 LOOKS = {"linkwire": look_at_linkwire, "linkstate": look_at_linkstate, "linkshow": look_at_linkshow,
          "linkdiff": look_at_linkdiff}
 
 path = os.pathsep.join(map(os.path.abspath, sys.argv[1:]))
 programs = {it: shutil.which(it, path=path) or sys.exit(f"sizes: no {it} in {path}") for it in [*LOOKS, "linkdump"]}
-if not all(look_at_linkdump(programs["linkdump"], size) for size in PACKETS):
+if any(b"built without libpcap" in it for it in said(programs["linkdump"], [], "--help")):
+    PACKETS = []
     print("sizes: linkdump: skipped: it is built without libpcap")
+for size, (name, form) in itertools.product(PACKETS, captures.FORMS.items()):
+    texts = [Made(size).message, header(0), Made(size // 3).message, header(1)]
+    packets = [captures.cooked([captures.message(16, it)]) for it in texts[:2]]
+    packets.append(captures.cooked([captures.message(16, it) for it in texts[2:]]))
+    found = ran(programs["linkdump"], form([(10**9, it) for it in packets]), "--read", "-", "--plain")
+    wanted = [it.hex().encode() for it in texts]
+    compare(f"sizes: linkdump of a {name}", wanted, found, wanted)
 # lists sixteen times as long take linkdiff as many times as long, and little more: their length to this power
 names = [attribute(53, b"%05d" % at) for at in range(5000)]
 functions = [attribute(1, attribute(4, struct.pack("<II", at, 1))) for at in range(2500)]
