@@ -38,20 +38,17 @@ class Headers:
                     names.append(name)
             text = re.sub(r"^[ \t]*#.*$", "", text, flags=re.M)
             for body in re.findall(r"\benum\b\s*\w*\s*\{([^{}]*)\}", text):
-                self.read_enum(body, names)
+                block, last = [], -1
+                for name, expression in re.findall(r"(?:^|,)\s*(\w+)\s*(?:=\s*([^,]*[^,\s]))?", body):
+                    last = self.evaluate(expression) if expression else last + 1
+                    if last is None:
+                        break
+                    self.values[name] = last
+                    block.append(name)
+                    self.block[name] = block
+                    names.append(name)
             for name, body in re.findall(r"\bstruct\s+(\w+)\s*\{([^{}]*)\}", text):
                 self.read_struct(name, body)
-
-    def read_enum(self, body, names):
-        block, last = [], -1
-        for name, expression in re.findall(r"(?:^|,)\s*(\w+)\s*(?:=\s*([^,]*[^,\s]))?", body):
-            last = self.evaluate(expression) if expression else last + 1
-            if last is None:
-                break
-            self.values[name] = last
-            block.append(name)
-            self.block[name] = block
-            names.append(name)
 
     def read_struct(self, name, body):
         """Fields at their offsets as C lays them out on 64 bits, with the size; none if a type is not known."""
@@ -123,7 +120,17 @@ class Kernel:
                                 for name in HEADERS if name in self.files})
         self.lists, self.structs, self.sets = {}, {}, {}
         for it in spec.get("definitions", []):
-            self.define(it)
+            if it["type"] == "struct":
+                fields = [field for field in it["members"] if field["type"] != "pad"]
+                self.structs[it["name"]] = [Field(field["name"], None, type_of(field)) for field in fields]
+            elif it["type"] in ("enum", "flags"):
+                values, following = {}, it.get("value-start", 0)
+                for entry in it["entries"]:
+                    name, value = (entry["name"], entry.get("value")) if isinstance(entry, dict) else (entry, None)
+                    following = following if value is None else value
+                    values[str(name)] = 1 << following if it["type"] == "flags" else following
+                    following += 1
+                self.lists[it["name"]] = values
         # a set as number: attribute; numbers count from 1, and a subset has those of its whole
         for it in spec.get("attribute-sets", []):
             numbers, following = {}, 1
@@ -145,19 +152,6 @@ class Kernel:
     def of_code(self, names):
         """The files of code that are there."""
         return Code("\n".join(self.files[name] for name in names.split() if name in self.files))
-
-    def define(self, it):
-        if it["type"] == "struct":
-            fields = [field for field in it["members"] if field["type"] != "pad"]
-            self.structs[it["name"]] = [Field(field["name"], None, type_of(field)) for field in fields]
-        elif it["type"] in ("enum", "flags"):
-            values, following = {}, it.get("value-start", 0)
-            for entry in it["entries"]:
-                name, value = (entry["name"], entry.get("value")) if isinstance(entry, dict) else (entry, None)
-                following = following if value is None else value
-                values[str(name)] = 1 << following if it["type"] == "flags" else following
-                following += 1
-            self.lists[it["name"]] = values
 
 
 class Code:
