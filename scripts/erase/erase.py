@@ -132,22 +132,6 @@ def erase(path, text, crate, mode):
     return text[:front] + "".join(f"use {path};\n" for path in imported) + gap + text[front:]
 
 
-def look(mode):
-    """The first pass: which functions of the package fail for memory alone, and which names a user sees; what the calls
-    by hand require, and whether lib.rs has the modules that are made."""
-    for crate, base, path in mode.sources():
-        s = Source(path, read(path))
-        mode.memory_names |= {found["name"] for found in s.find(memory.FAILS)}
-        if crate in TOPS and base == "lib":
-            surface.hide_names(s)
-            paths.drop_names(s, lambda name, pub: pub == "pub" and mode.public.add(name))       # drops none
-    for path in BY_HAND.glob("*.rs"):
-        mode.conditions += owed.written(Source(path, read(path)))
-    named = re.findall(r'^#\[path = "generated/(\w+)/mod.rs"\]', read(BY_HAND / "lib.rs"), re.M)
-    if sorted(named) != sorted(mode.libraries + ["rattle"]):
-        raise Unknown(f"rust/src/lib.rs: the modules that are made are {', '.join(mode.libraries)}, rattle")
-
-
 def copy_tests(mode, out):
     """What stands for Rattle's std in the package of the tests, its modules and programs, of which only those that have
     tests are compiled as tests too, and their stored runs, which the tests compare with what their Rust says."""
@@ -184,8 +168,20 @@ def make_all(mode, out):
     for folder in ("src" if mode.is_tests else "src/generated", "runs"):
         shutil.rmtree(out / folder, ignore_errors=True)
     (copy_tests if mode.is_tests else copy_std)(mode, out)
+    # the first pass: which functions of the package fail for memory alone, and which names a user sees; what the calls
+    # by hand require, and whether lib.rs has the modules that are made
     if mode.is_crate:
-        look(mode)
+        for crate, base, path in mode.sources():
+            s = Source(path, read(path))
+            mode.memory_names |= {found["name"] for found in s.find(memory.FAILS)}
+            if crate in TOPS and base == "lib":
+                surface.hide_names(s)
+                paths.drop_names(s, lambda name, pub: pub == "pub" and mode.public.add(name))       # drops none
+        for path in BY_HAND.glob("*.rs"):
+            mode.conditions += owed.written(Source(path, read(path)))
+        named = re.findall(r'^#\[path = "generated/(\w+)/mod.rs"\]', read(BY_HAND / "lib.rs"), re.M)
+        if sorted(named) != sorted(mode.libraries + ["rattle"]):
+            raise Unknown(f"rust/src/lib.rs: the modules that are made are {', '.join(mode.libraries)}, rattle")
     for crate, base, path in mode.sources():
         text = erase(path.relative_to(TOP), read(path), crate, mode)
         folder = "bin" if crate in mode.programs else "" if mode.is_tests else "generated"

@@ -137,19 +137,6 @@ def versions():
             "libpcap": said(["pkg-config", "--modversion", "libpcap"])}
 
 
-def remarks(at_most, now, columns):
-    """What is to be said of rows that were counted, by those that are stored; these columns are passed over."""
-    for row in sorted(at_most.keys() ^ now.keys()):
-        yield f"{'/'.join(row)}: {'is not counted' if row in at_most else 'has no row'}"
-    for row in sorted(at_most.keys() & now.keys()):
-        for at, (unit, most, number) in enumerate(zip(UNITS, at_most[row], now[row])):
-            of = f"{number} {unit}{' a line' if at < OF_A_LINE else ''}"
-            if at not in columns and number > most * MOST + ROUNDED:
-                yield f"{'/'.join(row)}: {of}, and at most {most} are allowed"
-            elif at not in columns and number < most * LEAST - ROUNDED:
-                yield f"{'/'.join(row)}: {of}: lower the row, which has {most}"
-
-
 def main():
     parser = argparse.ArgumentParser(usage="costs.py [--make] [--texts FOLDER] [--rows FILE] [WHAT/WORKLOAD ..]")
     parser.add_argument("--make", action="store_true")
@@ -193,7 +180,15 @@ def main():
         rows = [" ".join(map(str, (*row, *numbers))) for row, numbers in now.items()]
         return print(read("scripts/measure/costs/head.txt") + "\n".join(versions_ + rows))
     at_most = {row: numbers for row, numbers in most.items() if (not wanted or row in wanted) and row[0] not in over}
-    found = list(remarks(at_most, now, columns))
+    found = [f"{'/'.join(row)}: {'is not counted' if row in at_most else 'has no row'}"
+             for row in sorted(at_most.keys() ^ now.keys())]
+    for row in sorted(at_most.keys() & now.keys()):
+        for at, (unit, most, number) in enumerate(zip(UNITS, at_most[row], now[row])):
+            of = f"{number} {unit}{' a line' if at < OF_A_LINE else ''}"
+            if at not in columns and number > most * MOST + ROUNDED:
+                found.append(f"{'/'.join(row)}: {of}, and at most {most} are allowed")
+            elif at not in columns and number < most * LEAST - ROUNDED:
+                found.append(f"{'/'.join(row)}: {of}: lower the row, which has {most}")
     if found:
         stop("\ncosts: ".join(found))
     left = [*sorted(over), *(UNITS[it] for it in columns)]

@@ -1,13 +1,6 @@
 #!/usr/bin/env python3
 """Lists the functions of the crates that no test names, in which no edit stands, and that nothing calls which is named.
-
-    python3 scripts/test/named.py
-
-Tests are the test crates, tests/, the tests of programs and those of rust/, and what bench/ measures. What stands
-outside of functions, such as the rows of a table, is named, and so is `main`. A law has a statement and no code, and
-needs none of both. Names are words: a function is named too where another one of its name is.
-"""
-
+Names are words: a function is named too where another one of its name is."""
 import re
 import sys
 from collections import defaultdict

@@ -48,20 +48,15 @@ def items(folder):
     return lines
 
 
-def without_example(folder):
-    """The calls whose docs have no example, and no link to one."""
-    for kind, path, text in pages(folder):
-        calls = [(path, text)]
-        if kind not in ("fn", "macro"):
-            calls = [(f"{path}::{name}", docs) for name, docs in CALL.findall(OTHERS.split(text)[0])]
-        yield from (name for name, docs in calls if not EXAMPLE.search(docs))
-
-
 doc, *kept = sys.argv[1:]
 found = items(doc)
 if not kept:
     sys.exit(print(*found, sep="\n"))
 lines = Path(*kept).read_text("utf-8").splitlines()
 told = [*difflib.unified_diff(lines, found, *kept, "what is public", lineterm="", n=1)]
-told += [f"{call}: no example, and no link to one" for call in without_example(doc)]
+for kind, path, text in pages(doc):
+    calls = [(path, text)]
+    if kind not in ("fn", "macro"):
+        calls = [(f"{path}::{name}", docs) for name, docs in CALL.findall(OTHERS.split(text)[0])]
+    told += [f"{name}: no example, and no link to one" for name, docs in calls if not EXAMPLE.search(docs)]
 sys.exit("\n".join(told) or 0)

@@ -42,18 +42,12 @@ def by_form(form, table, levels, payload):
     return payload[::-1] if width(form.word) == len(payload) else payload
 
 
-def below(levels, number, payload):
-    """The levels of the state encoding inside of an attribute, those of link info by the kinds that it names; None
-    where it has none."""
-    what, *said = (levels or {}).get(number, ["Keep"])
-    if what == "EnterInfo":
-        return second.level("Info", *second.kinds_in(payload))
-    return second.level(said[0]) if what == "Enter" else None
-
-
 def member(table, levels, kind, payload):
-    number = kind & 0x3fff
-    row, inside = (table or {}).get(number), below(levels, number, payload)
+    row, inside = (table or {}).get(kind & 0x3fff), None
+    # the levels of the state encoding inside of the attribute, those of link info by the kinds that it names
+    what, *said = (levels or {}).get(kind & 0x3fff, ["Keep"])
+    if what in ("Enter", "EnterInfo"):
+        inside = second.level("Info", *second.kinds_in(payload)) if what == "EnterInfo" else second.level(said[0])
     if row and row[2] and row[0] in (None, len(payload)):
         return by_form(OURS.form(row[3]), getattr(row[2], "table", None), inside, payload)
     return payload if inside is None else frames(None, inside, payload)
@@ -73,18 +67,16 @@ def header(data, at):
     return data[at:at + 2][::-1] + data[at + 2:at + 4][::-1]
 
 
-def message(data):
-    if len(data) < 16:
-        return data
-    levels = second.level("Message", second.FAMILY_NAME.get(data[0]))
-    return reversed_at(data[:16], HEADER) + frames(second.top(data), levels, data[16:])
-
-
 def turned(text):
     """A line, or an answer."""
     front, digits = (b"ok ", text[3:]) if text.startswith(b"ok ") else (b"", text)
-    is_message = digits and second.is_hex(digits)
-    return front + message(bytes.fromhex(digits.decode())).hex().encode() if is_message else text
+    if not digits or not second.is_hex(digits):
+        return text
+    data = bytes.fromhex(digits.decode())
+    if len(data) >= 16:
+        levels = second.level("Message", second.FAMILY_NAME.get(data[0]))
+        data = reversed_at(data[:16], HEADER) + frames(second.top(data), levels, data[16:])
+    return front + data.hex().encode()
 
 
 lines, answers = (Path(name).read_bytes().split(b"\n")[:-1] for name in sys.argv[1:3])
