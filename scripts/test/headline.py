@@ -50,15 +50,6 @@ class Module:
                 self.items[current] = self.items.get(current, "") + line + "\n"
         self.names.update({it: (name, it) for it in self.items})
 
-    def cited(self, body):
-        """Where each name stands that the lines of a definition cite."""
-        for name in NAME.findall(body):
-            first, _, rest = name.partition(".")
-            if first in self.others and rest:
-                yield self.others[first], rest.split(".")[0]
-            elif first in self.names:
-                yield self.names[first]
-
 
 def walk(starts, is_left_out):
     """What one reads from these definitions on: module, name and the lines of each definition."""
@@ -67,14 +58,19 @@ def walk(starts, is_left_out):
         module, name = todo.pop(0)
         if (module, name) in found or ".declared." in module or is_left_out(module, name):
             continue
-        modules.setdefault(module, Module(module))
-        if name not in modules[module].items:
+        there = modules.setdefault(module, Module(module))
+        if name not in there.items:
             sys.exit(f"headline: {module} has no {name}")
-        body = UNREAD.sub("", modules[module].items[name])
+        body = UNREAD.sub("", there.items[name])
         if re.search(r"\.reads\b", body):
             sys.exit(f"headline: {name} of {module} cites a reader")
         found[module, name] = sum(bool(line.strip()) for line in body.splitlines())
-        todo += modules[module].cited(body)
+        # where each name stands that the lines of the definition cite
+        for first, _, rest in (it.partition(".") for it in NAME.findall(body)):
+            if first in there.others and rest:
+                todo.append((there.others[first], rest.split(".")[0]))
+            elif first in there.names:
+                todo.append(there.names[first])
     return found
 
 

@@ -93,7 +93,17 @@ def compare_records(ours, kernel, report):
     for kind in filter(RECORDS.get, ours.records):
         (fields, size), known, headers = ours.records[kind], RECORDS[kind], kernel.headers
         if known.struct and report.has(kind, known.struct, kernel.structs):
-            in_yaml(kind, fields, kernel.structs[known.struct], report)
+            # names and types in their order; those after the last there are newer
+            listed = list(kernel.structs[known.struct])
+            for field in fields:
+                where, type_ = f"{kind}.{field.name}", ("type", field.type, listed[0].type if listed else None)
+                if reason(where, "field", "none")[0] == field.name:
+                    report.compare("fields, yaml", where, ("field", field.name, "none"))
+                elif listed:
+                    report.compare("fields, yaml", where, ("name", field.name, listed.pop(0).name), type_)
+                else:
+                    report.is_newer("fields, yaml", where)
+            report.compare("records, yaml", kind, *[("field", "none", there.name) for there in listed])
         if known.header.endswith("_"):
             # fields of one width by the numbers that an enum gives them, of which the first is that of the first field
             numbers, wide = headers.group(known.header), width(fields[0].type)
@@ -112,21 +122,6 @@ def compare_records(ours, kernel, report):
                 report.compare("fields, headers", f"{kind}.{field.name}", ("name", field.name, there.name),
                                ("type", field.type, there.type), ("offset", field.offset, there.offset))
             report.compare("records, headers", kind, ("size", size, whole), ("fields", len(fields), len(theirs)))
-
-
-def in_yaml(kind, fields, listed, report):
-    """Names and types in their order. Those after the last there are newer."""
-    listed = list(listed)
-    for field in fields:
-        where = f"{kind}.{field.name}"
-        if reason(where, "field", "none")[0] == field.name:
-            report.compare("fields, yaml", where, ("field", field.name, "none"))
-        elif listed:
-            there = listed.pop(0)
-            report.compare("fields, yaml", where, ("name", field.name, there.name), ("type", field.type, there.type))
-        else:
-            report.is_newer("fields, yaml", where)
-    report.compare("records, yaml", kind, *[("field", "none", there.name) for there in listed])
 
 
 def compare_values(ours, kernel, report):

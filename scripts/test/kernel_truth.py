@@ -49,7 +49,6 @@ def read_table(path):
 
 # ** translations: of both sides to what has to be equal; numbers may move
 
-
 def mapping(args):
     return dict(word.split("=", 1) for word in args)
 
@@ -149,7 +148,6 @@ ABSENT = "yes there bit no-bit bit-number mask device count link zero empty abse
 NAMED_IF_SET = "bit mask there".split()
 
 # ** lists that are sets: what ip has to have of ours
-
 
 def flags(ours, args):
     """Names as ip has them, in small letters and with dashes, or as the row says."""

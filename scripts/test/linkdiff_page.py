@@ -72,21 +72,6 @@ def fails(what):
     sys.exit(f"linkdiff page: {PAGE}: {what}")
 
 
-# ** definitions
-
-def quotes(page, found):
-    """How many definitions the page quotes, each as it stands in its file, comments aside."""
-    texts = {}
-    for module, name in found:
-        lines = Module(module).items[name].splitlines()
-        texts["\n".join(it for it in lines if it.strip() and not it.lstrip().startswith("--"))] = name
-    quoted = [it.strip("\n") for block in QUOTED.findall(page) for it in block.split("\n\n")]
-    for it in quoted:
-        if it not in texts:
-            fails(f"no definition stands so:\n{it}")
-    return len(set(quoted))
-
-
 # ** streams
 
 def spelled(line):
@@ -144,8 +129,15 @@ def hold(linkdiff, words, lines):
 found = walk(STARTS, lambda module, name: not module.startswith(OURS) or (module, name) in SAID)
 if sys.argv[1:] == ["--list"]:
     sys.exit(show(found))
-page, files = read(PAGE), {module for module, _ in found}
-counted = f"{size(found)} in {len(files)} files", f"quotes {quotes(page, found)} of them as they stand"
+page, files, texts = read(PAGE), {module for module, _ in found}, set()
+# the page quotes definitions as they stand in their files, comments aside
+for module, name in found:
+    lines = Module(module).items[name].splitlines()
+    texts.add("\n".join(it for it in lines if it.strip() and not it.lstrip().startswith("--")))
+quoted = dict.fromkeys(it.strip("\n") for block in QUOTED.findall(page) for it in block.split("\n\n"))
+for it in filter(lambda it: it not in texts, quoted):
+    fails(f"no definition stands so:\n{it}")
+counted = f"{size(found)} in {len(files)} files", f"quotes {len(quoted)} of them as they stand"
 hold_words(fails, page, [*counted, *(f"`{file.split('.')[-1]}.antt`" for file in sorted(files))])
 print(f"linkdiff page: {'; '.join(counted)}")
 held, streams = 0, STREAM.findall(page)
