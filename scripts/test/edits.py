@@ -62,19 +62,6 @@ def lists():
         yield path, TOP / "crates" / path.stem, read(path)
 
 
-def take_apart(path, folder, words=""):
-    folder = Path(folder)
-    folder.mkdir(parents=True, exist_ok=True)
-    for _, headline, lines in read(path):
-        file = folder / f"{name_of(headline)}.edit"
-        if file.exists():
-            sys.exit(f"{path}: there is a file of this name already, so word the headline anew: {headline}")
-        file.write_text("\n".join(lines) + "\n", "utf-8")
-    for file in folder.glob("*.edit"):
-        if f"_{name_of(words)}" not in f"_{file.name}":
-            file.unlink()
-
-
 def pairs_of(lines, crate):
     """Yields of each pair of an edit the file, the old text and the new one."""
     path, old = crate, ""
@@ -100,13 +87,6 @@ def edited(lines, crate):
                 f"{old.strip()[:80]}"
         texts[path] = text.replace(old, new)
     return texts, None
-
-
-def apply(edit, crate):
-    texts, why = edited(lines_of(edit), Path(crate))
-    for path, text in {} if why else texts.items():
-        path.write_text(text, "utf-8")
-    return why and f"{edit}: {why}"
 
 
 def owner(text, at):
@@ -158,10 +138,24 @@ def main(words):
     if words == ["--table"]:
         return PAGE.write_text(page_as_made()[1], "utf-8") and None
     if words[:1] == ["--apply"] and len(words) == 3:
-        return apply(*words[1:])
+        texts, why = edited(lines_of(words[1]), Path(words[2]))
+        for path, text in {} if why else texts.items():
+            path.write_text(text, "utf-8")
+        return why and f"{words[1]}: {why}"
     if len(words) not in (2, 3) or words[0].startswith("-"):
         return __doc__
-    return take_apart(*words)
+    path, folder, *wanted = words
+    folder = Path(folder)
+    folder.mkdir(parents=True, exist_ok=True)
+    for _, headline, lines in read(path):
+        file = folder / f"{name_of(headline)}.edit"
+        if file.exists():
+            sys.exit(f"{path}: there is a file of this name already, so word the headline anew: {headline}")
+        file.write_text("\n".join(lines) + "\n", "utf-8")
+    for file in folder.glob("*.edit"):
+        if f"_{name_of(''.join(wanted))}" not in f"_{file.name}":
+            file.unlink()
+    return None
 
 
 if __name__ == "__main__":

@@ -50,7 +50,13 @@ class Repository:
         self.read_values()
         self.read_records()
         self.read_places()
-        self.read_lists()
+        # the rows of the places that linkshow shows as lists
+        code = self.code("frame_shown/src/tables.rt")
+        shown = re.findall(r'"([\w-]+)",\s*Form::List\(\s*List::(?:Listed|Entries)\(', code)
+        names = {name.replace("-", "") for name in shown}
+        nests = {row.form.place for rows in self.places.values() for row in rows if row.name.lower() in names}
+        for place in nests & self.places.keys():
+            self.places[place] = [row._replace(is_list=True) for row in self.places[place]]
         self.read_link_info()
         self.levels = second.ROWS
         self.constants = {(crate, name): int(n, 0) for crate in CRATES for name, n in re.findall(
@@ -134,15 +140,6 @@ class Repository:
         if words[0] in ("list", "entries"):
             return Form("nest", place=self.tables[words[1]])
         return self.form(words[3 if words[0] == "as_form" else 1])
-
-    def read_lists(self):
-        """The rows of the places that linkshow shows as lists."""
-        code = self.code("frame_shown/src/tables.rt")
-        shown = re.findall(r'"([\w-]+)",\s*Form::List\(\s*List::(?:Listed|Entries)\(', code)
-        names = {name.replace("-", "") for name in shown}
-        nests = {row.form.place for rows in self.places.values() for row in rows if row.name.lower() in names}
-        for place in nests & self.places.keys():
-            self.places[place] = [row._replace(is_list=True) for row in self.places[place]]
 
     def read_link_info(self):
         folder = self.crates / "link_info/src"

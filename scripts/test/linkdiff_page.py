@@ -102,29 +102,6 @@ def told(line):
     return " ".join([it["change"], f"{family}{it['ifi-index']}", it["ifname"]]) + (f": {changes}" if changes else "")
 
 
-def hold(linkdiff, words, lines):
-    """Looks whether the program tells of these lines what stands behind their arrows; returns how many they are."""
-    given, arrows, wanted = zip(*(map(str.strip, it.partition("->")) for it in lines))
-    if "OLD" in words:
-        middle = given.index("NEW")
-        with tempfile.TemporaryDirectory() as folder:
-            for name, part in ("OLD", given[1:middle]), ("NEW", given[middle + 1:-1]):
-                Path(folder, name).write_bytes(joined(map(spelled, part)))
-            found = [[told(it) for it in said(linkdiff, [], f"{folder}/OLD", f"{folder}/NEW")]]
-        given, arrows, wanted = ["two files"], arrows[-1:], wanted[-1:]
-    else:
-        # by the number of the line that brings it
-        found = [[] for _ in given]
-        for it in said(linkdiff, [f"time={at} {spelled(it)}" for at, it in enumerate(given)], *words):
-            found[int(json.loads(it)["time"])].append(told(it))
-    for line, arrow, one, other in zip(given, arrows, found, wanted, strict=True):
-        if not arrow:
-            fails(f"'{line}' has no arrow")
-        if "; ".join(one) != other:
-            fails(f"'{line}': told is '{'; '.join(one)}'")
-    return len(given)
-
-
 # what one reads of message_diff and frame_diff from the contracts on
 found = walk(STARTS, lambda module, name: not module.startswith(OURS) or (module, name) in SAID)
 if sys.argv[1:] == ["--list"]:
@@ -140,9 +117,28 @@ for it in filter(lambda it: it not in texts, quoted):
 counted = f"{size(found)} in {len(files)} files", f"quotes {len(quoted)} of them as they stand"
 hold_words(fails, page, [*counted, *(f"`{file.split('.')[-1]}.antt`" for file in sorted(files))])
 print(f"linkdiff page: {'; '.join(counted)}")
-held, streams = 0, STREAM.findall(page)
+held, streams, linkdiff = 0, STREAM.findall(page), sys.argv[1] if sys.argv[1:] else "out/linkdiff"
 for block in streams:
     lines = "\n".join(it for it in block.splitlines() if it and it[0] != "#")
     for words, part in re.findall(r"^(?:linkdiff ?(.*)\n)?((?:(?!linkdiff\b).*\n?)+)", lines, re.M):
-        held += hold(sys.argv[1] if sys.argv[1:] else "out/linkdiff", words.split(), part.splitlines())
+        # the program has to tell of these lines what stands behind their arrows
+        given, arrows, wanted = zip(*(map(str.strip, it.partition("->")) for it in part.splitlines()))
+        if "OLD" in words.split():
+            middle = given.index("NEW")
+            with tempfile.TemporaryDirectory() as folder:
+                for name, part in ("OLD", given[1:middle]), ("NEW", given[middle + 1:-1]):
+                    Path(folder, name).write_bytes(joined(map(spelled, part)))
+                found = [[told(it) for it in said(linkdiff, [], f"{folder}/OLD", f"{folder}/NEW")]]
+            given, arrows, wanted = ["two files"], arrows[-1:], wanted[-1:]
+        else:
+            # by the number of the line that brings it
+            found = [[] for _ in given]
+            for it in said(linkdiff, [f"time={at} {spelled(it)}" for at, it in enumerate(given)], *words.split()):
+                found[int(json.loads(it)["time"])].append(told(it))
+        for line, arrow, one, other in zip(given, arrows, found, wanted, strict=True):
+            if not arrow:
+                fails(f"'{line}' has no arrow")
+            if "; ".join(one) != other:
+                fails(f"'{line}': told is '{'; '.join(one)}'")
+        held += len(given)
 print(f"linkdiff page: {held} lines of {len(streams)} streams\nlinkdiff page: ok")

@@ -58,9 +58,6 @@ class Made:
                         "other": [{"number": number, "flags": [], "payload": it.hex()} for number, it in others]}
 
 
-SHORT = header(0).hex().encode()
-
-
 def look_at_linkwire(programs, made, size):
     no_digits = [b"0" * (size | 1), b"0" * (2 * size - 1) + b"g", b"g" * size, b" " * size]
     lines = [made.message.hex().encode(), SHORT, made.message.hex().upper().encode(), made.faulty.hex().encode(),
@@ -108,6 +105,7 @@ def look_at_linkdiff(programs, made, size):
     laws.hold_files(programs["linkdiff"], [], known, [lines[0], lines[1]], [lines[3], lines[1]], Counter())
 
 
+SHORT = header(0).hex().encode()
 LOOKS = {"linkwire": look_at_linkwire, "linkstate": look_at_linkstate, "linkshow": look_at_linkshow,
          "linkdiff": look_at_linkdiff}
 

@@ -42,23 +42,21 @@ def by_form(form, table, levels, payload):
     return payload[::-1] if width(form.word) == len(payload) else payload
 
 
-def member(table, levels, kind, payload):
-    row, inside = (table or {}).get(kind & 0x3fff), None
-    # the levels of the state encoding inside of the attribute, those of link info by the kinds that it names
-    what, *said = (levels or {}).get(kind & 0x3fff, ["Keep"])
-    if what in ("Enter", "EnterInfo"):
-        inside = second.level("Info", *second.kinds_in(payload)) if what == "EnterInfo" else second.level(said[0])
-    if row and row[2] and row[0] in (None, len(payload)):
-        return by_form(OURS.form(row[3]), getattr(row[2], "table", None), inside, payload)
-    return payload if inside is None else frames(None, inside, payload)
-
-
 def frames(table, levels, data):
     """A list of attributes, up to the header of the first that is damaged."""
     out, end = [], 0
     for at, kind, payload in second.frames_in(data):
         end = at + 4 + len(payload) + 3 & ~3
-        out += [header(data, at), member(table, levels, kind, payload), data[at + 4 + len(payload):end]]
+        row, inside, made = (table or {}).get(kind & 0x3fff), None, payload
+        # the levels of the state encoding inside of the attribute, those of link info by the kinds that it names
+        what, *said = (levels or {}).get(kind & 0x3fff, ["Keep"])
+        if what in ("Enter", "EnterInfo"):
+            inside = second.level("Info", *second.kinds_in(payload)) if what == "EnterInfo" else second.level(said[0])
+        if row and row[2] and row[0] in (None, len(payload)):
+            made = by_form(OURS.form(row[3]), getattr(row[2], "table", None), inside, payload)
+        elif inside is not None:
+            made = frames(None, inside, payload)
+        out += [header(data, at), made, data[at + 4 + len(payload):end]]
     left = header(data, end) if len(data) - end >= 4 else b""
     return b"".join(out) + left + data[end + len(left):]
 
