@@ -24,12 +24,11 @@ impl LinkMessage {
     /// Reads a message as far as it goes: the header, and the attributes in front of the first fault of the outermost
     /// list; and that fault, if there is one. Without one the message is that of `parse`.
     ///
-    /// It is for messages of kernels whose attributes the format refuses, as a name that is no UTF-8. Refuses
-    /// `TooShort` below 16 bytes, as `parse` does.
+    /// It is for messages of kernels whose attributes the format refuses, as a name that is no UTF-8.
     ///
     /// # Errors
     ///
-    /// The first fault: its cause, and where it is.
+    /// Refuses `TooShort` below 16 bytes, as `parse` does.
     ///
     /// ```
     /// use linkwire::{Cause, LinkAttribute, LinkMessage};

@@ -130,12 +130,11 @@ pub fn canonical_len(input: &[u8]) -> Result<usize, CanonError> {
 
 /// What the bytes mean, in canonical encoding of the form `CANONICAL_FORM`.
 ///
-/// The encoding means the same message, and its attributes are at most 79 times as long as those read. Refuses as
-/// `canonical_len` does: the message is measured, memory for it is taken once, and it is written.
+/// The encoding means the same message, and its attributes are at most 79 times as long as those read.
 ///
 /// # Errors
 ///
-/// The first fault: its cause, and where it is.
+/// Refuses as `canonical_len` does: the message is measured, memory for it is taken once, and it is written.
 ///
 /// ```
 /// use linkwire::{canonical, canonical_len, same_message};
@@ -176,15 +175,14 @@ fn same_spelling(header: &LinkHeader, rest: &[u8], other_header: &LinkHeader, ot
 
 /// Whether two byte strings mean the same message, which is so exactly where their canonical encodings are equal.
 ///
-/// Both have to mean messages that fit and hold no empty list of ports. Refuses as `canonical` does, each refusal of
-/// the first before those of the second. Memory is taken for the two encodings where they have one length, more than
-/// 256 bytes, and one of the messages is not canonical as it is spelled.
+/// Both have to mean messages that fit and hold no empty list of ports. Memory is taken for the two encodings where
+/// they have one length, more than 256 bytes, and one of the messages is not canonical as it is spelled.
 ///
 /// [`canonical`](crate::canonical) has an example.
 ///
 /// # Errors
 ///
-/// The first fault: its cause, and where it is.
+/// Refuses as `canonical` does, each refusal of the first before those of the second.
 pub fn same_message(first: &[u8], second: &[u8]) -> Result<bool, CanonError> {
     let (header, rest, len, prefix) = measure(first)?;
     let (other_header, other_rest, other_len, other_prefix) = measure(second)?;

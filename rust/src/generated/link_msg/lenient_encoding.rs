@@ -133,11 +133,11 @@ fn canonical_kept(input: &[u8]) -> Result<Vec<u8>, CanonError> {
 /// What the bytes mean leniently, in canonical encoding of the form `LENIENT_FORM`.
 ///
 /// Where `canonical` has an encoding, this is it. The encoding means leniently the same message, and its attributes are
-/// at most 79 times as long as those read. Refuses as `canonical_lenient_len` does.
+/// at most 79 times as long as those read.
 ///
 /// # Errors
 ///
-/// The first fault: its cause, and where it is.
+/// Refuses as `canonical_lenient_len` does.
 ///
 /// ```
 /// use linkwire::{canonical, canonical_lenient, canonical_lenient_len};

@@ -42,10 +42,6 @@ impl LinkMessage {
     /// written and read, in memory that is given back.
     ///
     /// [`LinkMessage::new`](crate::LinkMessage::new) has an example.
-    ///
-    /// # Errors
-    ///
-    /// The first fault: its cause, and where it is.
     #[must_use]
     pub fn reads_back(&self) -> bool {
         let len = match self.measured() {

@@ -97,13 +97,13 @@ pub fn same_state(first: &[u8], second: &[u8]) -> Result<bool, CanonError> {
 /// returns its length, which is that of the lenient canonical encoding. The rest of the buffer is kept.
 ///
 /// Attributes that are kept raw because they are refused are cleared as others of their number are, in a list as far as
-/// its first fault. Refuses as `canonical_lenient_within` does. After a refusal the buffer is unchanged.
+/// its first fault. After a refusal the buffer is unchanged.
 ///
 /// [`canonical_within`](crate::canonical_within) has an example.
 ///
 /// # Errors
 ///
-/// The first fault: its cause, and where it is.
+/// Refuses as `canonical_lenient_within` does.
 pub fn state_lenient_within(input: &[u8], out: &mut [u8]) -> Result<usize, RoomError> {
     let len = canonical_lenient_within(input, out)?;
     clear_message(room(out, ..len));

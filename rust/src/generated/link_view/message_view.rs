@@ -56,13 +56,13 @@ impl<'a> LinkView<'a> {
     }
 
     /// A view of which the header alone is checked: a fault of an attribute is met when it is read, and none that is
-    /// not read. Refuses `TooShort` below 16 bytes.
+    /// not read.
     ///
     /// [`LinkView::new`](crate::LinkView::new) has an example.
     ///
     /// # Errors
     ///
-    /// The first fault: its cause, and where it is.
+    /// Refuses `TooShort` below 16 bytes.
     pub fn peek(message: &'a [u8]) -> Result<LinkView<'a>, DecodeError> {
         LinkHeader::parse(message)?;
         let (front, list) = message.split_at(HEADER_SIZE);

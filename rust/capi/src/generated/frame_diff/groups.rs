@@ -3,357 +3,18 @@
 
 use crate::frame_diff::keyed::{keyed_beside, tell_keyed};
 use crate::frame_diff::keys::{Key, key_in};
-use crate::frame_diff::leaf::{Texts, Value, is_same, put_alone, tell_leaf};
-use crate::frame_diff::list::behind;
-use crate::frame_diff::lists::{is_without, none_of, tell_object};
-use crate::frame_diff::named::{is_each, is_unnamed};
-use crate::frame_diff::nests::is_nest;
+use crate::frame_diff::leaf::Texts;
+use crate::frame_diff::lists::none_of;
+use crate::frame_diff::one_value::{Group, Values};
 use crate::frame_diff::path::{join, join_place};
+use crate::frame_diff::picked::{next_place, pick, take_beside};
+use crate::frame_diff::plain_lists::{are_plain, tell_plain};
 use crate::frame_diff::ranges::{runs_beside, runs_of, tell_vlans};
-use crate::frame_diff::same::is_same_list;
-use crate::frame_diff::value::tell_value;
 use crate::frame_diff::walk::{Attribute, Attributes, Pass, Walk};
-use crate::frame_diff::wholes::put_entry;
-use crate::frame_shown::depth::Above;
-use crate::frame_shown::form::{Form, List, Table, Way, row_in};
-use crate::nla_wire::{NlaBuffer, NlasIterator};
+use crate::frame_shown::form::List;
+use crate::nla_wire::NlasIterator;
 use crate::shown::Page;
 use crate::rattle::alloc::{AllocError, Global};
-
-/// An attribute of a list, if it has a name.
-fn named<'a>(is_state: bool, list: Attributes<'a>, frame: &NlaBuffer<'a>) -> Option<Attribute<'a>> {
-    let number = frame.kind();
-    let (_, way) = row_in(list.around, list.list, number);
-    if is_unnamed(way, frame.value()) {
-        return None;
-    }
-    Some(Attribute {
-        around: list.around,
-        list: list.list,
-        number,
-        way,
-        payload: frame.value(),
-    })
-}
-
-/// An attribute of a list of objects, if it is one.
-fn entry<'a>(is_state: bool, list: Attributes<'a>, frame: &NlaBuffer<'a>) -> Option<Attribute<'a>> {
-    if frame.kind() != 1 {
-        return None;
-    }
-    Some(Attribute {
-        around: list.around,
-        list: list.list,
-        number: 1,
-        way: Way::Own(Form::Kept),
-        payload: frame.value(),
-    })
-}
-
-/// An attribute of a list, if it is a value of the list of this number.
-fn value_of<'a>(
-    is_state: bool,
-    list: Attributes<'a>,
-    number: u16,
-    frame: &NlaBuffer<'a>,
-) -> Option<Attribute<'a>> {
-    if frame.kind() != number {
-        return None;
-    }
-    let (_, way) = row_in(list.around, list.list, number);
-    if !is_each(way) {
-        return None;
-    }
-    Some(Attribute {
-        around: list.around,
-        list: list.list,
-        number,
-        way,
-        payload: frame.value(),
-    })
-}
-
-/// Whether the values of a list are those of its entries.
-fn is_entries(list: List) -> bool {
-    match list {
-        List::Entries(_) => true,
-        _ => false,
-    }
-}
-
-/// An attribute of a list, if it is one of its entries, or of those that have a name.
-fn pick_any<'a>(
-    is_state: bool,
-    list: Attributes<'a>,
-    frame: &NlaBuffer<'a>,
-) -> Option<Attribute<'a>> {
-    if is_entries(list.list) {
-        entry(is_state, list, frame)
-    } else {
-        named(is_state, list, frame)
-    }
-}
-
-/// An attribute of a list, if it is one of its values.
-pub(crate) fn pick<'a>(
-    is_state: bool,
-    list: Attributes<'a>,
-    frame: &NlaBuffer<'a>,
-) -> Option<Attribute<'a>> {
-    match list.number {
-        Some(number) => value_of(is_state, list, number, frame),
-        None => pick_any(is_state, list, frame),
-    }
-}
-
-/// The first value of a list, and the list behind it.
-#[derive(Clone, Copy)]
-struct Taken<'a> {
-    /// The value, if there is one.
-    value: Option<Attribute<'a>>,
-    /// What is left.
-    rest: Attributes<'a>,
-}
-
-/// Takes the first value.
-fn take<'a>(is_state: bool, list: Attributes<'a>) -> Taken<'a> {
-    let mut rest = list.bytes;
-    for item in NlasIterator::new(list.bytes) {
-        let frame = match item {
-            Ok(frame) => frame,
-            _ => break,
-        };
-        rest = behind(rest, &frame);
-        let value = pick(is_state, list, &frame);
-        if value.is_some() {
-            let rest = Attributes {
-                bytes: rest,
-                ..list
-            };
-            return Taken { value, rest };
-        }
-    }
-    Taken {
-        value: None,
-        rest: none_of(list),
-    }
-}
-
-/// Takes the first value, if there is an own one.
-fn take_beside<'a>(is_state: bool, own: Option<Attribute<'_>>, others: Attributes<'a>) -> Taken<'a> {
-    match own {
-        Some(_) => take(is_state, others),
-        None => Taken {
-            value: None,
-            rest: others,
-        },
-    }
-}
-
-/// The list that an entry is.
-fn entry_list<'a>(own: Attribute<'a>) -> Attributes<'a> {
-    let list = match own.list {
-        List::Entries(group) => group.entry(),
-        list => list,
-    };
-    Attributes {
-        around: own.around,
-        list,
-        number: None,
-        bytes: own.payload,
-    }
-}
-
-/// The list that another entry is, if there is one.
-fn entry_beside<'a>(beside: Option<Attribute<'a>>) -> Option<Attributes<'a>> {
-    match beside {
-        Some(other) => Some(entry_list(other)),
-        None => None,
-    }
-}
-
-/// A list, where it holds no member.
-fn bare_beside<'a>(beside: Option<Attributes<'a>>) -> Option<Attributes<'a>> {
-    match beside {
-        Some(other) => { if is_without(other) { Some(other) } else { None } }
-        None => None,
-    }
-}
-
-/// Tells of a list that holds no member beside another one.
-fn tell_bare<W: Walk>(
-    texts: &mut Texts,
-    pass: Pass,
-    page: &mut Page,
-    path: &str,
-    own: Attributes<'_>,
-    beside: Option<Attributes<'_>>,
-) -> Result<(), AllocError> {
-    let value = Value::Payload(Way::Own(Form::List(own.list)), own.bytes);
-    match bare_beside(beside) {
-        Some(other) => {
-            let there = Some(Value::Payload(Way::Own(Form::List(other.list)), other.bytes));
-            let theirs = other.around;
-            tell_leaf::<Above<W>>(
-                texts, own.around, theirs, page, path, pass.side, value, there,
-            )
-        }
-        None => tell_leaf::<Above<W>>(
-            texts, own.around, own.around, page, path, pass.side, value, None,
-        ),
-    }
-}
-
-/// Whether another list has the rows and the bytes of this one, where it is shown by the same.
-fn is_same_entry(own: Attributes<'_>, beside: Option<Attributes<'_>>) -> bool {
-    let other = match beside {
-        Some(other) => other,
-        _ => return false,
-    };
-    is_same_list(own.list, other.list) && is_same(own.bytes, other.bytes)
-}
-
-/// Tells of an object beside another one, if there is one. One that stands there as it is costs a look.
-fn tell_entry<W: Walk>(
-    texts: &mut Texts,
-    pass: Pass,
-    page: &mut Page,
-    path: &str,
-    own: Attributes<'_>,
-    beside: Option<Attributes<'_>>,
-) -> Result<(), AllocError> {
-    if pass.is_alike {
-        W::laws();
-        if is_same_entry(own, beside) {
-            return Ok(());
-        }
-    }
-    if is_without(own) {
-        return tell_bare::<W>(texts, pass, page, path, own, beside);
-    }
-    tell_object::<W>(texts, pass, page, path, own, beside)
-}
-
-/// Tells of a value that is no entry beside another one.
-fn tell_alone<W: Walk>(
-    texts: &mut Texts,
-    pass: Pass,
-    page: &mut Page,
-    path: &str,
-    own: Attribute<'_>,
-    beside: Option<Attribute<'_>>,
-) -> Result<(), AllocError> {
-    let pass = Pass {
-        is_alike: false,
-        ..pass
-    };
-    tell_value::<W>(texts, pass, page, path, own, beside)
-}
-
-/// Tells of a value beside another one.
-fn tell_picked<W: Walk>(
-    texts: &mut Texts,
-    pass: Pass,
-    page: &mut Page,
-    path: &str,
-    own: Attribute<'_>,
-    beside: Option<Attribute<'_>>,
-) -> Result<(), AllocError> {
-    if is_entries(own.list) {
-        let own = entry_list(own);
-        let there = entry_beside(beside);
-        return tell_entry::<W>(texts, pass, page, path, own, there);
-    }
-    tell_alone::<W>(texts, pass, page, path, own, beside)
-}
-
-/// Adds the change of an attribute that one side alone has.
-fn put_attribute<W: Walk>(
-    pass: Pass,
-    page: &mut Page,
-    path: &str,
-    own: Attribute<'_>,
-) -> Result<(), AllocError> {
-    let value = Value::Payload(own.way, own.payload);
-    put_alone::<W>(own.around, page, path, pass.side, value)
-}
-
-/// What the values of a list are.
-pub(crate) trait Values {
-    /// Tells of one of them beside another one, if there is one.
-    fn tell_one<W: Walk>(
-        texts: &mut Texts,
-        pass: Pass,
-        page: &mut Page,
-        path: &str,
-        own: Attribute<'_>,
-        beside: Option<Attribute<'_>>,
-    ) -> Result<(), AllocError>;
-
-    /// Tells of one of them that one side alone has, as a whole.
-    fn tell_whole<W: Walk>(
-        texts: &mut Texts,
-        pass: Pass,
-        page: &mut Page,
-        path: &str,
-        own: Attribute<'_>,
-    ) -> Result<(), AllocError>;
-}
-
-/// Entries, or attributes that have a name.
-pub(crate) struct Group {}
-
-impl Values for Group {
-    fn tell_one<W: Walk>(
-        texts: &mut Texts,
-        pass: Pass,
-        page: &mut Page,
-        path: &str,
-        own: Attribute<'_>,
-        beside: Option<Attribute<'_>>,
-    ) -> Result<(), AllocError> {
-        tell_picked::<W>(texts, pass, page, path, own, beside)
-    }
-
-    fn tell_whole<W: Walk>(
-        texts: &mut Texts,
-        pass: Pass,
-        page: &mut Page,
-        path: &str,
-        own: Attribute<'_>,
-    ) -> Result<(), AllocError> {
-        match own.list {
-            List::Entries(group) => put_entry::<W>(texts, pass, page, path, group, own),
-            _ => put_attribute::<W>(pass, page, path, own),
-        }
-    }
-}
-
-/// Attributes that are the values of a list.
-pub(crate) struct Array {}
-
-impl Values for Array {
-    fn tell_one<W: Walk>(
-        texts: &mut Texts,
-        pass: Pass,
-        page: &mut Page,
-        path: &str,
-        own: Attribute<'_>,
-        beside: Option<Attribute<'_>>,
-    ) -> Result<(), AllocError> {
-        tell_alone::<W>(texts, pass, page, path, own, beside)
-    }
-
-    fn tell_whole<W: Walk>(
-        _texts: &mut Texts,
-        pass: Pass,
-        page: &mut Page,
-        path: &str,
-        own: Attribute<'_>,
-    ) -> Result<(), AllocError> {
-        put_attribute::<W>(pass, page, path, own)
-    }
-}
 
 /// Tells of a value at its place, if there is one.
 fn tell_place<W: Walk, V: Values>(
@@ -371,14 +32,6 @@ fn tell_place<W: Walk, V: Values>(
     };
     let text = join_place(texts.alloc, path, place)?;
     V::tell_one::<W>(texts, pass, page, text.as_str(), own, beside)
-}
-
-/// The place of the next one.
-fn next_place(own: Option<Attribute<'_>>, place: usize) -> usize {
-    match own {
-        Some(_) => place + 1,
-        None => place,
-    }
 }
 
 /// Tells of the values of a list, each beside the one at its place in another list.
@@ -404,95 +57,6 @@ fn tell_places<W: Walk, V: Values>(
         place = next_place(value, place);
     }
     Ok(())
-}
-
-/// Whether an attribute is an object or a list, if there is one.
-fn is_deep<W: Walk>(own: Option<Attribute<'_>>) -> bool {
-    match own {
-        Some(own) => is_nest::<W>(own),
-        None => false,
-    }
-}
-
-/// Whether all values of a list are known to be texts.
-fn is_flat(number: Option<u16>, list: List) -> bool {
-    match (number, list) {
-        (None, List::Listed(_, Table::Props)) => true,
-        _ => false,
-    }
-}
-
-/// Whether none of the values of a list is an object or a list.
-fn are_plain<W: Walk>(is_state: bool, list: Attributes<'_>) -> bool {
-    if is_flat(list.number, list.list) {
-        return true;
-    }
-    are_all_plain::<W>(is_state, list)
-}
-
-/// The same, value by value.
-fn are_all_plain<W: Walk>(is_state: bool, list: Attributes<'_>) -> bool {
-    for item in NlasIterator::new(list.bytes) {
-        let frame = match item {
-            Ok(frame) => frame,
-            _ => break,
-        };
-        let value = pick(is_state, list, &frame);
-        if is_deep::<W>(value) {
-            return false;
-        }
-    }
-    true
-}
-
-/// Another list, where none of its values is an object or a list.
-fn plain_beside<'a, W: Walk>(
-    is_state: bool,
-    beside: Option<Attributes<'a>>,
-) -> Option<Attributes<'a>> {
-    match beside {
-        Some(other) => {
-            if are_plain::<W>(is_state, other) {
-                Some(other)
-            } else {
-                None
-            }
-        }
-        None => None,
-    }
-}
-
-/// All values of a list as one.
-fn flat_value<'a>(own: Attributes<'a>) -> Value<'a> {
-    match own.number {
-        Some(number) => Value::Array(own.list, number, own.bytes),
-        None => Value::Listed(own.list, own.bytes),
-    }
-}
-
-/// Tells of a list of values as one value beside another list.
-fn tell_flat<W: Walk>(
-    texts: &mut Texts,
-    pass: Pass,
-    page: &mut Page,
-    path: &str,
-    own: Attributes<'_>,
-    beside: Option<Attributes<'_>>,
-) -> Result<(), AllocError> {
-    let value = flat_value(own);
-    match plain_beside::<W>(pass.is_state, beside) {
-        Some(other) => {
-            let flat = flat_value(other);
-            let there = Some(flat);
-            let theirs = other.around;
-            tell_leaf::<W>(
-                texts, own.around, theirs, page, path, pass.side, value, there,
-            )
-        }
-        None => tell_leaf::<W>(
-            texts, own.around, own.around, page, path, pass.side, value, None,
-        ),
-    }
 }
 
 /// Another list of values that have labels or places, and whether it is known to be shown by the same; one without
@@ -603,6 +167,40 @@ fn tell_inside<W: Walk, V: Values>(
     }
 }
 
+/// Whether the values of a list that are no texts are told by what they say, and not by their places.
+fn is_loose(alloc: Global, list: Attributes<'_>) -> Result<bool, AllocError> {
+    match key_in(list) {
+        Some(_key) => Ok(true),
+        None => {
+            let runs = runs_of(alloc, list)?;
+            Ok(runs.is_some())
+        }
+    }
+}
+
+/// Tells of a list that the other message has in another order, or written otherwise, if this is to be told.
+fn tell_moved<W: Walk, V: Values>(
+    texts: &mut Texts,
+    pass: Pass,
+    page: &mut Page,
+    path: &str,
+    own: Attributes<'_>,
+    beside: Option<Attributes<'_>>,
+) -> Result<(), AllocError> {
+    let other = match beside {
+        Some(other) => other,
+        _ => return Ok(()),
+    };
+    if !pass.side.is_moved() {
+        return Ok(());
+    }
+    let loose = is_loose(texts.alloc, own)?;
+    if !loose {
+        return Ok(());
+    }
+    V::tell_list::<W>(texts, pass.is_state, page, path, own, other)
+}
+
 /// Tells of a list of values beside another one, if there is one.
 pub(crate) fn tell_values<W: Walk, V: Values>(
     texts: &mut Texts,
@@ -613,8 +211,9 @@ pub(crate) fn tell_values<W: Walk, V: Values>(
     beside: Option<Attributes<'_>>,
 ) -> Result<(), AllocError> {
     if are_plain::<W>(pass.is_state, own) {
-        return tell_flat::<W>(texts, pass, page, path, own, beside);
+        return tell_plain::<W>(texts, pass, page, path, own, beside);
     }
+    tell_moved::<W, V>(texts, pass, page, path, own, beside)?;
     let (others, is_alike) = values_beside::<W>(pass, own, beside);
     let pass = Pass { is_alike, ..pass };
     tell_inside::<W, V>(texts, pass, page, path, own, others)

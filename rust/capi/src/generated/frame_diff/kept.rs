@@ -6,7 +6,7 @@ use crate::frame_diff::counters::is_passed;
 use crate::frame_diff::keyed::{Labelled, label_all, places_unless_along, push_labelled, value_beside};
 use crate::frame_diff::keys::Key;
 use crate::frame_diff::labels::Label;
-use crate::frame_diff::leaf::{Texts, Value, is_same, put_alone};
+use crate::frame_diff::leaf::{Texts, Value, is_same, put_alone, tell_leaf};
 use crate::frame_diff::path::{join, join_label};
 use crate::frame_diff::rows::{Row, tell_rows};
 use crate::frame_diff::side::Side;
@@ -191,6 +191,9 @@ fn tell_kept(
     let other = match beside {
         Some(other) => other,
         _ => {
+            if side.is_moved() {
+                return Ok(());
+            }
             let text = join_label(texts.alloc, path, Key::Number.name(), label)?;
             return put_kept(cx, page, text.as_str(), side, own);
         }
@@ -224,6 +227,48 @@ fn tell_labelled(
     tell_kept(texts, cx, theirs, page, path, side, own.label, kept, other)
 }
 
+/// Whether some attributes are not passed over.
+fn is_any(others: &[Labelled<Option<Kept<'_>>>]) -> bool {
+    for one in others {
+        if one.value.is_some() {
+            return true;
+        }
+    }
+    false
+}
+
+/// Tells of the attributes of a list that are kept, where the other message has them in another order, if this is to be
+/// told.
+fn tell_moved(
+    texts: &mut Texts,
+    side: Side,
+    own: Attributes<'_>,
+    others: Attributes<'_>,
+    page: &mut Page,
+    path: &str,
+    values: &[Labelled<Option<Kept<'_>>>],
+    theirs: &[Labelled<Option<Kept<'_>>>],
+) -> Result<(), AllocError> {
+    if !side.is_moved() {
+        return Ok(());
+    }
+    if !is_any(values) || !is_any(theirs) {
+        return Ok(());
+    }
+    let was = Value::Others(values);
+    let is = Some(Value::Others(theirs));
+    tell_leaf::<Bottom>(
+        texts,
+        own.around,
+        others.around,
+        page,
+        path,
+        Side::Old,
+        was,
+        is,
+    )
+}
+
 /// Tells of the attributes of a list that are kept, each beside the one of its number in another list, as members of a
 /// list of their own.
 pub(crate) fn tell_others(
@@ -241,6 +286,16 @@ pub(crate) fn tell_others(
     let theirs = kept_in(texts.alloc, pass.is_state, others)?;
     let places = places_unless_along(texts.alloc, values.as_slice(), theirs.as_slice())?;
     let list = join(texts.alloc, path, "other")?;
+    tell_moved(
+        texts,
+        pass.side,
+        own,
+        others,
+        page,
+        list.as_str(),
+        values.as_slice(),
+        theirs.as_slice(),
+    )?;
     let mut place = 0;
     for one in values.as_slice() {
         let beside = value_beside(&places, one.label, place, theirs.as_slice());

@@ -2,12 +2,13 @@
 //! What lists tell whose values are told apart by a number that each says.
 
 use crate::rattle::prelude::Vec;
-use crate::frame_diff::groups::{Values, pick};
 use crate::frame_diff::keys::{Key, is_key, key_in, number_of};
 use crate::frame_diff::labels::{Counts, Label, Places, count, is_above};
 use crate::frame_diff::leaf::Texts;
 use crate::frame_diff::lists::none_of;
+use crate::frame_diff::one_value::Values;
 use crate::frame_diff::path::join_label;
+use crate::frame_diff::picked::pick;
 use crate::frame_diff::walk::{Attribute, Attributes, Pass, Walk};
 use crate::nla_wire::NlasIterator;
 use crate::shown::Page;
@@ -200,10 +201,12 @@ fn tell_labelled<W: Walk, V: Values>(
 ) -> Result<(), AllocError> {
     let text = join_label(texts.alloc, path, key.name(), own.label)?;
     if beside.is_some() {
-        V::tell_one::<W>(texts, pass, page, text.as_str(), own.value, beside)
-    } else {
-        V::tell_whole::<W>(texts, pass, page, text.as_str(), own.value)
+        return V::tell_one::<W>(texts, pass, page, text.as_str(), own.value, beside);
     }
+    if pass.side.is_moved() {
+        return Ok(());
+    }
+    V::tell_whole::<W>(texts, pass, page, text.as_str(), own.value)
 }
 
 /// Tells of the values of a list, each beside the one with its label in another list with the same key.

@@ -2,10 +2,12 @@
 //! What values that hold no others tell.
 
 use crate::rattle::prelude::Vec;
+use crate::frame_diff::kept::Kept;
+use crate::frame_diff::keyed::Labelled;
 use crate::frame_diff::path::join;
 use crate::frame_diff::side::Side;
 use crate::frame_shown::depth::Depth;
-use crate::frame_shown::form::{Around, Field, List, Way};
+use crate::frame_shown::form::{Around, Field, Form, Group, List, Way};
 use crate::frame_shown::list::{show_one_array, show_one_list, show_way};
 use crate::frame_shown::tables::LINK_FLAGS;
 use crate::frame_shown::value::{show_field, show_spelled};
@@ -47,6 +49,10 @@ pub enum Value<'a> {
     Listed(List, &'a [u8]),
     /// The attributes of a list that are the values of the list of a number.
     Array(List, u16, &'a [u8]),
+    /// The entries of a list of a group.
+    Entries(Group, &'a [Vec<u8>]),
+    /// Attributes that are kept as they are, but for those that are passed over.
+    Others(&'a [Labelled<Option<Kept<'a>>>]),
     /// An attribute that is kept as it is: the name that its number has all the same, if any, its kind and its payload.
     Kept(&'a str, u16, &'a [u8]),
 }
@@ -56,7 +62,7 @@ pub struct Texts {
     /// Where they lie.
     pub alloc: Global,
     /// What they are written in.
-    room: Room,
+    pub(crate) room: Room,
     /// What one of them took up before.
     one: Vec<u8>,
     /// What the other one did.
@@ -198,6 +204,37 @@ fn show_kept(
     page.end()
 }
 
+/// Adds those of attributes that are not passed over.
+fn show_others(
+    page: &mut Page,
+    name: &str,
+    others: &[Labelled<Option<Kept<'_>>>],
+) -> Result<(), AllocError> {
+    page.begin(name, Nest::List)?;
+    for one in others {
+        if let Some(kept) = one.value {
+            show_kept(page, "", kept.name, kept.kind, kept.payload)?;
+        }
+    }
+    page.end()
+}
+
+/// Adds the entries of a list of a group.
+fn show_entries<D: Depth>(
+    cx: &Around<'_>,
+    page: &mut Page,
+    name: &str,
+    group: Group,
+    entries: &[Vec<u8>],
+) -> Result<(), AllocError> {
+    page.begin(name, Nest::List)?;
+    for entry in entries {
+        let way = Way::Own(Form::List(group.entry()));
+        show_way::<D>(cx, page, "", way, entry.as_slice())?;
+    }
+    page.end()
+}
+
 /// Adds a value.
 fn show_value<D: Depth>(
     cx: &Around<'_>,
@@ -222,12 +259,14 @@ fn show_value<D: Depth>(
         Value::Array(list, number, bytes) => {
             show_array::<D>(cx, page, name, list, number, bytes)
         }
+        Value::Entries(group, entries) => show_entries::<D>(cx, page, name, group, entries),
+        Value::Others(others) => show_others(page, name, others),
         Value::Kept(text, kind, payload) => show_kept(page, name, text, kind, payload),
     }
 }
 
 /// Adds the text of an object that holds this value alone.
-fn push_text<D: Depth>(
+pub(crate) fn push_text<D: Depth>(
     cx: &Around<'_>,
     room: &mut Room,
     value: Value<'_>,
@@ -302,7 +341,7 @@ pub(crate) fn put_alone<D: Depth>(
 }
 
 /// Adds the change of a value that turned.
-fn put_turned<D: Depth>(
+pub(crate) fn put_turned<D: Depth>(
     cx: &Around<'_>,
     theirs: &Around<'_>,
     page: &mut Page,
@@ -328,11 +367,11 @@ fn is_untold<D: Depth>(
 ) -> Result<bool, AllocError> {
     let other = match beside {
         Some(other) => other,
-        _ => return Ok(false),
+        _ => return Ok(side.is_moved()),
     };
     match side {
         Side::Old => is_shown_same::<D>(texts, cx, theirs, own, other),
-        Side::New => Ok(true),
+        Side::New | Side::Moved => Ok(true),
     }
 }
 

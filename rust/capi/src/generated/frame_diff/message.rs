@@ -85,7 +85,7 @@ fn tell_header(
             let there = header_rows(texts.alloc, others)?;
             tell_rows(texts, cx, theirs, page, "", side, &rows, &there)
         }
-        Side::New => Ok(()),
+        Side::New | Side::Moved => Ok(()),
     }
 }
 
@@ -225,6 +225,41 @@ pub(crate) fn tell_messages(
         ..pass
     };
     tell_side(texts, pass, &theirs, cx, page, new, old)
+}
+
+/// Tells of the lists whose values two messages, or two states, have in another order, or which one of both writes
+/// otherwise: of each as a whole.
+pub(crate) fn tell_moved_by(
+    texts: &mut Texts,
+    is_state: bool,
+    cx: &Around<'_>,
+    order: Order,
+    page: &mut Page,
+    old: Message<'_>,
+    new: Message<'_>,
+) -> Result<(), AllocError> {
+    let theirs = Around { order, ..*cx };
+    let pass = Pass {
+        is_state,
+        side: Side::Moved,
+        is_alike: is_same_order(cx.order, order),
+    };
+    tell_side(texts, pass, cx, &theirs, page, old, new)
+}
+
+/// Tells of the lists whose values two messages, or two states, have in another order, or which one of both writes
+/// otherwise, by the rows of all places: of each as a whole. Where `tell` tells nothing, this may be what differs.
+pub fn tell_moved(
+    texts: &mut Texts,
+    is_state: bool,
+    orders: (Order, Order),
+    page: &mut Page,
+    old: Message<'_>,
+    new: Message<'_>,
+) -> Result<(), AllocError> {
+    let tables = all_rows();
+    let cx = Around::plain(&tables, orders.0);
+    tell_moved_by(texts, is_state, &cx, orders.1, page, old, new)
 }
 
 /// Tells of all that differs between two messages, or between two states, by the rows of all places; each has an order

@@ -18,6 +18,14 @@ pub(crate) fn join(alloc: Global, text: &str, step: &str) -> Result<String, Allo
     Ok(path)
 }
 
+/// The text of a path that goes on at a value that is its own key.
+pub(crate) fn join_each(alloc: Global, text: &str) -> Result<String, AllocError> {
+    let mut path = String::with_capacity(alloc, text.len() + 2)?;
+    path.push_str(text)?;
+    path.push_str("[]")?;
+    Ok(path)
+}
+
 /// The text of a path that goes on at a place of a list.
 pub(crate) fn join_place(alloc: Global, text: &str, place: usize) -> Result<String, AllocError> {
     let mut digits = Buffer::new();

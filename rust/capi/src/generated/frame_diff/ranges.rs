@@ -136,6 +136,9 @@ pub(crate) fn tell_vlans(
     own: &[Run],
     others: &[Run],
 ) -> Result<(), AllocError> {
+    if side.is_moved() {
+        return Ok(());
+    }
     let pieces = pieces_of(texts.alloc, own, others)?;
     for piece in pieces.as_slice() {
         tell_piece(texts, list, page, path, side, *piece)?;

@@ -11,7 +11,7 @@ use crate::frame_shown::depth::Bottom;
 use crate::frame_shown::form::{Around, Form, List, Order, Record, Settings, Way, Words};
 use crate::frame_shown::value::info_of;
 use crate::link_info::read::read;
-use crate::link_info::{Member, Style, Value as Meant};
+use crate::link_info::{Member, Plain, Style, Value as Meant};
 use crate::shown::Page;
 use crate::rattle::alloc::{AllocError, Global};
 
@@ -34,6 +34,8 @@ pub enum Holds<'a> {
     Fields(Vec<Row<'a>>, bool),
     /// A list of attributes.
     List(List, &'a [u8]),
+    /// Values that are the payloads of attributes: a leaf too.
+    Slots(Plain, &'a [u8]),
 }
 
 /// Fields of which none is passed over.
@@ -131,6 +133,7 @@ fn style_holds<'a>(
     match read(style, payload) {
         Meant::Record(members, bytes) => members_held(alloc, members, part, bytes),
         Meant::Nest(place, bytes) => Ok(Holds::List(List::Of(place), bytes)),
+        Meant::List(plain, bytes) => Ok(Holds::Slots(plain, bytes)),
         _ => Ok(Holds::Nothing),
     }
 }
@@ -331,7 +334,7 @@ fn tell_same_names(
 ) -> Result<(), AllocError> {
     match side {
         Side::Old => tell_firsts(texts, cx, theirs, page, path, own, others),
-        Side::New => Ok(()),
+        Side::New | Side::Moved => Ok(()),
     }
 }
 

@@ -8,21 +8,23 @@ pub enum Side {
     Old,
     /// The new one: what it alone has came.
     New,
+    /// The old one, where nothing of that is told: lists of which both say the same in another order are told whole.
+    Moved,
 }
 
 impl Side {
-    /// Whether it is the new one.
-    pub(crate) fn is_new(self) -> bool {
+    /// Whether lists in another order alone are told.
+    pub(crate) fn is_moved(self) -> bool {
         match self {
-            Side::Old => false,
-            Side::New => true,
+            Side::Old | Side::New => false,
+            Side::Moved => true,
         }
     }
 
     /// The name of its value in a change.
     pub fn name(self) -> &'static str {
         match self {
-            Side::Old => "old",
+            Side::Old | Side::Moved => "old",
             Side::New => "new",
         }
     }

@@ -2,10 +2,13 @@
 //! What an attribute tells beside another one.
 
 use crate::rattle::prelude::Vec;
+use crate::frame_diff::each::{Each, tell_alone, tell_both};
 use crate::frame_diff::leaf::{Texts, Value, tell_leaf};
 use crate::frame_diff::rows::{Holds, Row, held_in, tell_rows};
 use crate::frame_diff::walk::{Attribute, Attributes, Pass, Walk};
 use crate::frame_shown::form::Around;
+use crate::link_info::Plain;
+use crate::nla_wire::NlasIterator;
 use crate::shown::Page;
 use crate::rattle::alloc::{AllocError, Global};
 
@@ -17,7 +20,7 @@ fn are_none(rows: &[Row<'_>], is_any: bool) -> bool {
 /// Whether an attribute holds no member at all.
 fn holds_none<W: Walk>(own: Attribute<'_>, held: &Holds<'_>) -> bool {
     match held {
-        Holds::Nothing => true,
+        Holds::Nothing | Holds::Slots(_, _) => true,
         Holds::Passed => false,
         Holds::Fields(rows, is_any) => are_none(rows, *is_any),
         Holds::List(list, bytes) => W::is_bare(Attributes {
@@ -76,6 +79,83 @@ fn tell_plain<W: Walk>(
     }
 }
 
+/// The payloads of attributes as values.
+fn payloads_in<'a>(
+    alloc: Global,
+    plain: Plain,
+    bytes: &'a [u8],
+) -> Result<Vec<Value<'a>>, AllocError> {
+    let mut values = Vec::new(alloc);
+    for item in NlasIterator::new(bytes) {
+        let frame = match item {
+            Ok(frame) => frame,
+            _ => break,
+        };
+        values.push(Value::Spelled(plain, frame.value()))?;
+    }
+    Ok(values)
+}
+
+/// The payloads of attributes as values, which are their own keys.
+fn slots_of<'a>(
+    alloc: Global,
+    own: Attribute<'a>,
+    plain: Plain,
+    bytes: &'a [u8],
+) -> Result<Each<'a>, AllocError> {
+    let values = payloads_in(alloc, plain, bytes)?;
+    Ok(Each {
+        around: own.around,
+        whole: Value::Payload(own.way, own.payload),
+        values,
+    })
+}
+
+/// Tells of values that are their own keys beside an attribute that is no list of such.
+fn tell_beside<W: Walk>(
+    texts: &mut Texts,
+    pass: Pass,
+    page: &mut Page,
+    path: &str,
+    own: &Each<'_>,
+    other: Attribute<'_>,
+    held: &Holds<'_>,
+) -> Result<(), AllocError> {
+    W::laws();
+    if !holds_none::<W>(other, held) {
+        return tell_alone::<W>(texts, page, path, pass.side, own);
+    }
+    let there = Some(Value::Payload(other.way, other.payload));
+    let (cx, theirs) = (own.around, other.around);
+    tell_leaf::<W>(texts, cx, theirs, page, path, pass.side, own.whole, there)
+}
+
+/// Tells of values that are their own keys beside another attribute, if there is one.
+fn tell_slots<W: Walk>(
+    texts: &mut Texts,
+    pass: Pass,
+    page: &mut Page,
+    path: &str,
+    own: Attribute<'_>,
+    plain: Plain,
+    bytes: &[u8],
+    beside: Option<Attribute<'_>>,
+) -> Result<(), AllocError> {
+    let each = slots_of(texts.alloc, own, plain, bytes)?;
+    let other = match beside {
+        Some(other) => other,
+        _ => return tell_alone::<W>(texts, page, path, pass.side, &each),
+    };
+    let held = held_in(texts.alloc, pass.is_state, other)?;
+    match &held {
+        Holds::Slots(plain, bytes) => {
+            let theirs = slots_of(texts.alloc, other, *plain, bytes)?;
+            tell_both::<W>(texts, page, path, pass.side, &each, &theirs)
+        }
+        _ => tell_beside::<W>(texts, pass, page, path, &each, other, &held),
+    }
+}
+
 /// The fields that an attribute holds.
 fn rows_in<'a>(
     alloc: Global,
@@ -84,7 +164,9 @@ fn rows_in<'a>(
 ) -> Result<Vec<Row<'a>>, AllocError> {
     match held_in(alloc, is_state, other)? {
         Holds::Fields(rows, _) => Ok(rows),
-        Holds::Nothing | Holds::Passed | Holds::List(_, _) => Ok(Vec::new(alloc)),
+        Holds::Nothing | Holds::Passed | Holds::List(_, _) | Holds::Slots(_, _) => {
+            Ok(Vec::new(alloc))
+        }
     }
 }
 
@@ -130,7 +212,7 @@ fn list_of<'a>(around: &'a Around<'a>, held: Holds<'a>) -> Option<Attributes<'a>
             number: None,
             bytes,
         }),
-        Holds::Nothing | Holds::Passed | Holds::Fields(_, _) => None,
+        Holds::Nothing | Holds::Passed | Holds::Fields(_, _) | Holds::Slots(_, _) => None,
     }
 }
 
@@ -181,7 +263,7 @@ fn tell_held<W: Walk>(
     beside: Option<Attribute<'_>>,
 ) -> Result<(), AllocError> {
     match held {
-        Holds::Nothing | Holds::Passed => Ok(()),
+        Holds::Nothing | Holds::Passed | Holds::Slots(_, _) => Ok(()),
         Holds::Fields(rows, _) => tell_fields::<W>(texts, pass, page, path, own, rows, beside),
         Holds::List(list, bytes) => {
             let own = Attributes {
@@ -195,6 +277,23 @@ fn tell_held<W: Walk>(
     }
 }
 
+/// Tells of an attribute that holds no values that are their own keys beside another one, if there is one.
+fn tell_other<W: Walk>(
+    texts: &mut Texts,
+    pass: Pass,
+    page: &mut Page,
+    path: &str,
+    own: Attribute<'_>,
+    held: &Holds<'_>,
+    beside: Option<Attribute<'_>>,
+) -> Result<(), AllocError> {
+    W::laws();
+    if holds_none::<W>(own, held) {
+        return tell_plain::<W>(texts, pass, page, path, own, beside);
+    }
+    tell_held::<W>(texts, pass, page, path, own, held, beside)
+}
+
 /// Tells of an attribute beside another one, if there is one.
 pub(crate) fn tell_value<W: Walk>(
     texts: &mut Texts,
@@ -205,8 +304,10 @@ pub(crate) fn tell_value<W: Walk>(
     beside: Option<Attribute<'_>>,
 ) -> Result<(), AllocError> {
     let held = held_in(texts.alloc, pass.is_state, own)?;
-    if holds_none::<W>(own, &held) {
-        return tell_plain::<W>(texts, pass, page, path, own, beside);
+    match &held {
+        Holds::Slots(plain, bytes) => {
+            tell_slots::<W>(texts, pass, page, path, own, *plain, bytes, beside)
+        }
+        _ => tell_other::<W>(texts, pass, page, path, own, &held, beside),
     }
-    tell_held::<W>(texts, pass, page, path, own, &held, beside)
 }

@@ -64,6 +64,42 @@ fn settled(
     Ok(Some(out))
 }
 
+/// What is shown of an entry that is told as a whole.
+fn settled_entry(
+    alloc: Global,
+    is_state: bool,
+    group: Group,
+    entry: &[u8],
+) -> Result<Vec<u8>, AllocError> {
+    if let Some(left) = settled(alloc, is_state, group, entry)? {
+        return Ok(left);
+    }
+    let mut whole = Vec::new(alloc);
+    whole.extend_from_slice(entry)?;
+    Ok(whole)
+}
+
+/// The entries of a list, each as it is shown where it is told as a whole.
+pub(crate) fn settled_entries(
+    alloc: Global,
+    is_state: bool,
+    group: Group,
+    bytes: &[u8],
+) -> Result<Vec<Vec<u8>>, AllocError> {
+    let mut entries = Vec::new(alloc);
+    for item in NlasIterator::new(bytes) {
+        let frame = match item {
+            Ok(frame) => frame,
+            _ => break,
+        };
+        if frame.kind() == 1 {
+            let entry = settled_entry(alloc, is_state, group, frame.value())?;
+            entries.push(entry)?;
+        }
+    }
+    Ok(entries)
+}
+
 /// Adds the change of a list that is shown as an object, and that one side alone has.
 fn put_object<W: Walk>(
     cx: &Around<'_>,

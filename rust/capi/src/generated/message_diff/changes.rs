@@ -4,7 +4,7 @@
 use crate::rattle::prelude::Vec;
 use crate::message_diff::snapshot::{Compared, Snapshot};
 use crate::frame_diff::leaf::Texts;
-use crate::frame_diff::message::{Message, tell};
+use crate::frame_diff::message::{Message, tell, tell_moved};
 use crate::frame_shown::accepted::parted;
 use crate::frame_shown::message::rest_of;
 use crate::nla_wire::fields::u8_at;
@@ -78,6 +78,45 @@ fn tell_changes(
     tell(texts, by.is_state(), orders, page, was, is)
 }
 
+/// Adds the lists that two encodings, read leniently, have in another order, or that one of both writes otherwise, as
+/// values of a list.
+fn tell_lists_leniently(
+    texts: &mut Texts,
+    by: Compared,
+    old: &Snapshot,
+    new: &Snapshot,
+    page: &mut Page,
+) -> Result<(), AllocError> {
+    let was = Split::of(texts.alloc, old.text())?;
+    let is = Split::of(texts.alloc, new.text())?;
+    let orders = (old.order(), new.order());
+    tell_moved(
+        texts,
+        by.is_state(),
+        orders,
+        page,
+        was.message(),
+        is.message(),
+    )
+}
+
+/// Adds the lists that two encodings have in another order, or that one of both writes otherwise, as values of a list.
+fn tell_lists(
+    texts: &mut Texts,
+    by: Compared,
+    old: &Snapshot,
+    new: &Snapshot,
+    page: &mut Page,
+) -> Result<(), AllocError> {
+    if by.is_lenient() {
+        return tell_lists_leniently(texts, by, old, new, page);
+    }
+    let orders = (old.order(), new.order());
+    let was = Message::whole(old.text());
+    let is = Message::whole(new.text());
+    tell_moved(texts, by.is_state(), orders, page, was, is)
+}
+
 /// Adds both encodings in hexadecimal, as a change.
 fn show_texts(page: &mut Page, old: &[u8], new: &[u8]) -> Result<(), AllocError> {
     page.begin("", Nest::Object)?;
@@ -87,8 +126,8 @@ fn show_texts(page: &mut Page, old: &[u8], new: &[u8]) -> Result<(), AllocError>
     page.end()
 }
 
-/// Adds what differs between two encodings, as values of a list that holds none yet: both of them, where nothing else
-/// does.
+/// Adds what differs between two encodings, as values of a list that holds none yet: lists in another order, where
+/// nothing else does, or both encodings.
 fn tell_all(
     texts: &mut Texts,
     by: Compared,
@@ -97,6 +136,10 @@ fn tell_all(
     page: &mut Page,
 ) -> Result<(), AllocError> {
     tell_changes(texts, by, old, new, page)?;
+    if page.ends_value() {
+        return Ok(());
+    }
+    tell_lists(texts, by, old, new, page)?;
     if page.ends_value() {
         return Ok(());
     }

@@ -57,9 +57,9 @@ fn push_difference(
 ///
 /// The line has the words in front of a line that are told, `change`, which is `changed`, family, index and name of the
 /// new message, and `changes`: of each path whose value differs `path`, `old` and `new`, of which one is left out where
-/// the path came or went. VLANs of a bridge port beside each other that changed alike are told as one. Of states, what
-/// moves by itself is not told. Where the encodings differ and no path does, the one path `state` has both of them in
-/// hexadecimal.
+/// the path came or went. VLANs of a bridge port beside each other that changed alike are told as one, and lists of
+/// texts text by text. Of states, what moves by itself is not told. Where the encodings differ and no path does, each
+/// list in another order is told whole, and if there is none, the one path `state` has both encodings in hexadecimal.
 pub fn push_changed(
     alloc: Global,
     by: Compared,
