@@ -17,7 +17,7 @@ type Row = (
 );
 
 /// Attributes behind a header and a name.
-const ATTRIBUTES: [Row; 30] = [
+const ATTRIBUTES: [Row; 31] = [
     (
         "a number turns",
         Compared::State,
@@ -212,7 +212,18 @@ const ATTRIBUTES: [Row; 30] = [
         Compared::State,
         "1400340006003500610000000600350062000000",
         "1c003400060035006100000006003500630000000600350064000000",
-        &[r#"[{"path":"prop-list.alt-ifname","old":["a","b"],"new":["a","c","d"]}]"#],
+        &[
+            r#"[{"path":"prop-list.alt-ifname[]","old":"b"},"#,
+            r#"{"path":"prop-list.alt-ifname[]","new":"c"},"#,
+            r#"{"path":"prop-list.alt-ifname[]","new":"d"}]"#,
+        ],
+    ),
+    (
+        "a list of texts in another order",
+        Compared::State,
+        "1400340006003500610000000600350062000000",
+        "1400340006003500620000000600350061000000",
+        &[r#"[{"path":"prop-list.alt-ifname","old":["a","b"],"new":["b","a"]}]"#],
     ),
     (
         "settings of IPv4",
