@@ -7,8 +7,7 @@
     python3 scripts/erase/erase.py check OUT        whether what stands there, and in OUT/capi, is what these would make
 
 Tokens are dropped or replaced, and none is reordered but the names of imports, as rustfmt sorts them. A form that no
-rewrite knows is an error, which names the file and the line.
-"""
+rewrite knows is an error, which names the file and the line."""
 import re
 import shutil
 import subprocess

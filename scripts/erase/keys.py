@@ -1,7 +1,6 @@
 """Makes the keys of views: of the rows of `LinkAttribute` and of the enums of inner lists in crates/, and of the places
 of link data as typed.py has them. A key is a type for a variant; those of an inner list stand in the module that has
-the name of its enum.
-"""
+the name of its enum."""
 import re
 from collections import namedtuple
 from pathlib import Path

@@ -1,8 +1,7 @@
 """A source as text in which forms are found and replaced. Each comment and each text is one letter in it, and behind
 each bracket stands a letter that it shares with its partner alone, so that an expression finds what a bracket encloses.
 
-Where something is dropped a mark stays, and for each of its lines another: so a line of a source keeps its number.
-"""
+Where something is dropped a mark stays, and for each of its lines another: so a line of a source keeps its number."""
 import functools
 import re
 

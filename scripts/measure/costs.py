@@ -137,63 +137,62 @@ def versions():
             "libpcap": said(["pkg-config", "--modversion", "libpcap"])}
 
 
-def main():
-    parser = argparse.ArgumentParser(usage="costs.py [--make] [--texts FOLDER] [--rows FILE] [WHAT/WORKLOAD ..]")
-    parser.add_argument("--make", action="store_true")
-    parser.add_argument("--texts")
-    parser.add_argument("--rows", default=ROWS)
-    parser.add_argument("wanted", nargs="*")
-    asked = parser.parse_args()
-    if not shutil.which("valgrind"):
-        return print("costs: skipped: valgrind is not installed")
-    machine = subprocess.run([*CC, "-dumpmachine"], check=True, capture_output=True, text=True).stdout.strip()
-    if machine.partition("-")[0] not in (ARCH, "amd64"):
-        return print(f"costs: skipped: the rows are for x86-64, and {CC[0]} compiles for {machine}")
-    if asked.texts is None:
-        texts = {of for of, _ in COUNTED.values()} - {CRATE, DUMP}
-        unfit = subprocess.run(["bash", f"{TOP}/scripts/make/sums.sh", "unfit", ARCH, *sorted(texts)], check=True,
-                               capture_output=True, text=True).stdout.split()
-        if unfit:
-            stop(f"dist/ has other texts than those of the sources ({' '.join(unfit)}): make dist makes them anew")
-    workloads = cost_lines.workloads()
-    wanted = {tuple(row.split("/")) for row in asked.wanted}
-    groups = itertools.groupby(RUNS, lambda it: (it[0], it[2] == CRATE))
-    rows = [(what, workload) for (listed, _), group in groups for names in [[what for _, what, *_ in group]]
-            for workload in (workloads if listed == "all" else listed.split()) for what in names
-            if not wanted or (what, workload) in wanted]
-    if wanted - set(rows):
-        stop(f"no such row: {', '.join(map('/'.join, sorted(wanted - set(rows))))}")
-    here = versions()
-    # the rows that are stored, and the versions that they were made by
-    lines = pathlib.Path(asked.rows).read_text("ascii").splitlines()
-    words = [line.split() for line in lines if not line.startswith("#")]
-    most = {(what, workload): [float(number) for number in numbers] for what, workload, *numbers in words}
-    was = dict(line.removeprefix("#: ").split("=", 1) for line in lines if line.startswith("#: "))
-    # what is not compared here: rows by their program, and columns
-    others = {name for name in here if was.get(name) != here[name]}
-    programs = [DUMP] * ("cc" in others or here["libpcap"] == "none") + [CRATE] * ("rustc" in others)
-    over = {what for what, (of, _) in COUNTED.items() if of in programs and not asked.make}
-    columns = [OF_SYSTEM] * ("libc" in others)
-    now = counted(os.path.abspath(asked.texts or TEXTS), workloads, [row for row in rows if row[0] not in over])
-    if asked.make:
-        versions_ = [f"#: {name}={version}" for name, version in here.items()]
-        rows = [" ".join(map(str, (*row, *numbers))) for row, numbers in now.items()]
-        return print(read("scripts/measure/costs/head.txt") + "\n".join(versions_ + rows))
-    at_most = {row: numbers for row, numbers in most.items() if (not wanted or row in wanted) and row[0] not in over}
-    found = [f"{'/'.join(row)}: {'is not counted' if row in at_most else 'has no row'}"
-             for row in sorted(at_most.keys() ^ now.keys())]
-    for row in sorted(at_most.keys() & now.keys()):
-        for at, (unit, most, number) in enumerate(zip(UNITS, at_most[row], now[row])):
-            of = f"{number} {unit}{' a line' if at < OF_A_LINE else ''}"
-            if at not in columns and number > most * MOST + ROUNDED:
-                found.append(f"{'/'.join(row)}: {of}, and at most {most} are allowed")
-            elif at not in columns and number < most * LEAST - ROUNDED:
-                found.append(f"{'/'.join(row)}: {of}: lower the row, which has {most}")
-    if found:
-        stop("\ncosts: ".join(found))
-    left = [*sorted(over), *(UNITS[it] for it in columns)]
-    tail = f"; passed over, of other versions: {', '.join(left)}" if left else ""
-    return print(f"costs: {len(now)} rows hold{tail}")
-
-
-main()
+parser = argparse.ArgumentParser(usage="costs.py [--make] [--texts FOLDER] [--rows FILE] [WHAT/WORKLOAD ..]")
+parser.add_argument("--make", action="store_true")
+parser.add_argument("--texts")
+parser.add_argument("--rows", default=ROWS)
+parser.add_argument("wanted", nargs="*")
+asked = parser.parse_args()
+if not shutil.which("valgrind"):
+    print("costs: skipped: valgrind is not installed")
+    sys.exit()
+machine = subprocess.run([*CC, "-dumpmachine"], check=True, capture_output=True, text=True).stdout.strip()
+if machine.partition("-")[0] not in (ARCH, "amd64"):
+    print(f"costs: skipped: the rows are for x86-64, and {CC[0]} compiles for {machine}")
+    sys.exit()
+if asked.texts is None:
+    texts = {of for of, _ in COUNTED.values()} - {CRATE, DUMP}
+    unfit = subprocess.run(["bash", f"{TOP}/scripts/make/sums.sh", "unfit", ARCH, *sorted(texts)], check=True,
+                           capture_output=True, text=True).stdout.split()
+    if unfit:
+        stop(f"dist/ has other texts than those of the sources ({' '.join(unfit)}): make dist makes them anew")
+workloads = cost_lines.workloads()
+wanted = {tuple(row.split("/")) for row in asked.wanted}
+groups = itertools.groupby(RUNS, lambda it: (it[0], it[2] == CRATE))
+rows = [(what, workload) for (listed, _), group in groups for names in [[what for _, what, *_ in group]]
+        for workload in (workloads if listed == "all" else listed.split()) for what in names
+        if not wanted or (what, workload) in wanted]
+if wanted - set(rows):
+    stop(f"no such row: {', '.join(map('/'.join, sorted(wanted - set(rows))))}")
+here = versions()
+# the rows that are stored, and the versions that they were made by
+lines = pathlib.Path(asked.rows).read_text("ascii").splitlines()
+words = [line.split() for line in lines if not line.startswith("#")]
+most = {(what, workload): [float(number) for number in numbers] for what, workload, *numbers in words}
+was = dict(line.removeprefix("#: ").split("=", 1) for line in lines if line.startswith("#: "))
+# what is not compared here: rows by their program, and columns
+others = {name for name in here if was.get(name) != here[name]}
+programs = [DUMP] * ("cc" in others or here["libpcap"] == "none") + [CRATE] * ("rustc" in others)
+over = {what for what, (of, _) in COUNTED.items() if of in programs and not asked.make}
+columns = [OF_SYSTEM] * ("libc" in others)
+now = counted(os.path.abspath(asked.texts or TEXTS), workloads, [row for row in rows if row[0] not in over])
+if asked.make:
+    versions_ = [f"#: {name}={version}" for name, version in here.items()]
+    rows = [" ".join(map(str, (*row, *numbers))) for row, numbers in now.items()]
+    print(read("scripts/measure/costs/head.txt") + "\n".join(versions_ + rows))
+    sys.exit()
+at_most = {row: numbers for row, numbers in most.items() if (not wanted or row in wanted) and row[0] not in over}
+found = [f"{'/'.join(row)}: {'is not counted' if row in at_most else 'has no row'}"
+         for row in sorted(at_most.keys() ^ now.keys())]
+for row in sorted(at_most.keys() & now.keys()):
+    for at, (unit, most, number) in enumerate(zip(UNITS, at_most[row], now[row])):
+        of = f"{number} {unit}{' a line' if at < OF_A_LINE else ''}"
+        if at not in columns and number > most * MOST + ROUNDED:
+            found.append(f"{'/'.join(row)}: {of}, and at most {most} are allowed")
+        elif at not in columns and number < most * LEAST - ROUNDED:
+            found.append(f"{'/'.join(row)}: {of}: lower the row, which has {most}")
+if found:
+    stop("\ncosts: ".join(found))
+left = [*sorted(over), *(UNITS[it] for it in columns)]
+tail = f"; passed over, of other versions: {', '.join(left)}" if left else ""
+print(f"costs: {len(now)} rows hold{tail}")

@@ -12,10 +12,6 @@ TESTS = ["crates/*_tests/src/*.rt", "crates/diff_checks/src/*.rt", "crates/*/src
          "tests/**/*.c", "rust/tests/*.rs", "bench/*.[ch]"]
 
 
-def words(text):
-    return {*re.findall(r"\w+", text)}
-
-
 def functions(path):
     """Yields the name and the text of each function of a file, and of what stands outside of them, which is ""."""
     text = path.read_text("utf-8")
@@ -29,7 +25,7 @@ def functions(path):
 
 
 tests = {path for form in TESTS for path in TOP.glob(form)}
-named = {word for path in tests for word in words(path.read_text("utf-8"))} | {"", "main"}
+named = {word for path in tests for word in re.findall(r"\w+", path.read_text("utf-8"))} | {"", "main"}
 edited = {(path, owner(text, text.find(old)).split("::")[-1]) for _, crate, edits in lists() for _, _, lines in edits
           for path, old, _ in pairs_of(lines, crate) if path.is_file() and old in (text := path.read_text("utf-8"))}
 ours = [path for path in sorted(TOP.glob("crates/*/src/**/*.rt")) if path not in tests and path.stem != "laws"]
@@ -37,7 +33,7 @@ calls = defaultdict(set)
 left, todo = set(), []
 for path in ours:
     for name, text in functions(path):
-        calls[name] |= words(text)
+        calls[name].update(re.findall(r"\w+", text))
         if name in named or (path, name) in edited:
             todo.append(name)
         elif not text.endswith("{}"):

@@ -1,9 +1,7 @@
 #!/usr/bin/env bash
 # Compares all that is built with the second reader of tests/second: second.sh FOLDER [LIBRARY [SET]]. SET is `all`, or
-# `wide` for more. Without LIBRARY it compares linkwire, linkstate and linkshow alone. JOBS is how many processes it
-# takes.
+# `wide` for more; without LIBRARY it compares linkwire, linkstate and linkshow alone. JOBS says how many processes run.
 . "$(dirname "$0")/../common.sh"
-cd "$top"
 programs=$1 library=${2:-} set=${3:-all} words=() streams=4000 pairs=45000
 [ "$set" = all ] || streams=100000 pairs=200000
 python3 tests/second/check.py --places | cmp - tests/second/places.txt ||
