@@ -16316,7 +16316,7 @@ main:
 	.type	.Lstatic.2,@object
 	.section	.rodata..Lstatic.2,"a",@progbits
 .Lstatic.2:
-	.ascii	"linkwire 0.3.0\n"
+	.ascii	"linkwire 0.4.0\n"
 	.size	.Lstatic.2, 15
 
 	.type	.Lstatic.3,@object

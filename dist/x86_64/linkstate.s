@@ -31012,7 +31012,7 @@ main:
 	.type	.Lstatic.2,@object
 	.section	.rodata.cst16,"aM",@progbits,16
 .Lstatic.2:
-	.ascii	"linkstate 0.3.0\n"
+	.ascii	"linkstate 0.4.0\n"
 	.size	.Lstatic.2, 16
 
 	.type	.Lstatic.3,@object
