@@ -8,6 +8,8 @@ use Rattle.link_info.specs.declared.style.Plain.TheVariants as P
 use Rattle.link_info.specs.declared.style.Style.{Style}
 use Rattle.frame_shown.specs.declared.form.Form.{Form}
 use Rattle.frame_shown.specs.declared.form.Form.TheVariants as Forms
+use Rattle.frame_shown.specs.declared.form.Way.{Way}
+use Rattle.frame_shown.specs.declared.form.Way.TheVariants as Ways
 
 -- numbers that are flags
 abbrev pub are_flags : Plain → Bool
@@ -63,3 +65,31 @@ nest_form deep Forms.Address = false
 nest_form deep (Forms.Choice choice) = false
 nest_form deep Forms.Ipv6 = false
 nest_form deep (Forms.Field field) = false
+
+-- ** values that hold no others, whatever their payloads are
+
+abbrev pub is_leaf_form : Form → Bool
+is_leaf_form (Forms.Counters words) = false
+is_leaf_form Forms.Ipv6Counters = false
+is_leaf_form (Forms.Settings set) = false
+is_leaf_form (Forms.Record parts) = false
+is_leaf_form Forms.Wireless = false
+is_leaf_form (Forms.List list) = false
+is_leaf_form Forms.Info = false
+is_leaf_form Forms.Kept = true
+is_leaf_form Forms.Unflagged = true
+is_leaf_form (Forms.Number size) = true
+is_leaf_form Forms.Signed = true
+is_leaf_form Forms.Text = true
+is_leaf_form (Forms.Exact size) = true
+is_leaf_form Forms.Truth = true
+is_leaf_form Forms.Id = true
+is_leaf_form Forms.Address = true
+is_leaf_form (Forms.Choice choice) = true
+is_leaf_form (Forms.Flags bits) = true
+is_leaf_form Forms.Ipv6 = true
+is_leaf_form (Forms.Field field) = true
+
+abbrev pub is_leaf_way : Way → Bool
+is_leaf_way (Ways.Own form) = is_leaf_form form
+is_leaf_way (Ways.By style) = false

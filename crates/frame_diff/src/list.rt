@@ -14,16 +14,18 @@ ghost use Rattle.frame_diff.specs.Forests.{Step, comes, find, forest};
 ghost use Rattle.frame_diff.specs.Items.{items_told, joined};
 ghost use Rattle.frame_diff.specs.Walked.{AreAlike, AreOfFrame, HasNames, HasRowOf, Holding, IsOf, IsOfNumber, IsTail};
 ghost use Rattle.frame_diff.specs.Walked.{IsNamedBy, NoneBehind, NoneComes, Showing, StandsSingle, frame_items};
-ghost use Rattle.frame_diff.specs.Walked.{has_payload};
+ghost use Rattle.frame_diff.specs.Walked.{has_payload, is_told_of_old};
 ghost use Rattle.frame_diff.specs.Walked.{held_at, held_items, is_row_alike};
 ghost use Rattle.frame_diff.specs.Walked.{is_unnamed_there, is_there, named_at, reading_at};
 
 use crate::leaf::{Texts, is_same};
 use crate::named::{find_named, is_named, is_unnamed, name_of};
+use crate::nests::is_leaf;
 use crate::path::join;
+use crate::side::Side;
 use crate::value::tell_value;
 use crate::walk::{Attribute, Attributes, Pass, Walk};
-use frame_shown::form::{Around, List, row_in};
+use frame_shown::form::{Around, List, Way, row_in};
 use frame_shown::list::has_twice;
 use nla_wire::{NlaBuffer, NlasIterator, padded_len};
 use shown::Page;
@@ -120,6 +122,17 @@ pub(crate) fn is_alike(pass: Pass, number: u16, beside: Option<Attribute<'_>>) -
     }
 }
 
+/// Whether nothing is told of a value that both messages have: it holds no others, and what turned is told of the old
+/// one.
+fn is_told_of_old(side: Side, way: Way, beside: Option<Attribute<'_>>) -> bool
+    ensures { is_told_of_old side way beside.entry ≡ result }
+{
+    match side {
+        Side::Old => false,
+        Side::New | Side::Moved => beside.is_some() && is_leaf(way),
+    }
+}
+
 /// Tells of an attribute beside another one. Those that are the same are passed over at once.
 fn tell_unless_same<W: Walk>(
     texts: &mut Texts,
@@ -140,6 +153,9 @@ fn tell_unless_same<W: Walk>(
     if pass.is_alike {
         W::laws();
         if has_payload(own.payload, beside) {
+            return Ok(());
+        }
+        if is_told_of_old(pass.side, own.way, beside) {
             return Ok(());
         }
     }

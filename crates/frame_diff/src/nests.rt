@@ -7,7 +7,7 @@ ghost use Rattle.frame_shown.specs.Values.{form_shown, style_shown};
 ghost use Rattle.frame_shown.specs.declared.form.Around.{Around as Beside};
 ghost use Rattle.frame_diff.specs.Groups.{value_at};
 ghost use Rattle.frame_diff.specs.Members.{is_nest};
-ghost use Rattle.frame_diff.specs.Nests.{are_flags, nest_form, nest_meaning};
+ghost use Rattle.frame_diff.specs.Nests.{are_flags, is_leaf_form, is_leaf_way, nest_form, nest_meaning};
 
 use crate::walk::{Attribute, Walk};
 use frame_shown::form::{Form, List, Way};
@@ -80,5 +80,26 @@ pub(crate) fn is_nest<W: Walk>(own: Attribute<'_>) -> bool
     match own.list {
         List::Entries(_) => true,
         _ => is_way_nest::<W>(own.way, own.payload),
+    }
+}
+
+/// Whether a payload of this form holds no other values, whatever it is.
+fn is_leaf_form(form: Form) -> bool
+    ensures { is_leaf_form form ≡ result }
+{
+    match form {
+        Form::Counters(_) | Form::Ipv6Counters | Form::Settings(_) => false,
+        Form::Record(_) | Form::Wireless | Form::List(_) | Form::Info => false,
+        _ => true,
+    }
+}
+
+/// Whether an attribute of such a row holds no other values, whatever its payload is.
+pub(crate) fn is_leaf(way: Way) -> bool
+    ensures { is_leaf_way way ≡ result }
+{
+    match way {
+        Way::Own(form) => is_leaf_form(form),
+        Way::By(_) => false,
     }
 }
