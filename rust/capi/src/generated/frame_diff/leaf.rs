@@ -313,6 +313,7 @@ fn is_text_same<D: Depth>(
 }
 
 /// Whether two values are shown as the same.
+#[inline(always)]
 pub(crate) fn is_shown_same<D: Depth>(
     texts: &mut Texts,
     cx: &Around<'_>,
@@ -341,6 +342,7 @@ pub(crate) fn put_alone<D: Depth>(
 }
 
 /// Adds the change of a value that turned.
+#[inline(always)]
 pub(crate) fn put_turned<D: Depth>(
     cx: &Around<'_>,
     theirs: &Around<'_>,

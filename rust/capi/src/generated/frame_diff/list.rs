@@ -3,10 +3,12 @@
 
 use crate::frame_diff::leaf::{Texts, is_same};
 use crate::frame_diff::named::{find_named, is_named, is_unnamed, name_of};
+use crate::frame_diff::nests::is_leaf;
 use crate::frame_diff::path::join;
+use crate::frame_diff::side::Side;
 use crate::frame_diff::value::tell_value;
 use crate::frame_diff::walk::{Attribute, Attributes, Pass, Walk};
-use crate::frame_shown::form::{Around, List, row_in};
+use crate::frame_shown::form::{Around, List, Way, row_in};
 use crate::frame_shown::list::has_twice;
 use crate::nla_wire::{NlaBuffer, NlasIterator, padded_len};
 use crate::shown::Page;
@@ -78,6 +80,15 @@ pub(crate) fn is_alike(pass: Pass, number: u16, beside: Option<Attribute<'_>>) -
     }
 }
 
+/// Whether nothing is told of a value that both messages have: it holds no others, and what turned is told of the old
+/// one.
+fn is_told_of_old(side: Side, way: Way, beside: Option<Attribute<'_>>) -> bool {
+    match side {
+        Side::Old => false,
+        Side::New | Side::Moved => beside.is_some() && is_leaf(way),
+    }
+}
+
 /// Tells of an attribute beside another one. Those that are the same are passed over at once.
 fn tell_unless_same<W: Walk>(
     texts: &mut Texts,
@@ -91,6 +102,9 @@ fn tell_unless_same<W: Walk>(
     if pass.is_alike {
         W::laws();
         if has_payload(own.payload, beside) {
+            return Ok(());
+        }
+        if is_told_of_old(pass.side, own.way, beside) {
             return Ok(());
         }
     }

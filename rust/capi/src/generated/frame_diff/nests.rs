@@ -59,3 +59,20 @@ pub(crate) fn is_nest<W: Walk>(own: Attribute<'_>) -> bool {
         _ => is_way_nest::<W>(own.way, own.payload),
     }
 }
+
+/// Whether a payload of this form holds no other values, whatever it is.
+fn is_leaf_form(form: Form) -> bool {
+    match form {
+        Form::Counters(_) | Form::Ipv6Counters | Form::Settings(_) => false,
+        Form::Record(_) | Form::Wireless | Form::List(_) | Form::Info => false,
+        _ => true,
+    }
+}
+
+/// Whether an attribute of such a row holds no other values, whatever its payload is.
+pub(crate) fn is_leaf(way: Way) -> bool {
+    match way {
+        Way::Own(form) => is_leaf_form(form),
+        Way::By(_) => false,
+    }
+}
