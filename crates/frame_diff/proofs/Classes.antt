@@ -153,7 +153,7 @@ above_runs true [] = refl
 above_runs false [] = refl
 above_runs is_any (m ∷ ms) = no_runs (m ∷ ms)
 
-forest_no_texts : (ms : List Member) → is_texts (forest ms) ≡ false
+pub forest_no_texts : (ms : List Member) → is_texts (forest ms) ≡ false
 forest_no_texts [] = refl
 forest_no_texts (m ∷ ms) = by (comes m.0 ms) (forest_no_texts ms)
   where

@@ -37,6 +37,7 @@ pub mod Names
 pub mod Cleared
 pub mod Records
 pub mod Alike
+pub mod Fixed
 pub mod Whole
 pub mod Settled
 pub mod Still

@@ -68,7 +68,7 @@ pub not_texts : (inner : Holding) → HoldsNoRuns inner → (is_state : Bool) (c
     → is_slots held ≡ false → is_texts (inside_by (inner is_state cx) cx held) ≡ false
 not_texts inner runless is_state cx Holdings.Nothing h = refl
 not_texts inner runless is_state cx Holdings.Passed h = refl
-not_texts inner runless is_state cx (Holdings.Slots plain p) h = absurd cc
+not_texts inner runless is_state cx (Holdings.Slots slots) h = absurd cc
 not_texts inner runless is_state cx (Holdings.Fields rows is_any) h =
     left_no_texts is_any (named (map (row_shown cx) rows.items))
 not_texts inner runless is_state cx (Holdings.List list p) h = (runless is_state cx list p.now).1

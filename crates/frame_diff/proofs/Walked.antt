@@ -14,27 +14,20 @@ use Rattle.nla_wire.proofs.Front.{first_comes}
 use Rattle.nla_wire.proofs.Items.{items_bad, items_next, items_nil}
 use Rattle.nla_wire.proofs.Steps.{step_end}
 use Rattle.link_info.specs.Tables.{frames_in}
-use Rattle.link_state.specs.Table.{Action}
 use Rattle.shown.specs.Drafts.{Draft, object_of, with_members}
 use Rattle.frame_shown.specs.Items.{objects}
 use Rattle.frame_shown.specs.Tables.{row_in}
 use Rattle.frame_shown.specs.declared.form.Around.{Around}
-use Rattle.frame_shown.specs.declared.form.Form.{Form}
-use Rattle.frame_shown.specs.declared.form.Form.TheVariants as Forms
 use Rattle.frame_shown.specs.declared.form.List.{List as Shape}
-use Rattle.frame_shown.specs.declared.form.Way.{Way}
-use Rattle.frame_shown.specs.declared.form.Way.TheVariants as Ways
 use Rattle.frame_shown.proofs.Items.{on_next}
 use Rattle.frame_diff.specs.Beside.{held_of, is_named}
-use Rattle.frame_diff.specs.Counters.{action_in, is_clear}
+use Rattle.frame_diff.specs.Counters.{action_in}
 use Rattle.frame_diff.specs.Forests.{AreApart, Forest, Held, Member, Step, comes, find, forest, is_label, is_text}
 use Rattle.frame_diff.specs.Differences.{text_of}
 use Rattle.frame_diff.specs.Items.{further, items_told, leaf_items, member_items, turned_item}
-use Rattle.frame_diff.specs.Members.{Inner, Reading, form_inside, held_by, held_inside, is_unnamed, named_in}
-use Rattle.frame_diff.specs.Members.{way_inside}
-use Rattle.frame_diff.specs.Nests.{is_leaf_form, is_leaf_way}
+use Rattle.frame_diff.specs.Members.{Reading, held_by, is_unnamed, named_in}
 use Rattle.frame_diff.specs.Walked.{AreAlike, HasNames, HasRowOf, Holding, HoldsApart, IsOf, Showing, frame_items}
-use Rattle.frame_diff.specs.Walked.{AreBeside, HasRowByNumber, StandBeside, is_row_alike, is_told_of_old}
+use Rattle.frame_diff.specs.Walked.{AreBeside, HasRowByNumber, StandBeside, is_row_alike}
 use Rattle.frame_diff.specs.Walked.{has_payload, held_at, held_items, last_items, reading_at, step_items}
 use Rattle.frame_diff.specs.Wholes.{is_alone}
 use Rattle.frame_diff.specs.declared.side.Side.{Side}
@@ -289,87 +282,6 @@ module _ (nest : Showing) (inner : Holding) (apart : HoldsApart inner) (is_state
       (option_map (held_at nest inner is_state) beside))) page
   silent_page side text own beside page row h =
       sym (ap (λ os. with_members (objects os) page) (same_untold side text own beside row h))
-
--- ** values that hold no others
-
-leaf_form : (inner : Inner) (cx : Around) (action : Action) (form : Form) (p : List ℕ) → is_leaf_form form ≡ true
-    → form_inside inner cx action form p ≡ Forest.none
-leaf_form inner cx action (Forms.Counters words) p h = absurd cc
-leaf_form inner cx action Forms.Ipv6Counters p h = absurd cc
-leaf_form inner cx action (Forms.Settings set) p h = absurd cc
-leaf_form inner cx action (Forms.Record parts) p h = absurd cc
-leaf_form inner cx action Forms.Wireless p h = absurd cc
-leaf_form inner cx action (Forms.List list) p h = absurd cc
-leaf_form inner cx action Forms.Info p h = absurd cc
-leaf_form inner cx action Forms.Kept p h = refl
-leaf_form inner cx action Forms.Unflagged p h = refl
-leaf_form inner cx action (Forms.Number size) p h = refl
-leaf_form inner cx action Forms.Signed p h = refl
-leaf_form inner cx action Forms.Text p h = refl
-leaf_form inner cx action (Forms.Exact size) p h = refl
-leaf_form inner cx action Forms.Truth p h = refl
-leaf_form inner cx action Forms.Id p h = refl
-leaf_form inner cx action Forms.Address p h = refl
-leaf_form inner cx action (Forms.Choice choice) p h = refl
-leaf_form inner cx action (Forms.Flags bits) p h = refl
-leaf_form inner cx action Forms.Ipv6 p h = refl
-leaf_form inner cx action (Forms.Field field) p h = refl
-
-leaf_way : (inner : Inner) (cx : Around) (action : Action) (way : Way) (p : List ℕ) → is_leaf_way way ≡ true
-    → way_inside inner cx action way p ≡ Forest.none
-leaf_way inner cx action (Ways.Own form) p h = leaf_form inner cx action form p h
-leaf_way inner cx action (Ways.By style) p h = absurd cc
-
-leaf_held : (inner : Inner) (cx : Around) (action : Action) (way : Way) (p : List ℕ) → is_leaf_way way ≡ true
-    → held_inside inner cx action way p ≡ cond (is_clear action) Forest.passed Forest.none
-leaf_held inner cx action way p h = ap (cond (is_clear action) Forest.passed) (leaf_way inner cx action way p h)
-
-both_leaf : (side : Side) (way : Way) (a : Attribute) (text : List ℕ) (v w : List Token) (c : Bool)
-    → is_told_of_old side way (Some a) ≡ true
-    → member_items side text v (cond c Forest.passed Forest.none)
-    (items_told side text (cond c Forest.passed Forest.none)) (Some (w, cond c Forest.passed Forest.none)) ≡ []
-both_leaf Old way a text v w c h = absurd cc
-both_leaf New way a text v w true h = refl
-both_leaf New way a text v w false h = refl
-both_leaf Moved way a text v w true h = refl
-both_leaf Moved way a text v w false h = refl
-
-told_leaf : (side : Side) (way : Way) (beside : Option Attribute) → is_told_of_old side way beside ≡ true
-    → is_leaf_way way ≡ true
-told_leaf Old way beside h = absurd cc
-told_leaf New way None h = absurd cc
-told_leaf New way (Some a) h = h
-told_leaf Moved way None h = absurd cc
-told_leaf Moved way (Some a) h = h
-
-module _ (nest : Showing) (inner : Holding) (is_state : Bool) where
-  old_tells : (side : Side) (text : List ℕ) (own : Attribute) (beside : Option Attribute) → HasRowOf own beside
-      → is_told_of_old side own.way beside ≡ true
-      → held_items side text (held_at nest inner is_state own) (option_map (held_at nest inner is_state) beside) ≡ []
-  old_tells Old text own None row h = absurd cc
-  old_tells New text own None row h = absurd cc
-  old_tells Moved text own None row h = absurd cc
-  old_tells side text own (Some a) row h =
-      let cx = own.around.now in
-      let action = action_in is_state own.list own.number in
-      let c = is_clear action in
-      let v = (held_at nest inner is_state own).0 in
-      let w = (held_at nest inner is_state a).0 in
-      let leaf = told_leaf side own.way (Some a) h in
-      let here : (held_at nest inner is_state own).1 ≡ cond c Forest.passed Forest.none =
-      leaf_held (inner is_state cx) cx action own.way own.payload.now leaf in
-      let there : (held_at nest inner is_state a).1 ≡ cond c Forest.passed Forest.none =
-      (λ k. held_inside (inner is_state (row.0 k)) (row.0 k) (action_in is_state (row.1 k) (row.2 k)) (row.3 k)
-      a.payload.now) ∙ leaf_held (inner is_state cx) cx action own.way a.payload.now leaf in
-      (λ k. member_items side text v (here k) (items_told side text (here k)) (Some (w, there k)))
-      ∙ both_leaf side own.way a text v w c h
-
-  pub old_tells_page : (side : Side) (text : List ℕ) (own : Attribute) (beside : Option Attribute) (page : Draft)
-      → HasRowOf own beside → is_told_of_old side own.way beside ≡ true
-      → page ≡ with_members (objects (held_items side text (held_at nest inner is_state own)
-      (option_map (held_at nest inner is_state) beside))) page
-  old_tells_page side text own beside page row h =
-      sym (ap (λ os. with_members (objects os) page) (old_tells side text own beside row h))
 
 -- ** rows of both lists
 

@@ -14,6 +14,8 @@ use Rattle.frame_diff.specs.Members.{Parts, Reading, frame_member, is_unnamed, m
 use Rattle.frame_diff.specs.Members.{value_with, way_inside}
 use Rattle.frame_diff.specs.Ranges.{Told, apart, both_by, moved_by, told_by, told_items}
 use Rattle.frame_diff.specs.Wholes.{between, opened, wholes}
+use Rattle.frame_diff.specs.declared.message.Asked.{Asked}
+use Rattle.frame_diff.specs.declared.message.Asked.TheVariants as Askeds
 use Rattle.frame_diff.specs.declared.side.Side.{Side}
 
 abbrev pub WhatDiffersIsTold : Type 0
@@ -58,6 +60,10 @@ messages_by is_state cx other old new =
 abbrev pub messages_moved : Bool → Around → Around → Parts → Parts → List Told
 messages_moved is_state cx other old new =
     moved_by (message_made is_state cx old) (message_made is_state other new)
+
+abbrev pub messages_asked : Asked → Bool → Around → Around → Parts → Parts → List Told
+messages_asked Askeds.Changes is_state cx other old new = messages_by is_state cx other old new
+messages_asked Askeds.Moved is_state cx other old new = messages_moved is_state cx other old new
 
 -- VLAN by VLAN, what is written of two messages is what is told of them
 abbrev pub RangesAreChanges : Type 0

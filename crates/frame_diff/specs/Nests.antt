@@ -6,6 +6,7 @@ use Rattle.link_info.specs.Styles.{plain_in}
 use Rattle.link_info.specs.declared.style.Plain.{Plain}
 use Rattle.link_info.specs.declared.style.Plain.TheVariants as P
 use Rattle.link_info.specs.declared.style.Style.{Style}
+use Rattle.link_info.specs.declared.style.Style.TheVariants as S
 use Rattle.frame_shown.specs.declared.form.Form.{Form}
 use Rattle.frame_shown.specs.declared.form.Form.TheVariants as Forms
 use Rattle.frame_shown.specs.declared.form.Way.{Way}
@@ -66,30 +67,41 @@ nest_form deep (Forms.Choice choice) = false
 nest_form deep Forms.Ipv6 = false
 nest_form deep (Forms.Field field) = false
 
--- ** values that hold no others, whatever their payloads are
+-- ** values that hold others of the same names, or none, whatever their payloads are
 
-abbrev pub is_leaf_form : Form → Bool
-is_leaf_form (Forms.Counters words) = false
-is_leaf_form Forms.Ipv6Counters = false
-is_leaf_form (Forms.Settings set) = false
-is_leaf_form (Forms.Record parts) = false
-is_leaf_form Forms.Wireless = false
-is_leaf_form (Forms.List list) = false
-is_leaf_form Forms.Info = false
-is_leaf_form Forms.Kept = true
-is_leaf_form Forms.Unflagged = true
-is_leaf_form (Forms.Number size) = true
-is_leaf_form Forms.Signed = true
-is_leaf_form Forms.Text = true
-is_leaf_form (Forms.Exact size) = true
-is_leaf_form Forms.Truth = true
-is_leaf_form Forms.Id = true
-is_leaf_form Forms.Address = true
-is_leaf_form (Forms.Choice choice) = true
-is_leaf_form (Forms.Flags bits) = true
-is_leaf_form Forms.Ipv6 = true
-is_leaf_form (Forms.Field field) = true
+abbrev pub is_fixed_form : Form → Bool
+is_fixed_form (Forms.Counters words) = true
+is_fixed_form Forms.Ipv6Counters = false
+is_fixed_form (Forms.Settings set) = false
+is_fixed_form (Forms.Record parts) = true
+is_fixed_form Forms.Wireless = false
+is_fixed_form (Forms.List list) = false
+is_fixed_form Forms.Info = false
+is_fixed_form Forms.Kept = true
+is_fixed_form Forms.Unflagged = true
+is_fixed_form (Forms.Number size) = true
+is_fixed_form Forms.Signed = true
+is_fixed_form Forms.Text = true
+is_fixed_form (Forms.Exact size) = true
+is_fixed_form Forms.Truth = true
+is_fixed_form Forms.Id = true
+is_fixed_form Forms.Address = true
+is_fixed_form (Forms.Choice choice) = true
+is_fixed_form (Forms.Flags bits) = true
+is_fixed_form Forms.Ipv6 = true
+is_fixed_form (Forms.Field field) = true
 
-abbrev pub is_leaf_way : Way → Bool
-is_leaf_way (Ways.Own form) = is_leaf_form form
-is_leaf_way (Ways.By style) = false
+abbrev pub is_fixed_style : Style → Bool
+is_fixed_style S.Bytes = true
+is_fixed_style S.Flag = true
+is_fixed_style S.Text = true
+is_fixed_style (S.Plain plain) = true
+is_fixed_style (S.Array plain) = true
+is_fixed_style (S.Record members) = false
+is_fixed_style (S.List plain) = false
+is_fixed_style (S.Nest place) = false
+is_fixed_style (S.Each element) = false
+
+abbrev pub is_fixed_way : Way → Bool
+is_fixed_way (Ways.Own form) = is_fixed_form form
+is_fixed_way (Ways.By style) = is_fixed_style style

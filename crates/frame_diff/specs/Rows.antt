@@ -26,7 +26,7 @@ row_shown cx row = (row.name.now, value_shown (λ list p. hexadecimal p) cx row.
 abbrev pub inside_by : Inner → Around → Holds → Forest
 inside_by inner cx Holdings.Nothing = Forest.none
 inside_by inner cx Holdings.Passed = Forest.passed
-inside_by inner cx (Holdings.Slots plain p) = Forest.texts (slots_shown plain p.now)
+inside_by inner cx (Holdings.Slots slots) = Forest.texts (slots_shown slots.value.plain slots.value.bytes.now)
 inside_by inner cx (Holdings.Fields rows is_any) = left_of is_any (named (map (row_shown cx) rows.items))
 inside_by inner cx (Holdings.List list p) = inner list p.now
 
@@ -34,7 +34,7 @@ inside_by inner cx (Holdings.List list p) = inner list p.now
 abbrev pub is_slots : Holds → Bool
 is_slots Holdings.Nothing = false
 is_slots Holdings.Passed = false
-is_slots (Holdings.Slots plain p) = true
+is_slots (Holdings.Slots slots) = true
 is_slots (Holdings.Fields rows is_any) = false
 is_slots (Holdings.List list p) = false
 

@@ -18,7 +18,7 @@ use Rattle.frame_diff.specs.Counters.{action_in}
 use Rattle.frame_diff.specs.Forests.{AreApart, Forest, Held, Member, Step, comes, find, is_text}
 use Rattle.frame_diff.specs.Items.{further, items_told, list_items, member_items, moved_items}
 use Rattle.frame_diff.specs.Members.{Inner, Reading, held_by, is_unnamed, named_in}
-use Rattle.frame_diff.specs.Nests.{is_leaf_way}
+use Rattle.frame_diff.specs.Nests.{is_fixed_way}
 use Rattle.frame_diff.specs.Shown.{HasNamesApart}
 use Rattle.frame_diff.specs.Wholes.{cut}
 use Rattle.frame_diff.specs.declared.side.Side.{Side}
@@ -104,13 +104,13 @@ abbrev pub has_payload : List ℕ → Option Attribute → Bool
 has_payload p None = false
 has_payload p (Some a) = is_text p a.payload.now
 
--- nothing is told of a value that both have, where it holds no others: it is told of the old one
+-- nothing is told of a value that both have, where those in it have the same names: what turned is told of the old one
 abbrev pub is_told_of_old : Side → Way → Option Attribute → Bool
 is_told_of_old Old way beside = false
 is_told_of_old New way None = false
-is_told_of_old New way (Some a) = is_leaf_way way
+is_told_of_old New way (Some a) = is_fixed_way way
 is_told_of_old Moved way None = false
-is_told_of_old Moved way (Some a) = is_leaf_way way
+is_told_of_old Moved way (Some a) = is_fixed_way way
 
 -- ** attributes of the same number
 

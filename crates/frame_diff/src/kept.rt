@@ -25,7 +25,7 @@ use crate::counters::is_passed;
 use crate::keyed::{Labelled, label_all, places_unless_along, push_labelled, value_beside};
 use crate::keys::Key;
 use crate::labels::Label;
-use crate::leaf::{Texts, Value, is_same, put_alone, tell_leaf};
+use crate::leaf::{Texts, Value, is_same, put_alone, tell_turned};
 use crate::path::{join, join_label};
 use crate::rows::{Row, tell_rows};
 use crate::side::Side;
@@ -319,17 +319,8 @@ fn tell_moved(
         return Ok(());
     }
     let was = Value::Others(values);
-    let is = Some(Value::Others(theirs));
-    tell_leaf::<Bottom>(
-        texts,
-        own.around,
-        others.around,
-        page,
-        path,
-        Side::Old,
-        was,
-        is,
-    )
+    let is = Value::Others(theirs);
+    tell_turned::<Bottom>(texts, own.around, others.around, page, path, was, is)
 }
 
 /// Tells of the attributes of a list that are kept, each beside the one of its number in another list, as members of a

@@ -20,7 +20,7 @@ ghost use Rattle.frame_diff.specs.Walked.{is_unnamed_there, is_there, named_at, 
 
 use crate::leaf::{Texts, is_same};
 use crate::named::{find_named, is_named, is_unnamed, name_of};
-use crate::nests::is_leaf;
+use crate::nests::is_fixed;
 use crate::path::join;
 use crate::side::Side;
 use crate::value::tell_value;
@@ -122,14 +122,14 @@ pub(crate) fn is_alike(pass: Pass, number: u16, beside: Option<Attribute<'_>>) -
     }
 }
 
-/// Whether nothing is told of a value that both messages have: it holds no others, and what turned is told of the old
-/// one.
+/// Whether nothing is told of a value that both messages have: those in it have the same names, or there are none, so
+/// that none came, and what turned is told of the old one.
 fn is_told_of_old(side: Side, way: Way, beside: Option<Attribute<'_>>) -> bool
     ensures { is_told_of_old side way beside.entry ≡ result }
 {
     match side {
         Side::Old => false,
-        Side::New | Side::Moved => beside.is_some() && is_leaf(way),
+        Side::New | Side::Moved => beside.is_some() && is_fixed(way),
     }
 }
 

@@ -12,7 +12,7 @@ ghost use Rattle.frame_shown.specs.Plain.{plain};
 ghost use Rattle.frame_shown.specs.declared.form.Around.{Around as Beside};
 ghost use Rattle.frame_diff.specs.Forests.{forest};
 ghost use Rattle.frame_diff.specs.Items.{items_told};
-ghost use Rattle.frame_diff.specs.Laws.{messages_by, messages_moved};
+ghost use Rattle.frame_diff.specs.Laws.{messages_asked, messages_by, messages_moved};
 ghost use Rattle.frame_diff.specs.Members.{attributes_in, fields, message_made, refused_in, whole};
 ghost use Rattle.frame_diff.specs.Messages.{parts_of, with_order};
 ghost use Rattle.frame_diff.specs.Ranges.{told_items};
@@ -283,7 +283,7 @@ pub(crate) fn tell_messages(
 
 /// Tells of the lists whose values two messages, or two states, have in another order, or which one of both writes
 /// otherwise: of each as a whole.
-pub(crate) fn tell_moved_by(
+pub(crate) fn tell_moved(
     texts: &mut Texts,
     is_state: bool,
     cx: &Around<'_>,
@@ -306,29 +306,21 @@ pub(crate) fn tell_moved_by(
     tell_side(texts, pass, cx, &theirs, page, old, new)
 }
 
-/// Tells of the lists whose values two messages, or two states, have in another order, or which one of both writes
-/// otherwise, by the rows of all places: of each as a whole. Where `tell` tells nothing, this may be what differs.
-pub fn tell_moved(
-    texts: &mut Texts,
-    is_state: bool,
-    orders: (Order, Order),
-    page: &mut Page,
-    old: Message<'_>,
-    new: Message<'_>,
-) -> Result<(), AllocError>
-    ensures { OnOk result (page.new ≡ with_members (objects (flat_map told_items
-        (messages_moved is_state (plain orders.0) (plain orders.1)
-        (parts_of old.entry) (parts_of new.entry)))) page.old) }
-{
-    let tables = all_rows();
-    let cx = Around::plain(&tables, orders.0);
-    tell_moved_by(texts, is_state, &cx, orders.1, page, old, new)
+/// What is asked of two messages, or of two states.
+#[derive(Clone, Copy, Drop)]
+pub enum Asked {
+    /// All that differs.
+    Changes,
+    /// The lists that they have in another order, or that one of both writes otherwise. Where nothing is told of all
+    /// that differs, this may be what does.
+    Moved,
 }
 
-/// Tells of all that differs between two messages, or between two states, by the rows of all places; each has an order
-/// of the counters of IPv6.
+/// Tells of what differs between two messages, or between two states, by the rows of all places; each has an order of
+/// the counters of IPv6.
 pub fn tell(
     texts: &mut Texts,
+    asked: Asked,
     is_state: bool,
     orders: (Order, Order),
     page: &mut Page,
@@ -336,10 +328,13 @@ pub fn tell(
     new: Message<'_>,
 ) -> Result<(), AllocError>
     ensures { OnOk result (page.new ≡ with_members (objects (flat_map told_items
-        (messages_by is_state (plain orders.0) (plain orders.1)
+        (messages_asked asked is_state (plain orders.0) (plain orders.1)
         (parts_of old.entry) (parts_of new.entry)))) page.old) }
 {
     let tables = all_rows();
     let cx = Around::plain(&tables, orders.0);
-    tell_messages(texts, is_state, &cx, orders.1, page, old, new)
+    match asked {
+        Asked::Changes => tell_messages(texts, is_state, &cx, orders.1, page, old, new),
+        Asked::Moved => tell_moved(texts, is_state, &cx, orders.1, page, old, new),
+    }
 }

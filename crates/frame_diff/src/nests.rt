@@ -7,7 +7,8 @@ ghost use Rattle.frame_shown.specs.Values.{form_shown, style_shown};
 ghost use Rattle.frame_shown.specs.declared.form.Around.{Around as Beside};
 ghost use Rattle.frame_diff.specs.Groups.{value_at};
 ghost use Rattle.frame_diff.specs.Members.{is_nest};
-ghost use Rattle.frame_diff.specs.Nests.{are_flags, is_leaf_form, is_leaf_way, nest_form, nest_meaning};
+ghost use Rattle.frame_diff.specs.Nests.{are_flags, is_fixed_form, is_fixed_style, is_fixed_way, nest_form};
+ghost use Rattle.frame_diff.specs.Nests.{nest_meaning};
 
 use crate::walk::{Attribute, Walk};
 use frame_shown::form::{Form, List, Way};
@@ -83,23 +84,33 @@ pub(crate) fn is_nest<W: Walk>(own: Attribute<'_>) -> bool
     }
 }
 
-/// Whether a payload of this form holds no other values, whatever it is.
-fn is_leaf_form(form: Form) -> bool
-    ensures { is_leaf_form form ≡ result }
+/// Whether payloads of this form hold values of the same names, or none, whatever their bytes are.
+fn is_fixed_form(form: Form) -> bool
+    ensures { is_fixed_form form ≡ result }
 {
     match form {
-        Form::Counters(_) | Form::Ipv6Counters | Form::Settings(_) => false,
-        Form::Record(_) | Form::Wireless | Form::List(_) | Form::Info => false,
+        Form::Ipv6Counters | Form::Settings(_) | Form::Wireless => false,
+        Form::List(_) | Form::Info => false,
         _ => true,
     }
 }
 
-/// Whether an attribute of such a row holds no other values, whatever its payload is.
-pub(crate) fn is_leaf(way: Way) -> bool
-    ensures { is_leaf_way way ≡ result }
+/// Whether payloads of this style hold no other values, whatever their bytes are.
+fn is_fixed_style(style: Style) -> bool
+    ensures { is_fixed_style style ≡ result }
+{
+    match style {
+        Style::Record(_) | Style::List(_) | Style::Nest(_) | Style::Each(_) => false,
+        _ => true,
+    }
+}
+
+/// Whether attributes of such a row hold values of the same names, or none, whatever their payloads are.
+pub(crate) fn is_fixed(way: Way) -> bool
+    ensures { is_fixed_way way ≡ result }
 {
     match way {
-        Way::Own(form) => is_leaf_form(form),
-        Way::By(_) => false,
+        Way::Own(form) => is_fixed_form(form),
+        Way::By(style) => is_fixed_style(style),
     }
 }

@@ -17,7 +17,7 @@ ghost use Rattle.frame_diff.specs.declared.walk.Attribute.{Attribute as One};
 ghost use Rattle.frame_diff.specs.declared.side.Side.TheVariants as Sides;
 ghost use Rattle.frame_shown.specs.declared.form.List.TheVariants as Shapes;
 
-use crate::leaf::{Texts, Value, is_same, put_alone, tell_leaf};
+use crate::leaf::{Texts, Value, is_same, put_alone, tell_leaf, tell_turned};
 use crate::lists::{is_without, tell_object};
 use crate::picked::{bare_beside, entry_beside, entry_list, is_entries};
 use crate::plain_lists::flat_value;
@@ -179,17 +179,8 @@ fn tell_list<W: Walk>(
         (Some (group_held W.nest W.inner is_state new.entry).0))) page.old) }
 {
     let was = flat_value(old);
-    let is = Some(flat_value(new));
-    tell_leaf::<W>(
-        texts,
-        old.around,
-        new.around,
-        page,
-        path,
-        Side::Old,
-        was,
-        is,
-    )
+    let is = flat_value(new);
+    tell_turned::<W>(texts, old.around, new.around, page, path, was, is)
 }
 
 /// The group of a list of entries.
@@ -225,17 +216,8 @@ fn tell_entries<W: Walk>(
     let own = settled_entries(texts.alloc, is_state, group, old.bytes)?;
     let there = settled_entries(texts.alloc, is_state, other, new.bytes)?;
     let was = Value::Entries(group, own.as_slice());
-    let is = Some(Value::Entries(other, there.as_slice()));
-    tell_leaf::<Above<W>>(
-        texts,
-        old.around,
-        new.around,
-        page,
-        path,
-        Side::Old,
-        was,
-        is,
-    )
+    let is = Value::Entries(other, there.as_slice());
+    tell_turned::<Above<W>>(texts, old.around, new.around, page, path, was, is)
 }
 
 /// What the values of a list are.

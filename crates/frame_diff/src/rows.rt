@@ -45,6 +45,15 @@ pub struct Row<'a> {
     pub value: Value<'a>,
 }
 
+/// Payloads of attributes as values. What an attribute holds keeps them in a box: they are rare, and large.
+#[derive(Clone, Copy, Drop)]
+pub struct Slots<'a> {
+    /// How each is spelled.
+    pub plain: Plain,
+    /// The bytes of the attributes.
+    pub bytes: &'a [u8],
+}
+
 /// What a payload holds, beside its bytes.
 #[derive(Drop)]
 pub enum Holds<'a> {
@@ -57,7 +66,7 @@ pub enum Holds<'a> {
     /// A list of attributes.
     List(List, &'a [u8]),
     /// Values that are the payloads of attributes: a leaf too.
-    Slots(Plain, &'a [u8]),
+    Slots(Box<Slots<'a>>),
 }
 
 /// Fields of which none is passed over.
@@ -194,7 +203,7 @@ fn style_holds<'a>(
     match read(style, payload) {
         Meant::Record(members, bytes) => members_held(alloc, members, part, bytes),
         Meant::Nest(place, bytes) => Ok(Holds::List(List::Of(place), bytes)),
-        Meant::List(plain, bytes) => Ok(Holds::Slots(plain, bytes)),
+        Meant::List(plain, bytes) => Ok(Holds::Slots(Box::new(alloc, Slots { plain, bytes })?)),
         _ => Ok(Holds::Nothing),
     }
 }

@@ -19,7 +19,7 @@ ghost use Rattle.frame_diff.specs.declared.walk.Attributes.{Attributes as Lists}
 
 use crate::each::{Each, tell_alone, tell_both};
 use crate::leaf::{Texts, Value, tell_leaf};
-use crate::rows::{Holds, Row, held_in, tell_rows};
+use crate::rows::{Holds, Row, Slots, held_in, tell_rows};
 use crate::walk::{Attribute, Attributes, Pass, Walk};
 use frame_shown::form::Around;
 use link_info::Plain;
@@ -40,7 +40,7 @@ fn holds_none<W: Walk>(own: Attribute<'_>, held: &Holds<'_>) -> bool
         (inside_by (W.inner is_state own.entry.around.now) own.entry.around.now held.now) ≡ result }
 {
     match held {
-        Holds::Nothing | Holds::Slots(_, _) => true,
+        Holds::Nothing | Holds::Slots(_) => true,
         Holds::Passed => false,
         Holds::Fields(rows, is_any) => are_none(rows, *is_any),
         Holds::List(list, bytes) => W::is_bare(Attributes {
@@ -194,8 +194,9 @@ fn tell_slots<W: Walk>(
     };
     let held = held_in(texts.alloc, pass.is_state, other)?;
     match &held {
-        Holds::Slots(plain, bytes) => {
-            let theirs = slots_of(texts.alloc, other, *plain, bytes)?;
+        Holds::Slots(slots) => {
+            let slots = **slots;
+            let theirs = slots_of(texts.alloc, other, slots.plain, slots.bytes)?;
             tell_both::<W>(texts, page, path, pass.side, &each, &theirs)
         }
         _ => tell_beside::<W>(texts, pass, page, path, &each, other, &held),
@@ -215,7 +216,7 @@ fn rows_in<'a>(
 {
     match held_in(alloc, is_state, other)? {
         Holds::Fields(rows, _) => Ok(rows),
-        Holds::Nothing | Holds::Passed | Holds::List(_, _) | Holds::Slots(_, _) => {
+        Holds::Nothing | Holds::Passed | Holds::List(_, _) | Holds::Slots(_) => {
             Ok(Vec::new(alloc))
         }
     }
@@ -270,7 +271,7 @@ fn list_of<'a>(around: &'a Around<'a>, held: Holds<'a>) -> Option<Attributes<'a>
             number: None,
             bytes,
         }),
-        Holds::Nothing | Holds::Passed | Holds::Fields(_, _) | Holds::Slots(_, _) => None,
+        Holds::Nothing | Holds::Passed | Holds::Fields(_, _) | Holds::Slots(_) => None,
     }
 }
 
@@ -347,7 +348,7 @@ fn tell_held<W: Walk>(
         (inside_in (option_map (held_at W.nest W.inner pass.is_state) beside.entry)))) page.old) }
 {
     match held {
-        Holds::Nothing | Holds::Passed | Holds::Slots(_, _) => Ok(()),
+        Holds::Nothing | Holds::Passed | Holds::Slots(_) => Ok(()),
         Holds::Fields(rows, _) => tell_fields::<W>(texts, pass, page, path, own, rows, beside),
         Holds::List(list, bytes) => {
             let own = Attributes {
@@ -404,8 +405,9 @@ pub(crate) fn tell_value<W: Walk>(
 {
     let held = held_in(texts.alloc, pass.is_state, own)?;
     match &held {
-        Holds::Slots(plain, bytes) => {
-            tell_slots::<W>(texts, pass, page, path, own, *plain, bytes, beside)
+        Holds::Slots(slots) => {
+            let Slots { plain, bytes } = **slots;
+            tell_slots::<W>(texts, pass, page, path, own, plain, bytes, beside)
         }
         _ => tell_other::<W>(texts, pass, page, path, own, &held, beside),
     }

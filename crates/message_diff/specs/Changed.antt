@@ -11,10 +11,11 @@ use Rattle.frame_shown.specs.declared.form.Order.{Order}
 use Rattle.frame_diff.specs.Differences.{Change}
 use Rattle.frame_diff.specs.Forests.{Forest, Step}
 use Rattle.frame_diff.specs.Items.{change_item}
-use Rattle.frame_diff.specs.Laws.{messages_by, messages_moved}
+use Rattle.frame_diff.specs.Laws.{messages_asked, messages_by, messages_moved}
 use Rattle.frame_diff.specs.Members.{message_forest}
 use Rattle.frame_diff.specs.Ranges.{Told, told_items}
 use Rattle.frame_diff.specs.Wholes.{between}
+use Rattle.frame_diff.specs.declared.message.Asked.{Asked}
 use Rattle.message_diff.specs.declared.snapshot.Compared.{Compared}
 use Rattle.message_diff.specs.Alone.{change_member, told_words}
 use Rattle.message_diff.specs.Compared.{HasTextBy, is_state, parts_by}
@@ -62,6 +63,11 @@ lists_between by old new = messages_moved (is_state by) (plain old.order) (plain
 
 abbrev pub items_moved : Compared → Shot → Shot → List Members
 items_moved by old new = flat_map told_items (lists_between by old new)
+
+-- what is asked of two
+abbrev pub items_asked : Asked → Compared → Shot → Shot → List Members
+items_asked asked by old new = flat_map told_items (messages_asked asked (is_state by) (plain old.order)
+    (plain new.order) (parts_by by old.text) (parts_by by new.text))
 
 abbrev pub items_or : List Members → List Members → List Members
 items_or others [] = others

@@ -7,14 +7,14 @@ ghost use Rattle.frame_shown.specs.Items.{objects};
 ghost use Rattle.frame_diff.specs.Items.{change_item};
 ghost use Rattle.frame_diff.specs.Members.{leniently};
 ghost use Rattle.frame_diff.specs.Messages.{parts_of};
-ghost use Rattle.message_diff.specs.Changed.{change_tokens, items_between, items_moved, state_change};
+ghost use Rattle.message_diff.specs.Changed.{change_tokens, items_asked, state_change};
 ghost use Rattle.message_diff.specs.Changed.{written_items};
 ghost use Rattle.message_diff.specs.Compared.{is_lenient};
 ghost use Rattle.message_diff.specs.Split.{parts_in};
 
 use crate::snapshot::{Compared, Snapshot};
 use frame_diff::leaf::Texts;
-use frame_diff::message::{Message, tell, tell_moved};
+use frame_diff::message::{Asked, Message, tell};
 use frame_shown::accepted::parted;
 use frame_shown::message::rest_of;
 use nla_wire::fields::u8_at;
@@ -55,9 +55,10 @@ impl<'a> Split<'a> {
     }
 }
 
-/// Adds what differs between two encodings that are read leniently, as values of a list.
+/// Adds what is asked of two encodings that are read leniently, as values of a list.
 fn tell_leniently(
     texts: &mut Texts,
+    asked: Asked,
     by: Compared,
     old: &Snapshot,
     new: &Snapshot,
@@ -65,13 +66,14 @@ fn tell_leniently(
 ) -> Result<(), AllocError>
     requires { is_lenient by ≡ true }
     ensures { OnOk result (page.new ≡ with_members
-        (objects (items_between by old.now new.now)) page.old) }
+        (objects (items_asked asked by old.now new.now)) page.old) }
 {
     let was = Split::of(texts.alloc, old.text())?;
     let is = Split::of(texts.alloc, new.text())?;
     let orders = (old.order(), new.order());
     tell(
         texts,
+        asked,
         by.is_state(),
         orders,
         page,
@@ -80,70 +82,25 @@ fn tell_leniently(
     )
 }
 
-/// Adds what differs between two encodings, as values of a list.
-fn tell_changes(
+/// Adds what is asked of two encodings, as values of a list: what differs, or the lists in another order.
+fn tell_asked(
     texts: &mut Texts,
+    asked: Asked,
     by: Compared,
     old: &Snapshot,
     new: &Snapshot,
     page: &mut Page,
 ) -> Result<(), AllocError>
     ensures { OnOk result (page.new ≡ with_members
-        (objects (items_between by old.now new.now)) page.old) }
+        (objects (items_asked asked by old.now new.now)) page.old) }
 {
     if by.is_lenient() {
-        return tell_leniently(texts, by, old, new, page);
+        return tell_leniently(texts, asked, by, old, new, page);
     }
     let orders = (old.order(), new.order());
     let was = Message::whole(old.text());
     let is = Message::whole(new.text());
-    tell(texts, by.is_state(), orders, page, was, is)
-}
-
-/// Adds the lists that two encodings, read leniently, have in another order, or that one of both writes otherwise, as
-/// values of a list.
-fn tell_lists_leniently(
-    texts: &mut Texts,
-    by: Compared,
-    old: &Snapshot,
-    new: &Snapshot,
-    page: &mut Page,
-) -> Result<(), AllocError>
-    requires { is_lenient by ≡ true }
-    ensures { OnOk result (page.new ≡ with_members
-        (objects (items_moved by old.now new.now)) page.old) }
-{
-    let was = Split::of(texts.alloc, old.text())?;
-    let is = Split::of(texts.alloc, new.text())?;
-    let orders = (old.order(), new.order());
-    tell_moved(
-        texts,
-        by.is_state(),
-        orders,
-        page,
-        was.message(),
-        is.message(),
-    )
-}
-
-/// Adds the lists that two encodings have in another order, or that one of both writes otherwise, as values of a list.
-fn tell_lists(
-    texts: &mut Texts,
-    by: Compared,
-    old: &Snapshot,
-    new: &Snapshot,
-    page: &mut Page,
-) -> Result<(), AllocError>
-    ensures { OnOk result (page.new ≡ with_members
-        (objects (items_moved by old.now new.now)) page.old) }
-{
-    if by.is_lenient() {
-        return tell_lists_leniently(texts, by, old, new, page);
-    }
-    let orders = (old.order(), new.order());
-    let was = Message::whole(old.text());
-    let is = Message::whole(new.text());
-    tell_moved(texts, by.is_state(), orders, page, was, is)
+    tell(texts, asked, by.is_state(), orders, page, was, is)
 }
 
 /// Adds both encodings in hexadecimal, as a change.
@@ -171,11 +128,11 @@ fn tell_all(
     ensures { OnOk result (page.new ≡ with_members
         (objects (written_items by old.now new.now)) page.old) }
 {
-    tell_changes(texts, by, old, new, page)?;
+    tell_asked(texts, Asked::Changes, by, old, new, page)?;
     if page.ends_value() {
         return Ok(());
     }
-    tell_lists(texts, by, old, new, page)?;
+    tell_asked(texts, Asked::Moved, by, old, new, page)?;
     if page.ends_value() {
         return Ok(());
     }

@@ -36,7 +36,7 @@ returns c =
     let moved : is_moved side ≡ true = search rules in
     let own : are_any c.args.values.now ≡ true = search rules in
     let other : are_any c.args.theirs.now ≡ true = search rules in
-    on_ok_weaker c.tell_leaf.result (λ is is_state are theirs. is
+    on_ok_weaker c.tell_turned.result (λ is is_state are theirs. is
     ∙ sym (ap (λ os. with_members (objects os) c.args.page.now)
     (moved_both side text is_state c.args.own c.args.others c.args.values.now c.args.theirs.now are theirs moved own
-    other))) c.tell_leaf.ensures
+    other))) c.tell_turned.ensures

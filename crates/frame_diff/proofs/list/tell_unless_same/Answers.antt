@@ -1,6 +1,7 @@
 use Rattle.std.proofs.Common.{◌∙◌, sym}
 use Rattle.frame_diff.specs.Items.{joined}
-use Rattle.frame_diff.proofs.Walked.{old_tells_page, silent_page}
+use Rattle.frame_diff.proofs.Fixed.{old_tells_page}
+use Rattle.frame_diff.proofs.Walked.{silent_page}
 use Rattle.frame_diff.proofs.list.tell_unless_same.Goals as goal
 
 pub returns-then-has_payload : goal.returns-then-has_payload

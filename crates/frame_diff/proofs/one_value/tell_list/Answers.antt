@@ -15,10 +15,10 @@ returns g c =
     let new = c.args.new in
     let cx = old.around.now in
     let theirs = new.around.now in
-    on_ok_weaker c.tell_leaf.result (leaf_written Old c.args.path.now
-    (value_shown (nest cx) cx c.flat_value-was.result) (value_shown (nest theirs) theirs c.flat_value.result)
-    (group_held nest inner is_state old).0 (group_held nest inner is_state new).0 c.args.page.now c.tell_leaf.new.page
+    on_ok_weaker c.tell_turned.result (leaf_written Old c.args.path.now
+    (value_shown (nest cx) cx c.flat_value-was.result) (value_shown (nest theirs) theirs c.flat_value-is.result)
+    (group_held nest inner is_state old).0 (group_held nest inner is_state new).0 c.args.page.now c.tell_turned.new.page
     (c.flat_value-was.ensures (nest cx) cx
     ∙ whole_shown_is nest inner is_state old c.requires.old c.requires.entries)
-    (c.flat_value.ensures (nest theirs) theirs
-    ∙ whole_shown_is nest inner is_state new c.requires.new (c.requires.same ∙ c.requires.entries))) c.tell_leaf.ensures
+    (c.flat_value-is.ensures (nest theirs) theirs
+    ∙ whole_shown_is nest inner is_state new c.requires.new (c.requires.same ∙ c.requires.entries))) c.tell_turned.ensures

@@ -6,6 +6,7 @@ use Rattle.frame_diff.specs.Forests.{Forest, Held}
 use Rattle.frame_diff.specs.Members.{slots_shown}
 use Rattle.frame_diff.specs.Rows.{inside_by}
 use Rattle.frame_diff.specs.Walked.{held_at}
+use Rattle.frame_diff.specs.declared.rows.Slots.{Slots}
 use Rattle.frame_diff.proofs.Slots.{slots_written}
 use Rattle.frame_diff.proofs.value.tell_slots.Goals as goal
 
@@ -35,6 +36,7 @@ returns-in-Slots g c =
     let cx = other.around.now in
     let inside : (held other).1 ≡ Forest.texts (each_shown nest theirs) =
     c.in_ok-held.ensures (inner is_state cx) ∙ ap (inside_by (inner is_state cx) cx) c.in-Slots.is
+    ∙ ap (λ (slots : Slots). Forest.texts (slots_shown slots.plain slots.bytes.now)) (sym c.deref-slots.ensures)
     ∙ ap Forest.texts (sym (c.in_ok-theirs-in-Slots.ensures.values nest)) in
     let there : Option Held = Some (whole_shown nest theirs, Forest.texts (each_shown nest theirs)) in
     let shown : Some (held other) ≡ there =

@@ -9,13 +9,13 @@ use Rattle.message_diff.proofs.changes.tell_all.Goals as goal
 
 pub returns-then-ends_value : goal.returns-then-ends_value
 returns-then-ends_value c =
-    any_told c.args.by c.args.old.now c.args.new.now c.args.page.now c.tell_changes.new.page c.requires
-    c.in_ok-tell_changes.ensures (sym c.if-ends_value.ensures)
+    any_told c.args.by c.args.old.now c.args.new.now c.args.page.now c.tell_asked.new.page c.requires
+    c.in_ok-tell_asked.ensures (sym c.if-ends_value.ensures)
 
 pub returns-then-ends_value-2 : goal.returns-then-ends_value-2
 returns-then-ends_value-2 c =
-    lists_told c.args.by c.args.old.now c.args.new.now c.args.page.now c.tell_changes.new.page c.requires
-    c.in_ok-tell_changes.ensures c.tell_lists.new.page (sym c.if-ends_value.ensures) c.in_ok-tell_lists.ensures
+    lists_told c.args.by c.args.old.now c.args.new.now c.args.page.now c.tell_asked.new.page c.requires
+    c.in_ok-tell_asked.ensures c.tell_asked-2.new.page (sym c.if-ends_value.ensures) c.in_ok-tell_asked-2.ensures
     (sym c.if-ends_value-2.ensures)
 
 pub returns : goal.returns
@@ -23,9 +23,9 @@ returns c =
     let old = c.args.old.now in
     let new = c.args.new.now in
     on_ok_weaker c.show_texts.result
-    (λ is. texts_told c.args.by old new c.args.page.now c.tell_changes.new.page c.requires
-    c.in_ok-tell_changes.ensures c.tell_lists.new.page (sym c.if-ends_value.ensures) c.in_ok-tell_lists.ensures
+    (λ is. texts_told c.args.by old new c.args.page.now c.tell_asked.new.page c.requires
+    c.in_ok-tell_asked.ensures c.tell_asked-2.new.page (sym c.if-ends_value.ensures) c.in_ok-tell_asked-2.ensures
     c.show_texts.new.page (sym c.if-ends_value-2.ensures)
     (is ∙ (λ i. with_members (objects (change_item (state_change (c.text.ensures i) (c.text-2.ensures i)) ∷ []))
-    c.tell_lists.new.page)))
+    c.tell_asked-2.new.page)))
     c.show_texts.ensures
