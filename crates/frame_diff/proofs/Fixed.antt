@@ -14,7 +14,7 @@ use Rattle.link_info.specs.declared.style.Style.TheVariants as S
 use Rattle.link_state.specs.Table.{Action}
 use Rattle.shown.specs.Drafts.{Draft, Members, with_members}
 use Rattle.frame_shown.specs.Items.{objects}
-use Rattle.frame_shown.specs.Values.{counter_names, counter_width, counters_shown, field_shown, fields_in, fields_shown}
+use Rattle.frame_shown.specs.Values.{counter_names, counter_width, counters_shown, fields_in, fields_shown}
 use Rattle.frame_shown.specs.declared.form.Around.{Around}
 use Rattle.frame_shown.specs.declared.form.Field.{Field}
 use Rattle.frame_shown.specs.declared.form.Form.{Form}
@@ -23,12 +23,12 @@ use Rattle.frame_shown.specs.declared.form.Way.{Way}
 use Rattle.frame_shown.specs.declared.form.Way.TheVariants as Ways
 use Rattle.frame_diff.specs.Counters.{action_in, is_clear}
 use Rattle.frame_diff.specs.Differences.{leaf_in}
-use Rattle.frame_diff.specs.Forests.{Forest, Held, Member, Step, comes, field_step, find, forest, is_step}
+use Rattle.frame_diff.specs.Forests.{Forest, Held, Step, comes, field_step, find, is_step}
 use Rattle.frame_diff.specs.Inside.{has_none, is_texts}
 use Rattle.frame_diff.specs.Items.{items_told, joined, leaf_items, member_items}
 use Rattle.frame_diff.specs.Members.{Inner, fields, form_inside, held_inside, meaning_inside, named, way_inside}
 use Rattle.frame_diff.specs.Nests.{is_fixed_form, is_fixed_style, is_fixed_way}
-use Rattle.frame_diff.specs.Walked.{HasRowOf, Holding, Showing, held_at, held_items, is_told_of_old, last_items}
+use Rattle.frame_diff.specs.Walked.{HasRowOf, Holding, Showing, held_at, held_items, is_told_of_old}
 use Rattle.frame_diff.specs.declared.side.Side.{Side}
 use Rattle.frame_diff.specs.declared.side.Side.TheVariants.{Old, New, Moved}
 use Rattle.frame_diff.specs.declared.walk.Attribute.{Attribute}

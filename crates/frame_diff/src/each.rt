@@ -10,7 +10,7 @@ ghost use Rattle.frame_diff.specs.Items.{alone_texts, each_items, leaf_items, te
 ghost use Rattle.frame_diff.specs.Each.{each_shown, one_shown, whole_shown};
 ghost use Rattle.frame_diff.specs.Texts.{left_over, times, times_in};
 
-use crate::leaf::{Texts, Value, is_shown_same, push_text, put_turned, tell_leaf};
+use crate::leaf::{Texts, Value, is_same, push_text, put_turned, tell_leaf};
 use crate::path::join_each;
 use crate::side::Side;
 use frame_shown::depth::Depth;
@@ -183,7 +183,9 @@ pub(crate) fn tell_both<D: Depth>(
 {
     let cx = own.around;
     let theirs = other.around;
-    if is_shown_same::<D>(texts, cx, theirs, own.whole, other.whole)? {
+    let was = text_of::<D>(texts, own, own.whole)?;
+    let is = text_of::<D>(texts, other, other.whole)?;
+    if is_same(was.as_slice(), is.as_slice()) {
         return Ok(());
     }
     if side.is_moved() {

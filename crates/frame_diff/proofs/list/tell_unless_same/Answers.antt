@@ -1,6 +1,5 @@
 use Rattle.std.proofs.Common.{◌∙◌, sym}
 use Rattle.frame_diff.specs.Items.{joined}
-use Rattle.frame_diff.proofs.Fixed.{old_tells_page}
 use Rattle.frame_diff.proofs.Walked.{silent_page}
 use Rattle.frame_diff.proofs.list.tell_unless_same.Goals as goal
 
@@ -9,9 +8,3 @@ returns-then-has_payload g c =
     silent_page g.W.Depth.nest g.W.Walk.inner c.laws.ensures.apart c.args.pass.is_state c.args.pass.side
     (joined c.args.path.now c.args.name.now) c.args.own c.args.beside c.args.page.now (c.requires.alike c.if-pass.true)
     (sym c.has_payload.ensures ∙ c.if-has_payload.true)
-
-pub returns-then-is_told_of_old : goal.returns-then-is_told_of_old
-returns-then-is_told_of_old g c =
-    old_tells_page g.W.Depth.nest g.W.Walk.inner c.args.pass.is_state c.args.pass.side
-    (joined c.args.path.now c.args.name.now) c.args.own c.args.beside c.args.page.now (c.requires.alike c.if-pass.true)
-    (c.is_told_of_old.ensures ∙ c.if-is_told_of_old.true)

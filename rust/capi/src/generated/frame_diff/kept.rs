@@ -6,7 +6,7 @@ use crate::frame_diff::counters::is_passed;
 use crate::frame_diff::keyed::{Labelled, label_all, places_unless_along, push_labelled, value_beside};
 use crate::frame_diff::keys::Key;
 use crate::frame_diff::labels::Label;
-use crate::frame_diff::leaf::{Texts, Value, is_same, put_alone, tell_leaf};
+use crate::frame_diff::leaf::{Texts, Value, is_same, put_alone, tell_turned};
 use crate::frame_diff::path::{join, join_label};
 use crate::frame_diff::rows::{Row, tell_rows};
 use crate::frame_diff::side::Side;
@@ -256,17 +256,8 @@ fn tell_moved(
         return Ok(());
     }
     let was = Value::Others(values);
-    let is = Some(Value::Others(theirs));
-    tell_leaf::<Bottom>(
-        texts,
-        own.around,
-        others.around,
-        page,
-        path,
-        Side::Old,
-        was,
-        is,
-    )
+    let is = Value::Others(theirs);
+    tell_turned::<Bottom>(texts, own.around, others.around, page, path, was, is)
 }
 
 /// Tells of the attributes of a list that are kept, each beside the one of its number in another list, as members of a

@@ -313,7 +313,6 @@ fn is_text_same<D: Depth>(
 }
 
 /// Whether two values are shown as the same.
-#[inline(always)]
 pub(crate) fn is_shown_same<D: Depth>(
     texts: &mut Texts,
     cx: &Around<'_>,
@@ -409,6 +408,19 @@ pub(crate) fn tell_leaf<D: Depth>(
         return Ok(());
     }
     put::<D>(cx, theirs, page, path, side, own, beside)
+}
+
+/// Tells of an old value beside a new one, where they are not shown as the same.
+pub(crate) fn tell_turned<D: Depth>(
+    texts: &mut Texts,
+    cx: &Around<'_>,
+    theirs: &Around<'_>,
+    page: &mut Page,
+    path: &str,
+    was: Value<'_>,
+    is: Value<'_>,
+) -> Result<(), AllocError> {
+    tell_leaf::<D>(texts, cx, theirs, page, path, Side::Old, was, Some(is))
 }
 
 /// Adds the change of a value one step further.

@@ -3,7 +3,7 @@
 
 use crate::frame_diff::leaf::{Texts, is_same};
 use crate::frame_diff::named::{find_named, is_named, is_unnamed, name_of};
-use crate::frame_diff::nests::is_leaf;
+use crate::frame_diff::nests::is_fixed;
 use crate::frame_diff::path::join;
 use crate::frame_diff::side::Side;
 use crate::frame_diff::value::tell_value;
@@ -80,12 +80,12 @@ pub(crate) fn is_alike(pass: Pass, number: u16, beside: Option<Attribute<'_>>) -
     }
 }
 
-/// Whether nothing is told of a value that both messages have: it holds no others, and what turned is told of the old
-/// one.
+/// Whether nothing is told of a value that both messages have: those in it have the same names, or there are none, so
+/// that none came, and what turned is told of the old one.
 fn is_told_of_old(side: Side, way: Way, beside: Option<Attribute<'_>>) -> bool {
     match side {
         Side::Old => false,
-        Side::New | Side::Moved => beside.is_some() && is_leaf(way),
+        Side::New | Side::Moved => beside.is_some() && is_fixed(way),
     }
 }
 

@@ -229,7 +229,7 @@ pub(crate) fn tell_messages(
 
 /// Tells of the lists whose values two messages, or two states, have in another order, or which one of both writes
 /// otherwise: of each as a whole.
-pub(crate) fn tell_moved_by(
+pub(crate) fn tell_moved(
     texts: &mut Texts,
     is_state: bool,
     cx: &Around<'_>,
@@ -247,25 +247,21 @@ pub(crate) fn tell_moved_by(
     tell_side(texts, pass, cx, &theirs, page, old, new)
 }
 
-/// Tells of the lists whose values two messages, or two states, have in another order, or which one of both writes
-/// otherwise, by the rows of all places: of each as a whole. Where `tell` tells nothing, this may be what differs.
-pub fn tell_moved(
-    texts: &mut Texts,
-    is_state: bool,
-    orders: (Order, Order),
-    page: &mut Page,
-    old: Message<'_>,
-    new: Message<'_>,
-) -> Result<(), AllocError> {
-    let tables = all_rows();
-    let cx = Around::plain(&tables, orders.0);
-    tell_moved_by(texts, is_state, &cx, orders.1, page, old, new)
+/// What is asked of two messages, or of two states.
+#[derive(Clone, Copy)]
+pub enum Asked {
+    /// All that differs.
+    Changes,
+    /// The lists that they have in another order, or that one of both writes otherwise. Where nothing is told of all
+    /// that differs, this may be what does.
+    Moved,
 }
 
-/// Tells of all that differs between two messages, or between two states, by the rows of all places; each has an order
-/// of the counters of IPv6.
+/// Tells of what differs between two messages, or between two states, by the rows of all places; each has an order of
+/// the counters of IPv6.
 pub fn tell(
     texts: &mut Texts,
+    asked: Asked,
     is_state: bool,
     orders: (Order, Order),
     page: &mut Page,
@@ -274,5 +270,8 @@ pub fn tell(
 ) -> Result<(), AllocError> {
     let tables = all_rows();
     let cx = Around::plain(&tables, orders.0);
-    tell_messages(texts, is_state, &cx, orders.1, page, old, new)
+    match asked {
+        Asked::Changes => tell_messages(texts, is_state, &cx, orders.1, page, old, new),
+        Asked::Moved => tell_moved(texts, is_state, &cx, orders.1, page, old, new),
+    }
 }

@@ -60,19 +60,27 @@ pub(crate) fn is_nest<W: Walk>(own: Attribute<'_>) -> bool {
     }
 }
 
-/// Whether a payload of this form holds no other values, whatever it is.
-fn is_leaf_form(form: Form) -> bool {
+/// Whether payloads of this form hold values of the same names, or none, whatever their bytes are.
+fn is_fixed_form(form: Form) -> bool {
     match form {
-        Form::Counters(_) | Form::Ipv6Counters | Form::Settings(_) => false,
-        Form::Record(_) | Form::Wireless | Form::List(_) | Form::Info => false,
+        Form::Ipv6Counters | Form::Settings(_) | Form::Wireless => false,
+        Form::List(_) | Form::Info => false,
         _ => true,
     }
 }
 
-/// Whether an attribute of such a row holds no other values, whatever its payload is.
-pub(crate) fn is_leaf(way: Way) -> bool {
+/// Whether payloads of this style hold no other values, whatever their bytes are.
+fn is_fixed_style(style: Style) -> bool {
+    match style {
+        Style::Record(_) | Style::List(_) | Style::Nest(_) | Style::Each(_) => false,
+        _ => true,
+    }
+}
+
+/// Whether attributes of such a row hold values of the same names, or none, whatever their payloads are.
+pub(crate) fn is_fixed(way: Way) -> bool {
     match way {
-        Way::Own(form) => is_leaf_form(form),
-        Way::By(_) => false,
+        Way::Own(form) => is_fixed_form(form),
+        Way::By(style) => is_fixed_style(style),
     }
 }

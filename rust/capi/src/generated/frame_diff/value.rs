@@ -4,7 +4,7 @@
 use crate::rattle::prelude::Vec;
 use crate::frame_diff::each::{Each, tell_alone, tell_both};
 use crate::frame_diff::leaf::{Texts, Value, tell_leaf};
-use crate::frame_diff::rows::{Holds, Row, held_in, tell_rows};
+use crate::frame_diff::rows::{Holds, Row, Slots, held_in, tell_rows};
 use crate::frame_diff::walk::{Attribute, Attributes, Pass, Walk};
 use crate::frame_shown::form::Around;
 use crate::link_info::Plain;
@@ -20,7 +20,7 @@ fn are_none(rows: &[Row<'_>], is_any: bool) -> bool {
 /// Whether an attribute holds no member at all.
 fn holds_none<W: Walk>(own: Attribute<'_>, held: &Holds<'_>) -> bool {
     match held {
-        Holds::Nothing | Holds::Slots(_, _) => true,
+        Holds::Nothing | Holds::Slots(_) => true,
         Holds::Passed => false,
         Holds::Fields(rows, is_any) => are_none(rows, *is_any),
         Holds::List(list, bytes) => W::is_bare(Attributes {
@@ -148,8 +148,9 @@ fn tell_slots<W: Walk>(
     };
     let held = held_in(texts.alloc, pass.is_state, other)?;
     match &held {
-        Holds::Slots(plain, bytes) => {
-            let theirs = slots_of(texts.alloc, other, *plain, bytes)?;
+        Holds::Slots(slots) => {
+            let slots = **slots;
+            let theirs = slots_of(texts.alloc, other, slots.plain, slots.bytes)?;
             tell_both::<W>(texts, page, path, pass.side, &each, &theirs)
         }
         _ => tell_beside::<W>(texts, pass, page, path, &each, other, &held),
@@ -164,7 +165,7 @@ fn rows_in<'a>(
 ) -> Result<Vec<Row<'a>>, AllocError> {
     match held_in(alloc, is_state, other)? {
         Holds::Fields(rows, _) => Ok(rows),
-        Holds::Nothing | Holds::Passed | Holds::List(_, _) | Holds::Slots(_, _) => {
+        Holds::Nothing | Holds::Passed | Holds::List(_, _) | Holds::Slots(_) => {
             Ok(Vec::new(alloc))
         }
     }
@@ -212,7 +213,7 @@ fn list_of<'a>(around: &'a Around<'a>, held: Holds<'a>) -> Option<Attributes<'a>
             number: None,
             bytes,
         }),
-        Holds::Nothing | Holds::Passed | Holds::Fields(_, _) | Holds::Slots(_, _) => None,
+        Holds::Nothing | Holds::Passed | Holds::Fields(_, _) | Holds::Slots(_) => None,
     }
 }
 
@@ -263,7 +264,7 @@ fn tell_held<W: Walk>(
     beside: Option<Attribute<'_>>,
 ) -> Result<(), AllocError> {
     match held {
-        Holds::Nothing | Holds::Passed | Holds::Slots(_, _) => Ok(()),
+        Holds::Nothing | Holds::Passed | Holds::Slots(_) => Ok(()),
         Holds::Fields(rows, _) => tell_fields::<W>(texts, pass, page, path, own, rows, beside),
         Holds::List(list, bytes) => {
             let own = Attributes {
@@ -305,8 +306,9 @@ pub(crate) fn tell_value<W: Walk>(
 ) -> Result<(), AllocError> {
     let held = held_in(texts.alloc, pass.is_state, own)?;
     match &held {
-        Holds::Slots(plain, bytes) => {
-            tell_slots::<W>(texts, pass, page, path, own, *plain, bytes, beside)
+        Holds::Slots(slots) => {
+            let Slots { plain, bytes } = **slots;
+            tell_slots::<W>(texts, pass, page, path, own, plain, bytes, beside)
         }
         _ => tell_other::<W>(texts, pass, page, path, own, &held, beside),
     }

@@ -4,7 +4,7 @@
 use crate::rattle::prelude::Vec;
 use crate::message_diff::snapshot::{Compared, Snapshot};
 use crate::frame_diff::leaf::Texts;
-use crate::frame_diff::message::{Message, tell, tell_moved};
+use crate::frame_diff::message::{Asked, Message, tell};
 use crate::frame_shown::accepted::parted;
 use crate::frame_shown::message::rest_of;
 use crate::nla_wire::fields::u8_at;
@@ -40,9 +40,10 @@ impl<'a> Split<'a> {
     }
 }
 
-/// Adds what differs between two encodings that are read leniently, as values of a list.
+/// Adds what is asked of two encodings that are read leniently, as values of a list.
 fn tell_leniently(
     texts: &mut Texts,
+    asked: Asked,
     by: Compared,
     old: &Snapshot,
     new: &Snapshot,
@@ -53,6 +54,7 @@ fn tell_leniently(
     let orders = (old.order(), new.order());
     tell(
         texts,
+        asked,
         by.is_state(),
         orders,
         page,
@@ -61,60 +63,22 @@ fn tell_leniently(
     )
 }
 
-/// Adds what differs between two encodings, as values of a list.
-fn tell_changes(
+/// Adds what is asked of two encodings, as values of a list: what differs, or the lists in another order.
+fn tell_asked(
     texts: &mut Texts,
+    asked: Asked,
     by: Compared,
     old: &Snapshot,
     new: &Snapshot,
     page: &mut Page,
 ) -> Result<(), AllocError> {
     if by.is_lenient() {
-        return tell_leniently(texts, by, old, new, page);
+        return tell_leniently(texts, asked, by, old, new, page);
     }
     let orders = (old.order(), new.order());
     let was = Message::whole(old.text());
     let is = Message::whole(new.text());
-    tell(texts, by.is_state(), orders, page, was, is)
-}
-
-/// Adds the lists that two encodings, read leniently, have in another order, or that one of both writes otherwise, as
-/// values of a list.
-fn tell_lists_leniently(
-    texts: &mut Texts,
-    by: Compared,
-    old: &Snapshot,
-    new: &Snapshot,
-    page: &mut Page,
-) -> Result<(), AllocError> {
-    let was = Split::of(texts.alloc, old.text())?;
-    let is = Split::of(texts.alloc, new.text())?;
-    let orders = (old.order(), new.order());
-    tell_moved(
-        texts,
-        by.is_state(),
-        orders,
-        page,
-        was.message(),
-        is.message(),
-    )
-}
-
-/// Adds the lists that two encodings have in another order, or that one of both writes otherwise, as values of a list.
-fn tell_lists(
-    texts: &mut Texts,
-    by: Compared,
-    old: &Snapshot,
-    new: &Snapshot,
-    page: &mut Page,
-) -> Result<(), AllocError> {
-    if by.is_lenient() {
-        return tell_lists_leniently(texts, by, old, new, page);
-    }
-    let orders = (old.order(), new.order());
-    let was = Message::whole(old.text());
-    let is = Message::whole(new.text());
-    tell_moved(texts, by.is_state(), orders, page, was, is)
+    tell(texts, asked, by.is_state(), orders, page, was, is)
 }
 
 /// Adds both encodings in hexadecimal, as a change.
@@ -135,11 +99,11 @@ fn tell_all(
     new: &Snapshot,
     page: &mut Page,
 ) -> Result<(), AllocError> {
-    tell_changes(texts, by, old, new, page)?;
+    tell_asked(texts, Asked::Changes, by, old, new, page)?;
     if page.ends_value() {
         return Ok(());
     }
-    tell_lists(texts, by, old, new, page)?;
+    tell_asked(texts, Asked::Moved, by, old, new, page)?;
     if page.ends_value() {
         return Ok(());
     }
