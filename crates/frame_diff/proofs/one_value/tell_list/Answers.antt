@@ -21,4 +21,5 @@ returns g c =
     (c.flat_value-was.ensures (nest cx) cx
     ∙ whole_shown_is nest inner is_state old c.requires.old c.requires.entries)
     (c.flat_value-is.ensures (nest theirs) theirs
-    ∙ whole_shown_is nest inner is_state new c.requires.new (c.requires.same ∙ c.requires.entries))) c.tell_turned.ensures
+    ∙ whole_shown_is nest inner is_state new c.requires.new (c.requires.same ∙ c.requires.entries)))
+    c.tell_turned.ensures

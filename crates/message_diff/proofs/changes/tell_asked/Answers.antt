@@ -11,8 +11,8 @@ pub returns : goal.returns
 returns c =
     on_ok_weaker c.tell.result
     (λ is. is ∙ ap (λ (os : List Members). with_members (objects os) c.args.page.now)
-    (told_whole (messages_asked c.args.asked) c.args.by c.args.old.now c.args.new.now _ _ _ _ _ c.is_state.ensures c.order.ensures
-    c.order-2.ensures
+    (told_whole (messages_asked c.args.asked) c.args.by c.args.old.now c.args.new.now _ _ _ _ _ c.is_state.ensures
+    c.order.ensures c.order-2.ensures
     (sym c.is_lenient.ensures ∙ c.if-is_lenient.false) (c.whole-was.ensures ∙ ap whole c.text.ensures)
     (c.whole-is.ensures ∙ ap whole c.text-2.ensures)))
     c.tell.ensures

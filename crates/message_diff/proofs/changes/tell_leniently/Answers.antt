@@ -11,7 +11,7 @@ pub returns : goal.returns
 returns c =
     on_ok_weaker c.tell.result
     (λ is. is ∙ ap (λ (os : List Members). with_members (objects os) c.args.page.now)
-    (told_leniently (messages_asked c.args.asked) c.args.by c.args.old.now c.args.new.now _ _ _ _ _ c.is_state.ensures c.order.ensures
-    c.order-2.ensures c.requires (c.message.ensures ∙ c.in_ok-was.ensures ∙ ap leniently c.text.ensures)
+    (told_leniently (messages_asked c.args.asked) c.args.by c.args.old.now c.args.new.now _ _ _ _ _ c.is_state.ensures
+    c.order.ensures c.order-2.ensures c.requires (c.message.ensures ∙ c.in_ok-was.ensures ∙ ap leniently c.text.ensures)
     (c.message-2.ensures ∙ c.in_ok-is.ensures ∙ ap leniently c.text-2.ensures)))
     c.tell.ensures

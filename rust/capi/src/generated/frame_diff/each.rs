@@ -2,7 +2,7 @@
 //! What lists tell whose values are their own keys: each value that comes more often here than there.
 
 use crate::rattle::prelude::Vec;
-use crate::frame_diff::leaf::{Texts, Value, is_shown_same, push_text, put_turned, tell_leaf};
+use crate::frame_diff::leaf::{Texts, Value, is_same, push_text, put_turned, tell_leaf};
 use crate::frame_diff::path::join_each;
 use crate::frame_diff::side::Side;
 use crate::frame_shown::depth::Depth;
@@ -141,7 +141,9 @@ pub(crate) fn tell_both<D: Depth>(
 ) -> Result<(), AllocError> {
     let cx = own.around;
     let theirs = other.around;
-    if is_shown_same::<D>(texts, cx, theirs, own.whole, other.whole)? {
+    let was = text_of::<D>(texts, own, own.whole)?;
+    let is = text_of::<D>(texts, other, other.whole)?;
+    if is_same(was.as_slice(), is.as_slice()) {
         return Ok(());
     }
     if side.is_moved() {

@@ -89,6 +89,23 @@ fn is_told_of_old(side: Side, way: Way, beside: Option<Attribute<'_>>) -> bool {
     }
 }
 
+/// Tells of an attribute beside another one with its row, if there is one.
+fn tell_turning<W: Walk>(
+    texts: &mut Texts,
+    pass: Pass,
+    page: &mut Page,
+    path: &str,
+    name: &str,
+    own: Attribute<'_>,
+    beside: Option<Attribute<'_>>,
+) -> Result<(), AllocError> {
+    if is_told_of_old(pass.side, own.way, beside) {
+        return Ok(());
+    }
+    let text = join(texts.alloc, path, name)?;
+    tell_value::<W>(texts, pass, page, text.as_str(), own, beside)
+}
+
 /// Tells of an attribute beside another one. Those that are the same are passed over at once.
 fn tell_unless_same<W: Walk>(
     texts: &mut Texts,
@@ -104,9 +121,7 @@ fn tell_unless_same<W: Walk>(
         if has_payload(own.payload, beside) {
             return Ok(());
         }
-        if is_told_of_old(pass.side, own.way, beside) {
-            return Ok(());
-        }
+        return tell_turning::<W>(texts, pass, page, path, name, own, beside);
     }
     let text = join(texts.alloc, path, name)?;
     tell_value::<W>(texts, pass, page, text.as_str(), own, beside)
@@ -260,7 +275,7 @@ fn tell_single<W: Walk>(
         return tell_frame::<W>(texts, pass, page, path, behind, others, true, frame);
     }
     let (name, _) = row_in(behind.around, behind.list, own.number);
-    tell_unless_same::<W>(texts, pass, page, path, name, own, there)
+    tell_turning::<W>(texts, pass, page, path, name, own, there)
 }
 
 /// Tells of an attribute beside the one of its number in another list. One that stands there as it is costs a look.
