@@ -158,6 +158,7 @@ fn tell_turning<W: Walk>(
 }
 
 /// Tells of an attribute beside another one. Those that are the same are passed over at once.
+#[inline(never)]
 fn tell_unless_same<W: Walk>(
     texts: &mut Texts,
     pass: Pass,
