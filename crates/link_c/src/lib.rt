@@ -1,5 +1,5 @@
 //! Link messages for programs in C: `include/linkwire.h` declares what is exported here.
-// Tests: tests/c. Edits: edits/link_c.txt, crates/link_c/must-fail.
+// Tests: tests/c. Edits: edits/link_c.txt.
 #![tactic(auto)]
 
 pub mod diff;

@@ -1,5 +1,5 @@
 //! The state encoding of link messages: the canonical encoding with all that moves by itself at zero.
-// Tests: the crate `state_tests`. Edits: edits/link_state.txt, crates/link_state/must-fail.
+// Tests: the crate `state_tests`. Edits: edits/link_state.txt.
 #![tactic(auto)]
 
 mod kind;

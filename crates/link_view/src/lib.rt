@@ -1,6 +1,5 @@
 //! Messages over borrowed bytes: their attributes are found and read with no memory.
-// Tests: `rust/tests/{views,typed,memory}.rs`, over this code without its contracts. Edits: edits/link_view.txt,
-// crates/link_view/must-fail.
+// Tests: `rust/tests/{views,typed,memory}.rs`, over this code without its contracts. Edits: edits/link_view.txt.
 #![tactic(auto)]
 
 pub mod afspec;
