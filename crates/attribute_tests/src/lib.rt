@@ -8,4 +8,6 @@ mod copies;
 #[cfg(test)]
 mod names;
 #[cfg(test)]
+mod variant_rows;
+#[cfg(test)]
 mod variants;

@@ -10,6 +10,8 @@ mod damaged_lists;
 #[cfg(test)]
 mod empty_ports;
 #[cfg(test)]
+mod fault_paths;
+#[cfg(test)]
 mod fault_places;
 #[cfg(test)]
 mod lenient_reading;
