@@ -7,6 +7,7 @@ ghost use Rattle.message_diff.specs.Alone.{word_member, told_words, member_line,
 ghost use Rattle.message_diff.specs.Faults.{told_front};
 
 use line_filter::words::value_of;
+use message_shown::answers::push_bare_not_hex;
 use message_shown::worded::show_value;
 use shown::Page;
 use std::alloc::{AllocError, Global};
@@ -68,16 +69,13 @@ pub fn push_line(
     Ok(())
 }
 
-/// The line of digits that spell no bytes, where no words are in front of them.
-const NOT_HEX: &[u8] = b"{\"fault\":\"not-hex\"}\n";
-
 /// Adds a line with the words that are told and the fault of digits that spell no bytes.
 pub fn push_not_hex(alloc: Global, front: &[u8], out: &mut Vec<u8>) -> Result<(), AllocError>
     ensures { OnOk result (out.new.items
         ≡ out.old.items ++ member_line front.now (codes "fault") (codes "not-hex")) }
 {
     if front.is_empty() {
-        out.extend_from_slice(NOT_HEX)?;
+        push_bare_not_hex(out)?;
         return Ok(());
     }
     push_line(alloc, front, "fault", "not-hex", out)

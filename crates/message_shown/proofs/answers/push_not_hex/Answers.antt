@@ -1,4 +1,4 @@
-use Rattle.message_shown.proofs.Added.{member_last, not_hex_line, object_told}
+use Rattle.message_shown.proofs.Added.{member_last, object_told}
 use Rattle.message_shown.specs.Lines.{nothex_member, whole_object}
 use Rattle.message_shown.specs.Worded.{words_shown}
 use Rattle.std.proofs.Common.{◌≡◌, ◌++◌, ◌∷◌, [], List, ℕ, sym, ap, ◌∙◌, arith, length}
@@ -14,9 +14,9 @@ no_words front is = ap (λ f. whole_object (words_shown f ++ nothex_member ∷ [
 pub returns-then-is_empty : goal.returns-then-is_empty
 returns-then-is_empty c =
     let none : length c.args.front.now ≡ 0 = grind (arith, nat_tests) in
-    c.in_ok-extend_from_slice.ensures.items
-    ∙ ap (λ t. c.args.waiting.now.items ++ t)
-    (sym (ap with_lf (no_words c.args.front.now (nil_from_length c.args.front.now none)) ∙ not_hex_line))
+    c.in_ok-push_bare_not_hex.ensures
+    ∙ ap (λ t. c.args.waiting.now.items ++ with_lf t)
+    (sym (no_words c.args.front.now (nil_from_length c.args.front.now none)))
 
 pub returns : goal.returns
 returns c =
