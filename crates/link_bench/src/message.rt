@@ -1,6 +1,7 @@
 //! Messages that were stored, and what of them is turned.
 
 use crate::chance::Chance;
+use line_filter::digits::encode;
 use link_msg::NlasIterator;
 use link_msg::header::HEADER_SIZE;
 use link_msg::numbers::{IFLA_IFNAME, IFLA_MTU, IFLA_STATS, IFLA_STATS64};
@@ -8,9 +9,6 @@ use std::alloc::{AllocError, Global};
 
 /// How many counters of a record are turned.
 const COUNTERS: usize = 8;
-
-/// The digits.
-const DIGITS: &[u8; 16] = b"0123456789abcdef";
 
 /// What stands at a place.
 #[derive(Clone, Copy)]
@@ -102,8 +100,7 @@ fn places_of(alloc: Global, bytes: &[u8]) -> Result<Vec<Place>, AllocError> {
 /// Puts the two digits of a byte in their place.
 fn put_digits(digits: &mut [u8], at: usize, byte: u8) {
     if at < digits.len() && digits.len() - at > 1 {
-        digits[at] = DIGITS[(byte >> 4) as usize];
-        digits[at + 1] = DIGITS[(byte & 15) as usize];
+        encode(&[byte], &mut digits[at..at + 2]);
     }
 }
 
