@@ -5470,8 +5470,8 @@ message_shown.answers.ShownTake.take.2f751851fc75aa67:
 	ubfiz	x8, x24, #3, #8
 	adrp	x9, .Lswitch.table.message_shown.answers.push_fault
 	add	x9, x9, :lo12:.Lswitch.table.message_shown.answers.push_fault
-	adrp	x1, .Lstatic.82
-	add	x1, x1, :lo12:.Lstatic.82
+	adrp	x1, .Lstatic.81
+	add	x1, x1, :lo12:.Lstatic.81
 	sub	x0, x29, #208
 	ldr	x4, [x9, x8]
 	adrp	x9, .Lswitch.table.message_shown.answers.push_fault.508
@@ -12884,8 +12884,8 @@ message_shown.answers.push_not_hex:
 	b.ls	.LBB52_19
 .LBB52_4:
 	ldr	x9, [x19]
-	adrp	x12, .Lstatic.81
-	add	x12, x12, :lo12:.Lstatic.81
+	adrp	x12, .Lstatic.83
+	add	x12, x12, :lo12:.Lstatic.83
 	stp	xzr, xzr, [x20]
 	add	x11, x9, x10
 	add	x10, x10, #20
@@ -12938,10 +12938,10 @@ message_shown.answers.push_not_hex:
 	add	sp, sp, #208
 	ret
 .LBB52_12:
-	adrp	x1, .Lstatic.82
-	add	x1, x1, :lo12:.Lstatic.82
-	adrp	x3, .Lstatic.83
-	add	x3, x3, :lo12:.Lstatic.83
+	adrp	x1, .Lstatic.81
+	add	x1, x1, :lo12:.Lstatic.81
+	adrp	x3, .Lstatic.82
+	add	x3, x3, :lo12:.Lstatic.82
 	add	x0, sp, #80
 	mov	w2, #5
 	mov	w4, #7
@@ -63793,8 +63793,8 @@ message_shown.answers.push_fault:
 	adrp	x9, .Lswitch.table.message_shown.answers.push_fault
 	add	x9, x9, :lo12:.Lswitch.table.message_shown.answers.push_fault
 	ldrb	w8, [x25, #16]!
-	adrp	x1, .Lstatic.82
-	add	x1, x1, :lo12:.Lstatic.82
+	adrp	x1, .Lstatic.81
+	add	x1, x1, :lo12:.Lstatic.81
 	add	x0, sp, #128
 	mov	w2, #5
 	ldr	x4, [x9, x8, lsl #3]
@@ -68719,20 +68719,20 @@ main:
 	.type	.Lstatic.81,@object
 	.section	.rodata..Lstatic.81,"a",@progbits
 .Lstatic.81:
-	.ascii	"{\"fault\":\"not-hex\"}\n"
-	.size	.Lstatic.81, 20
+	.ascii	"fault"
+	.size	.Lstatic.81, 5
 
 	.type	.Lstatic.82,@object
 	.section	.rodata..Lstatic.82,"a",@progbits
 .Lstatic.82:
-	.ascii	"fault"
-	.size	.Lstatic.82, 5
+	.ascii	"not-hex"
+	.size	.Lstatic.82, 7
 
 	.type	.Lstatic.83,@object
 	.section	.rodata..Lstatic.83,"a",@progbits
 .Lstatic.83:
-	.ascii	"not-hex"
-	.size	.Lstatic.83, 7
+	.ascii	"{\"fault\":\"not-hex\"}\n"
+	.size	.Lstatic.83, 20
 
 	.type	.Lstatic.84,@object
 	.section	.rodata..Lstatic.84,"a",@progbits

@@ -5827,7 +5827,7 @@ message_shown.answers.ShownTake.take.2f751851fc75aa67:
 	movq	(%rax,%rcx), %r8
 	leaq	.Lswitch.table.message_shown.answers.push_fault.504(%rip), %rcx
 	movq	(%rax,%rcx), %rcx
-	leaq	.Lstatic.82(%rip), %rsi
+	leaq	.Lstatic.81(%rip), %rsi
 	leaq	64(%rsp), %rdi
 	movl	$5, %edx
 	callq	shown.page.Page.keyed_string
@@ -16089,8 +16089,8 @@ message_shown.answers.push_not_hex:
 	callq	message_shown.worded.show_words
 	testb	%al, %al
 	jne	.LBB51_13
-	leaq	.Lstatic.82(%rip), %rsi
-	leaq	.Lstatic.83(%rip), %rcx
+	leaq	.Lstatic.81(%rip), %rsi
+	leaq	.Lstatic.82(%rip), %rcx
 	movq	%rsp, %rdi
 	movl	$5, %edx
 	movl	$7, %r8d
@@ -16124,7 +16124,7 @@ message_shown.answers.push_not_hex:
 	movups	%xmm0, (%rsi)
 	leaq	(%rdx,%rax), %rsi
 	addq	$20, %rax
-	leaq	.Lstatic.81(%rip), %rdi
+	leaq	.Lstatic.83(%rip), %rdi
 	movq	%rsi, %r8
 	subq	%rdi, %r8
 	cmpq	$19, %r8
@@ -16132,7 +16132,7 @@ message_shown.answers.push_not_hex:
 	movaps	.LCPI51_0(%rip), %xmm0
 	jmp	.LBB51_7
 .LBB51_6:
-	movups	.Lstatic.81(%rip), %xmm0
+	movups	.Lstatic.83(%rip), %xmm0
 .LBB51_7:
 	movups	%xmm0, (%rsi)
 	movl	$175972984, 16(%rsi)
@@ -74953,7 +74953,7 @@ message_shown.answers.push_fault:
 	movq	(%rax,%rcx), %r8
 	leaq	.Lswitch.table.message_shown.answers.push_fault.504(%rip), %rcx
 	movq	(%rax,%rcx), %rcx
-	leaq	.Lstatic.82(%rip), %rsi
+	leaq	.Lstatic.81(%rip), %rsi
 	leaq	16(%rsp), %rdi
 	movl	$5, %edx
 	callq	shown.page.Page.keyed_string
@@ -80041,20 +80041,20 @@ main:
 	.type	.Lstatic.81,@object
 	.section	.rodata..Lstatic.81,"a",@progbits
 .Lstatic.81:
-	.ascii	"{\"fault\":\"not-hex\"}\n"
-	.size	.Lstatic.81, 20
+	.ascii	"fault"
+	.size	.Lstatic.81, 5
 
 	.type	.Lstatic.82,@object
 	.section	.rodata..Lstatic.82,"a",@progbits
 .Lstatic.82:
-	.ascii	"fault"
-	.size	.Lstatic.82, 5
+	.ascii	"not-hex"
+	.size	.Lstatic.82, 7
 
 	.type	.Lstatic.83,@object
 	.section	.rodata..Lstatic.83,"a",@progbits
 .Lstatic.83:
-	.ascii	"not-hex"
-	.size	.Lstatic.83, 7
+	.ascii	"{\"fault\":\"not-hex\"}\n"
+	.size	.Lstatic.83, 20
 
 	.type	.Lstatic.84,@object
 	.section	.rodata..Lstatic.84,"a",@progbits

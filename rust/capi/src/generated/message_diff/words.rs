@@ -3,6 +3,7 @@
 
 use crate::rattle::prelude::Vec;
 use crate::line_filter::words::value_of;
+use crate::message_shown::answers::push_bare_not_hex;
 use crate::message_shown::worded::show_value;
 use crate::shown::Page;
 use crate::rattle::alloc::{AllocError, Global};
@@ -52,13 +53,10 @@ pub fn push_line(
     Ok(())
 }
 
-/// The line of digits that spell no bytes, where no words are in front of them.
-const NOT_HEX: &[u8] = b"{\"fault\":\"not-hex\"}\n";
-
 /// Adds a line with the words that are told and the fault of digits that spell no bytes.
 pub fn push_not_hex(alloc: Global, front: &[u8], out: &mut Vec<u8>) -> Result<(), AllocError> {
     if front.is_empty() {
-        out.extend_from_slice(NOT_HEX)?;
+        push_bare_not_hex(out)?;
         return Ok(());
     }
     push_line(alloc, front, "fault", "not-hex", out)

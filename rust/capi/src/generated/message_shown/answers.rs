@@ -152,8 +152,11 @@ fn push_alone(
     Ok(())
 }
 
-/// The answer to a line without words whose rest spells no bytes.
-const NOT_HEX: &[u8] = b"{\"fault\":\"not-hex\"}\n";
+/// Adds the answer to a line without words whose rest spells no bytes.
+pub fn push_bare_not_hex(waiting: &mut Vec<u8>) -> Result<(), AllocError> {
+    waiting.extend_from_slice(b"{\"fault\":\"not-hex\"}\n")?;
+    Ok(())
+}
 
 /// Adds the answer to a line whose rest spells no bytes.
 fn push_not_hex(
@@ -163,7 +166,7 @@ fn push_not_hex(
     front: &[u8],
 ) -> Result<(), AllocError> {
     if front.is_empty() {
-        waiting.extend_from_slice(NOT_HEX)?;
+        push_bare_not_hex(waiting)?;
         return Ok(());
     }
     let mut page = room.begin()?;
