@@ -47,6 +47,7 @@ for test in "$top"/tests/c/*.c; do
     ! ${CC:-cc} "${flags[@]}" "${sanitizers[@]}" -o "$folder/sanitized" "$test" "$library" 2>"$log" ||
         "$folder/sanitized"
 done
+python3 "$top/tests/c/pages.py" "$library"
 "$top/scripts/test/laws.sh" "$library"
 "$top/scripts/test/live_tests.sh" "$library"
 start=$SECONDS
