@@ -1,5 +1,5 @@
 //! Fixed records of the kernel that link attributes carry.
-// Tests: the crate `value_tests`. Edits: edits/link_recs.txt, crates/link_recs/must-fail.
+// Tests: the crate `value_tests`. Edits: edits/link_recs.txt.
 #![tactic(auto)]
 
 /// The counters of both records of them, in the order of the kernel, and behind them those that one of the records has

@@ -1,5 +1,5 @@
 //! Values of link messages: enums by their numbers, flag sets, extent masks and physical ids.
-// Tests: the crate `value_tests`. Edits: edits/link_vals.txt, tests/edits/link_vals.txt, crates/link_vals/must-fail.
+// Tests: the crate `value_tests`. Edits: edits/link_vals.txt, tests/edits/link_vals.txt.
 #![tactic(auto)]
 
 pub mod addr_gen_mode;
