@@ -2,48 +2,21 @@
 use Rattle.std.proofs.Common.{◌≡◌, ℕ, ◌≤◌, ◌||◌, set, ◌+◌, ◌-◌, ◌*◌, ◌<◌, List, [], ◌∷◌, length}
 use Rattle.std.proofs.Common.{sym, ap, ◌∙◌, arith}
 use Rattle.std.specs.Prelude.{Bool, Some, None, Ok, slice_index, not, ◌==◌}
-use Rattle.std.specs.Prelude.{true}
 use Rattle.std.specs.List.{flat_map, list_any}
-use Rattle.std.proofs.Math.Bool.{or-false, or-true}
 use Rattle.nla_wire.specs.Frames.{Frame}
 use Rattle.nla_wire.specs.Items.{Item as Read, frame_count}
 use Rattle.shown.specs.Drafts.{Draft, with_members, object_of}
 use Rattle.frame_shown.specs.Items.{number_in, count_of, last_ones, earlier_ones, kept_ones, objects, shown_as}
 use Rattle.frame_shown.specs.Items.{are_any, is_value}
 use Rattle.frame_shown.specs.Frames.{frame_item, items_in}
-use Rattle.frame_shown.specs.Lists.{said_kept, said_value}
 use Rattle.frame_shown.specs.Values.{Nesting}
 use Rattle.frame_shown.specs.declared.form.Around.{Around}
 use Rattle.frame_shown.specs.declared.form.List.{List as Shape}
-use Rattle.frame_shown.specs.declared.list.Said.{Said}
-use Rattle.frame_shown.specs.declared.list.Said.TheVariants as Saids
 use Rattle.frame_shown.proofs.Items.{one_more, one_less, count_first, few_of, none_comes, some_comes, last_shown}
 use Rattle.frame_shown.proofs.Items.{last_passed}
 use Rattle.frame_shown.proofs.Items.{earlier_shown, earlier_passed, on_next, repeats, kept_repeats}
 use Rattle.frame_shown.proofs.Items.{any_kept_then, any_value_then, named_any, named_value}
 use Rattle.frame_shown.proofs.Items.{count_passed, earlier_kept, last_kept, named_repeats}
-
--- ** what is known once one has said something
-
-abbrev pub with_kept : Bool → Said → Bool
-with_kept before Saids.Named = before
-with_kept before Saids.Kept = true
-with_kept before Saids.Value = before
-
-with_kept_is : (before : Bool) (said : Said) → with_kept before said ≡ (before || said_kept said)
-with_kept_is before Saids.Named = sym (or-false before)
-with_kept_is before Saids.Kept = sym (or-true before)
-with_kept_is before Saids.Value = sym (or-false before)
-
-abbrev pub with_value : Bool → Said → Bool
-with_value before Saids.Named = before
-with_value before Saids.Kept = before
-with_value before Saids.Value = true
-
-with_value_is : (before : Bool) (said : Said) → with_value before said ≡ (before || said_value said)
-with_value_is before Saids.Named = sym (or-false before)
-with_value_is before Saids.Kept = sym (or-false before)
-with_value_is before Saids.Value = sym (or-true before)
 
 module _ (nest : Nesting) (cx : Around) (list : Shape) (f : Frame) (it next : List Read) (here : it ≡ Ok f ∷ next)
   where
@@ -179,22 +152,6 @@ module _ (nest : Nesting) (cx : Around) (list : Shape) (f : Frame) (it next : Li
         ap (λ b. list_any is_value (items_in nest cx list next) || (before || b)) is
         ∙ any_value_then (frame_item nest cx list f) (items_in nest cx list next) before
         ∙ sym (ap (λ xs. list_any is_value (items_in nest cx list xs) || before) here) ∙ was
-
-    -- the same by what one says
-    pub kept_by_said : (said : Said) (before all : Bool)
-        → said_kept said ≡ are_any (kept_ones (frame_item nest cx list f ∷ []))
-        → (are_any (kept_ones (items_in nest cx list it)) || before) ≡ all
-        → (are_any (kept_ones (items_in nest cx list next)) || with_kept before said) ≡ all
-    kept_by_said said before all is was =
-        ap (λ b. are_any (kept_ones (items_in nest cx list next)) || b) (with_kept_is before said)
-        ∙ any_kept_next before (said_kept said) all is was
-
-    pub value_by_said : (said : Said) (before all : Bool) → said_value said ≡ is_value (frame_item nest cx list f)
-        → (list_any is_value (items_in nest cx list it) || before) ≡ all
-        → (list_any is_value (items_in nest cx list next) || with_value before said) ≡ all
-    value_by_said said before all is was =
-        ap (λ b. list_any is_value (items_in nest cx list next) || b) (with_value_is before said)
-        ∙ any_value_next before (said_value said) all is was
 
     -- one that is shown
     pub shown_next : (page new all : Draft)

@@ -10,6 +10,8 @@ use Rattle.frame_shown.specs.declared.form.Around.{Around}
 use Rattle.frame_shown.specs.declared.form.List.{List as Shape}
 use Rattle.frame_shown.specs.declared.form.List.TheVariants as Shapes
 use Rattle.frame_shown.specs.declared.form.Order.{Order}
+use Rattle.frame_shown.specs.declared.list.Left.{Left}
+use Rattle.frame_shown.specs.declared.list.Left.TheVariants as Lefts
 use Rattle.frame_shown.specs.declared.list.Said.{Said}
 use Rattle.frame_shown.specs.declared.list.Said.TheVariants as Saids
 
@@ -23,6 +25,19 @@ abbrev pub said_value : Said → Bool
 said_value Saids.Named = false
 said_value Saids.Kept = false
 said_value Saids.Value = true
+
+-- of attributes there is one that is kept as it is, or one that is a value of a list
+abbrev pub left_kept : Left → Bool
+left_kept Lefts.Nothing = false
+left_kept Lefts.Kept = true
+left_kept Lefts.Values = false
+left_kept Lefts.Both = true
+
+abbrev pub left_value : Left → Bool
+left_value Lefts.Nothing = false
+left_value Lefts.Kept = false
+left_value Lefts.Values = true
+left_value Lefts.Both = true
 
 -- the number and the name of each list of a place
 abbrev pub place_lists : Place → Lists

@@ -1,6 +1,6 @@
 //! Lists of attributes.
 
-ghost use Rattle.std.specs.Prelude.{◌≡◌, ◌<◌, ◌==◌, ◌++◌, ℕ, false, true, [], ◌∷◌, OnOk, IfOk, IfSome};
+ghost use Rattle.std.specs.Prelude.{◌≡◌, ◌<◌, ◌==◌, ◌++◌, ◌||◌, ℕ, false, true, [], ◌∷◌, OnOk, IfOk, IfSome};
 ghost use Rattle.std.specs.Prelude.{MatchOption, codes, map, slice_index};
 ghost use Rattle.std.specs.List.{flat_map, list_any};
 ghost use Rattle.nla_wire.specs.Frames.{number as number_of};
@@ -15,7 +15,7 @@ ghost use Rattle.frame_shown.specs.Items.{objects_under};
 ghost use Rattle.frame_shown.specs.Frames.{are_twice, by_number, entries_in, frame_item, items_in, list_shown};
 ghost use Rattle.frame_shown.specs.Frames.{values_by, way_shown};
 ghost use Rattle.frame_shown.specs.Tables.{AreOf, entry_list, group_name, is_each, is_listed, is_own, lists_in};
-ghost use Rattle.frame_shown.specs.Lists.{said_kept, said_value};
+ghost use Rattle.frame_shown.specs.Lists.{left_kept, left_value, said_kept, said_value};
 ghost use Rattle.frame_shown.specs.Tables.{lists_of, row_in};
 ghost use Rattle.frame_shown.specs.Values.{form_shown, style_shown};
 ghost use Rattle.frame_shown.specs.declared.form.Way.TheVariants as Ways;
@@ -104,12 +104,65 @@ fn show_counters<D: Depth>(
 }
 
 /// Which attributes of a list say nothing under a name of their own.
-#[derive(Drop)]
-struct Left {
+#[derive(Clone, Copy, Drop)]
+enum Left {
+    /// None.
+    Nothing,
+    /// Those that are kept as they are.
+    Kept,
+    /// Those that are values of lists.
+    Values,
+    /// Both.
+    Both,
+}
+
+impl Left {
+    /// What is left, by whether there are such and such.
+    fn of(is_any_kept: bool, is_any_value: bool) -> Left
+        ensures kept { left_kept result ≡ is_any_kept }
+        ensures value { left_value result ≡ is_any_value }
+    {
+        match (is_any_kept, is_any_value) {
+            (false, false) => Left::Nothing,
+            (true, false) => Left::Kept,
+            (false, true) => Left::Values,
+            (true, true) => Left::Both,
+        }
+    }
+
+    /// What is left where an attribute says this beside.
+    #[inline(always)]
+    fn and(self, said: Said) -> Left
+        ensures kept { left_kept result ≡ (left_kept self || said_kept said) }
+        ensures value { left_value result ≡ (left_value self || said_value said) }
+    {
+        match (said, self) {
+            (Said::Named, left) => left,
+            (Said::Kept, Left::Nothing | Left::Kept) => Left::Kept,
+            (Said::Value, Left::Nothing | Left::Values) => Left::Values,
+            _ => Left::Both,
+        }
+    }
+
     /// Whether there is one that is kept as it is.
-    is_any_kept: bool,
+    fn is_any_kept(self) -> bool
+        ensures { result ≡ left_kept self }
+    {
+        match self {
+            Left::Kept | Left::Both => true,
+            Left::Nothing | Left::Values => false,
+        }
+    }
+
     /// Whether there is one that is a value of a list.
-    is_any_value: bool,
+    fn is_any_value(self) -> bool
+        ensures { result ≡ left_value self }
+    {
+        match self {
+            Left::Values | Left::Both => true,
+            Left::Nothing | Left::Kept => false,
+        }
+    }
 }
 
 /// What an attribute says.
@@ -206,16 +259,13 @@ pub fn has_twice(bytes: &[u8]) -> bool
 /// What an attribute leaves over: it is kept as it is, or a value of a list, or neither.
 #[tactic(auto, using(crate::proofs::Items::kept_test, crate::proofs::Items::value_test))]
 fn left_by<D: Depth>(cx: &Around<'_>, list: &List, frame: &NlaBuffer<'_>) -> Left
-    ensures kept { result.is_any_kept
+    ensures kept { left_kept result
         ≡ are_any (kept_ones (frame_item (D.nest cx.now) cx.now list.now frame.now ∷ [])) }
-    ensures value { result.is_any_value
+    ensures value { left_value result
         ≡ is_value (frame_item (D.nest cx.now) cx.now list.now frame.now) }
 {
     let (_, manner) = found_in(cx, list, frame.kind());
-    Left {
-        is_any_kept: is_kept_by(manner, frame.value()),
-        is_any_value: is_each_by(manner),
-    }
+    Left::of(is_kept_by(manner, frame.value()), is_each_by(manner))
 }
 
 /// What the attributes of a list are together.
@@ -251,8 +301,8 @@ fn look_over<D: Depth>(cx: &Around<'_>, list: &List, bytes: &[u8]) -> Survey
             seen[number] = 1;
         } else {
             let left = left_by::<D>(cx, list, &frame);
-            is_any_kept |= left.is_any_kept;
-            is_any_value |= left.is_any_value;
+            is_any_kept |= left.is_any_kept();
+            is_any_value |= left.is_any_value();
         }
     }
     Survey {
@@ -271,28 +321,21 @@ fn show_named<D: Depth>(
 ) -> Result<Left, AllocError>
     ensures shown { OnOk result (page.new ≡ with_members
         (flat_map shown_as (items_in (D.nest cx.now) cx.now list.now (items bytes.now))) page.old) }
-    ensures kept { IfOk result (λ left. left.is_any_kept
+    ensures kept { IfOk result (λ left. left_kept left
         ≡ are_any (kept_ones (items_in (D.nest cx.now) cx.now list.now (items bytes.now)))) }
-    ensures value { IfOk result (λ left. left.is_any_value
+    ensures value { IfOk result (λ left. left_value left
         ≡ list_any is_value (items_in (D.nest cx.now) cx.now list.now (items bytes.now))) }
 {
     let rows = own_rows(list);
-    let mut is_any_kept = false;
-    let mut is_any_value = false;
+    let mut left = Left::Nothing;
     for item in NlasIterator::new(bytes) {
         let Ok(frame) = item else {
             break;
         };
-        match show_frame::<D>(cx, page, list, rows, &frame)? {
-            Said::Named => {}
-            Said::Kept => is_any_kept = true,
-            Said::Value => is_any_value = true,
-        }
+        let said = show_frame::<D>(cx, page, list, rows, &frame)?;
+        left = left.and(said);
     }
-    Ok(Left {
-        is_any_kept,
-        is_any_value,
-    })
+    Ok(left)
 }
 
 /// Adds an attribute that is kept.
@@ -522,6 +565,52 @@ fn show_lists<D: Depth>(
     show_arrays::<D>(cx, page, list, bytes)
 }
 
+/// Adds the attributes that say nothing under a name of their own: lists that have a value, and those that are kept.
+#[inline(never)]
+fn show_rest<D: Depth>(
+    cx: &Around<'_>,
+    page: &mut Page,
+    list: &List,
+    bytes: &[u8],
+    left: Left,
+) -> Result<(), AllocError>
+    requires kept { left_kept left
+        ≡ are_any (kept_ones (items_in (D.nest cx.now) cx.now list.now (items bytes.now))) }
+    requires value { left_value left
+        ≡ list_any is_value (items_in (D.nest cx.now) cx.now list.now (items bytes.now)) }
+    ensures { OnOk result (page.new ≡ with_members (list_under (codes "other") (map object_of
+        (kept_ones (items_in (D.nest cx.now) cx.now list.now (items bytes.now)))))
+        (with_members (arrays (lists_in cx.now list.now)
+        (items_in (D.nest cx.now) cx.now list.now (items bytes.now))) page.old)) }
+{
+    show_lists::<D>(cx, page, list, bytes, left.is_any_value())?;
+    show_others::<D>(cx, page, list, bytes, left.is_any_kept())
+}
+
+/// Adds the attributes that say nothing under a name of their own, if there are any: most lists have none.
+#[inline(always)]
+fn show_left<D: Depth>(
+    cx: &Around<'_>,
+    page: &mut Page,
+    list: &List,
+    bytes: &[u8],
+    left: Left,
+) -> Result<(), AllocError>
+    requires kept { left_kept left
+        ≡ are_any (kept_ones (items_in (D.nest cx.now) cx.now list.now (items bytes.now))) }
+    requires value { left_value left
+        ≡ list_any is_value (items_in (D.nest cx.now) cx.now list.now (items bytes.now)) }
+    ensures { OnOk result (page.new ≡ with_members (list_under (codes "other") (map object_of
+        (kept_ones (items_in (D.nest cx.now) cx.now list.now (items bytes.now)))))
+        (with_members (arrays (lists_in cx.now list.now)
+        (items_in (D.nest cx.now) cx.now list.now (items bytes.now))) page.old)) }
+{
+    match left {
+        Left::Nothing => Ok(()),
+        _ => show_rest::<D>(cx, page, list, bytes, left),
+    }
+}
+
 /// How many attributes there are of each number that has a name.
 #[cold]
 #[inline(never)]
@@ -702,8 +791,7 @@ pub fn show_members<D: Depth>(
         return show_surveyed::<D>(cx, page, list, bytes);
     }
     let left = show_named::<D>(cx, page, list, bytes)?;
-    show_lists::<D>(cx, page, list, bytes, left.is_any_value)?;
-    show_others::<D>(cx, page, list, bytes, left.is_any_kept)
+    show_left::<D>(cx, page, list, bytes, left)
 }
 
 /// Adds the attributes of a list as an object.
@@ -739,7 +827,7 @@ pub fn show_one_list<D: Depth>(
     page.begin(name, Nest::List)?;
     let left = show_named::<D>(cx, page, list, bytes)?;
     page.end()?;
-    Ok(left.is_any_kept)
+    Ok(left.is_any_kept())
 }
 
 /// Adds the attributes of a list as an object in which all that have a name stand in one list.

@@ -58,9 +58,11 @@ loop-item-preserved g c =
           c.loop-item.item-iterator c.next.new.self here c.loop-item.seen c.loop-item.is_any_repeated _ is
           c.loop-item.invariant.repeated;
       kept = any_kept_next (g.D.Depth.nest c.args.cx.now) c.args.cx.now c.args.list.now c.in-Ok.frame
-          c.loop-item.item-iterator c.next.new.self here c.loop-item.is_any_kept _ _ c.left_by-left.ensures.kept
+          c.loop-item.item-iterator c.next.new.self here c.loop-item.is_any_kept _ _
+          (c.is_any_kept-is_any_kept.ensures ∙ c.left_by-left.ensures.kept)
           c.loop-item.invariant.kept;
       value = any_value_next (g.D.Depth.nest c.args.cx.now) c.args.cx.now c.args.list.now c.in-Ok.frame
-          c.loop-item.item-iterator c.next.new.self here c.loop-item.is_any_value _ _ c.left_by-left.ensures.value
+          c.loop-item.item-iterator c.next.new.self here c.loop-item.is_any_value _ _
+          (c.is_any_value-is_any_value.ensures ∙ c.left_by-left.ensures.value)
           c.loop-item.invariant.value;
     }

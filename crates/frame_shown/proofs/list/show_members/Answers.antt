@@ -1,4 +1,4 @@
-use Rattle.std.proofs.Common.{◌≡◌, ◌++◌, false, map, sym, ap, ◌∙◌}
+use Rattle.std.proofs.Common.{◌≡◌, ◌++◌, false, map, sym, ap, ◌∙◌, refl}
 use Rattle.std.specs.Prelude.{codes}
 use Rattle.std.specs.List.{flat_map}
 use Rattle.std.proofs.lemmas.Result.{on_ok_weaker}
@@ -20,8 +20,8 @@ returns g c =
     let none : are_any (earlier_ones its) ≡ false =
     none_twice (g.D.Depth.nest c.args.cx.now) c.args.cx.now c.args.list.now (read c.args.bytes.now)
     (sym c.has_twice.ensures ∙ c.if-has_twice.false) in
-    on_ok_weaker c.show_others.result (λ is. both_added (last_ones its ++ arrays lists its ++ repeated) others
+    on_ok_weaker c.show_left.result (λ is. both_added (last_ones its ++ arrays lists its ++ repeated) others
     c.args.page.now _ _
-    (both_added (flat_map shown_as its) (arrays lists its) c.args.page.now _ _ c.in_ok-left.ensures.shown
-    c.in_ok-show_lists.ensures ∙ ap (λ ms. with_members ms c.args.page.now) (all_shown lists its none)) is)
-    c.show_others.ensures
+    (both_added (flat_map shown_as its) (arrays lists its) c.args.page.now _ _ c.in_ok-left.ensures.shown refl
+    ∙ ap (λ ms. with_members ms c.args.page.now) (all_shown lists its none)) is)
+    c.show_left.ensures

@@ -14,5 +14,5 @@ returns g c =
       shown = named_shown c.args.name.now its c.args.page.now _ _
           (c.in_ok-left.ensures.shown ∙ ap (with_members (flat_map shown_as its)) c.in_ok-begin.ensures)
           c.in_ok-end.ensures;
-      kept = c.in_ok-left.ensures.kept;
+      kept = c.is_any_kept.ensures ∙ c.in_ok-left.ensures.kept;
     }
