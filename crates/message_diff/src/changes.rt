@@ -150,7 +150,7 @@ pub fn show_changes(
     ensures { OnOk result (page.new ≡ with_value (codes "changes")
         (change_tokens (written_items by old.now new.now)) page.old) }
 {
-    page.begin("changes", Nest::List)?;
+    page.keyed_begin("changes", Nest::List)?;
     tell_all(texts, by, old, new, page)?;
     page.end()
 }

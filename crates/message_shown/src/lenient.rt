@@ -110,7 +110,7 @@ fn show_refused(page: &mut Page, bytes: &[u8]) -> Result<(), AllocError>
     requires { header_size ≤ length bytes.now }
     ensures { OnOk result (AddsList (told_all bytes.now) page.old page.new) }
 {
-    page.begin("refused", Nest::List)?;
+    page.keyed_begin("refused", Nest::List)?;
     show_refusals(page, bytes)?;
     page.end()
 }

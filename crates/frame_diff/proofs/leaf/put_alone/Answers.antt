@@ -14,12 +14,12 @@ pub returns : goal.returns
 returns g c =
     let v = value_shown (g.D.Depth.nest c.args.cx.now) c.args.cx.now c.args.value in
     let begun : Draft = with_begun [] Object c.args.page.now in
-    let pathed : c.string.new.self ≡ with_value (codes "path") (string c.args.path.now ∷ []) begun =
-    c.in_ok-string.ensures
+    let pathed : c.keyed_string.new.self ≡ with_value (codes "path") (string c.args.path.now ∷ []) begun =
+    c.in_ok-keyed_string.ensures
     ∙ ap (λ (d : Draft). with_value (codes "path") (string c.args.path.now ∷ []) d) c.in_ok-begin.ensures in
     let filled : c.show_value.new.page ≡ with_members (alone_item c.args.path.now c.args.side v) begun =
     c.in_ok-show_value.ensures
-    ∙ ap (λ name. with_value name v c.string.new.self) c.name.ensures.name
+    ∙ ap (λ name. with_value name v c.keyed_string.new.self) c.name.ensures.name
     ∙ ap (λ (d : Draft). with_value (side_name c.args.side) v d) pathed in
     on_ok_weaker c.end.result (λ ends. object_ended [] (alone_item c.args.path.now c.args.side v) c.args.page.now _ _
     filled ends) c.end.ensures

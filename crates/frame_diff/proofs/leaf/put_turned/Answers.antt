@@ -14,8 +14,8 @@ returns g c =
     let v = value_shown (g.D.Depth.nest c.args.cx.now) c.args.cx.now c.args.was in
     let w = value_shown (g.D.Depth.nest c.args.theirs.now) c.args.theirs.now c.args.is in
     let begun : Draft = with_begun [] Object c.args.page.now in
-    let pathed : c.string.new.self ≡ with_value (codes "path") (string c.args.path.now ∷ []) begun =
-    c.in_ok-string.ensures
+    let pathed : c.keyed_string.new.self ≡ with_value (codes "path") (string c.args.path.now ∷ []) begun =
+    c.in_ok-keyed_string.ensures
     ∙ ap (λ (d : Draft). with_value (codes "path") (string c.args.path.now ∷ []) d) c.in_ok-begin.ensures in
     let was : c.show_value.new.page ≡ with_value (codes "old") v
     (with_value (codes "path") (string c.args.path.now ∷ []) begun) =

@@ -21,7 +21,7 @@ returns c =
     let behind : Members =
     (codes "flags", bits) ∷ (codes "payload", string (encode_lower c.args.payload.now) ∷ []) ∷ [] in
     let number_told = with_value (codes "number") (number (decimal (bit_and kind 0x3fff)) ∷ []) begun in
-    let numbered : c.number.new.self ≡ number_told = cc (c.in_ok-begin.ensures, c.in_ok-number.ensures) in
+    let numbered : c.keyed_number.new.self ≡ number_told = cc (c.in_ok-begin.ensures, c.in_ok-keyed_number.ensures) in
     let flagged : c.show_flags.new.page ≡ with_value (codes "flags") bits c.show_name.new.page = cc
     c.in_ok-show_flags.ensures in
     let filled : c.hex.new.self ≡ with_members all begun =

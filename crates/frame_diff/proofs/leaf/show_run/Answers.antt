@@ -24,7 +24,7 @@ returns c =
       c.in_ok-show_id.ensures,
       c.id.ensures,
       c.in_ok-show_vlan_flags.ensures,
-      c.in_ok-number.ensures,
+      c.in_ok-keyed_number.ensures,
       c.in_ok-show_end.ensures,
     )
     ∙ sym (fold-append (λ (d : Draft) m. with_value m.0 m.1 d) begun front behind) in

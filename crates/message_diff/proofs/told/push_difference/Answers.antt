@@ -18,9 +18,10 @@ returns c =
     let list = change_tokens (written_items c.args.by old new) in
     let more : Members = (codes "changes", list) ∷ [] in
     object_told (words ++ member ∷ (head ++ more)) c.show_changes.new.page _ _ _
-    (members_then words head more member c.in_ok-page.page c.show_told.new.page c.string.new.self
-    c.show_changes.new.page c.in_ok-page.ensures c.in_ok-show_told.ensures c.in_ok-string.ensures
+    (members_then words head more member c.in_ok-page.page c.show_told.new.page c.keyed_string.new.self
+    c.show_changes.new.page c.in_ok-page.ensures c.in_ok-show_told.ensures c.in_ok-keyed_string.ensures
     (c.in_ok-show_changes.ensures
     ∙ ap (with_value (codes "changes") list)
-    (c.in_ok-show_interface.ensures ∙ ap (λ text. with_members (head_of text) c.string.new.self) c.text.ensures)))
+    (c.in_ok-show_interface.ensures
+    ∙ ap (λ text. with_members (head_of text) c.keyed_string.new.self) c.text.ensures)))
     c.in_ok-finish.ensures c.in_ok-push.ensures.items

@@ -13,5 +13,5 @@ returns c =
       added.0,
       added.1,
       objects_ended (codes "refused") added.0 c.args.page.now _ _
-          (added.2 ∙ ap (with_members (objects added.0)) c.in_ok-begin.ensures) ends,
+          (added.2 ∙ ap (with_members (objects added.0)) c.in_ok-keyed_begin.ensures) ends,
     )) c.end.ensures
