@@ -1,6 +1,7 @@
 #!/usr/bin/env bash
-# That rust/ and dist/ fit the crates, the gate, and then the scripts over what it left, side by side; what they print
-# comes one after the other. The last line is the gate's own, printed again.
+# That rust/ and dist/ fit the crates, the gate, and then the scripts over what it left, side by side; those that need
+# dist/ alone begin with the gate, and take what it leaves of the processors. What they print comes one after the other.
+# The last line is the gate's own, printed again.
 set -euo pipefail
 cd "$(dirname "$0")/.."
 folder=$(mktemp -d)
@@ -33,15 +34,20 @@ libraries() {
     stage python_tests.sh scripts/test/python_tests.sh out
     stage linkwatch_tests.sh scripts/test/linkwatch_tests.sh out
     python3 scripts/test/readme.py out/liblinkwire.a "${folders[@]}"
-    stage 'builds of dist/' scripts/test/dist_tests.sh
 }
 
 texts() {
     stage 'the texts of the programs' scripts/make/dist.sh --compare "${names[@]}"
     stage 'slips in dist/' scripts/test/test_dist.sh
+}
+
+assembled() {
+    renice -n 19 -p "$BASHPID" >/dev/null
+    stage 'builds of dist/' scripts/test/dist_tests.sh
     stage costs.py python3 scripts/measure/costs.py
     stage test_costs.sh scripts/test/test_costs.sh
     stage test_second.sh scripts/test/test_second.sh out
+    stage rust_tests.sh scripts/test/rust_tests.sh
     stage 'forty mutants of linkwire' python3 scripts/measure/mutants.py linkwire --count 40 --least 60
 }
 
@@ -62,15 +68,11 @@ programs() {
     python3 scripts/test/kernel_messages.py
     python3 scripts/test/kernel_truth.py "$linkshow"
     python3 scripts/test/kernel_truth.py --live "$linkshow" out/linkdump
-    scripts/test/rust_tests.sh
     stage processors.sh scripts/test/processors.sh
     stage compilers.sh scripts/test/compilers.sh
     scripts/test/parallel_hosts.sh
     scripts/test/test_progress.sh
-    scripts/test/refused_memory.sh
-    scripts/test/refused_parse.sh
-    scripts/test/refused_info.sh
-    scripts/test/tested_edits.sh
+    for it in refused_memory refused_parse refused_info tested_edits; do "scripts/test/$it.sh"; done
     python3 scripts/test/kernel_tables.py
     scripts/test/test_kernel_tables.sh
 }
@@ -83,17 +85,15 @@ python3 scripts/test/named.py
 scripts/make/sums.sh check
 python3 scripts/erase/test_erase.py
 python3 scripts/erase/erase.py check rust
-stage gate gate
 stage build make -s build
-stage libraries libraries >"$folder/libraries" 2>&1 &
-beside=$!
-stage texts texts >"$folder/texts" 2>&1 &
-besides=$!
+stage assembled assembled >"$folder/assembled" 2>&1 & beside=("$!")
+stage gate gate
+stage libraries libraries >"$folder/libraries" 2>&1 & beside+=("$!")
+stage texts texts >"$folder/texts" 2>&1 & beside+=("$!")
 stage programs programs
 status=0
-wait "$beside" || status=$?
-wait "$besides" || status=$?
-cat "$folder/libraries" "$folder/texts"
+for it in "${beside[@]}"; do wait "$it" || status=$?; done
+cat "$folder/assembled" "$folder/libraries" "$folder/texts"
 [ "$status" = 0 ]
 cat "$folder/stages"
 tail -n 1 "$folder/gate"
