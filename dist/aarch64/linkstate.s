@@ -16337,7 +16337,7 @@ link_state.level.fill_link_info.0:
 	stp	x26, x25, [sp, #48]
 	stp	x24, x23, [sp, #64]
 	stp	x22, x21, [sp, #80]
-	cbz	x1, .LBB71_37
+	cbz	x1, .LBB71_40
 	mov	w21, wzr
 	mov	w22, wzr
 	mov	w23, wzr
@@ -16356,43 +16356,41 @@ link_state.level.fill_link_info.0:
 	add	w8, w28, #3
 	and	x8, x8, #0x1fffc
 	cmp	x26, x8
-	b.ls	.LBB71_36
+	b.ls	.LBB71_39
 .LBB71_5:
 	sub	x26, x26, x8
 	cmp	x26, #4
-	b.lo	.LBB71_36
+	b.lo	.LBB71_39
 	add	x27, x27, x8
 	ldrh	w28, [x27]
 	cmp	w28, #4
-	b.lo	.LBB71_36
+	b.lo	.LBB71_39
 	cmp	x26, x28
-	b.lo	.LBB71_36
-	subs	x9, x28, #4
+	b.lo	.LBB71_39
+	ldrb	w10, [x27, #2]
+	ldrb	w8, [x27, #3]
+	sub	x9, x28, #4
+	bfi	w10, w8, #8, #6
 	add	x8, x27, #4
-	b.eq	.LBB71_11
-	sub	x10, x28, #5
-	ldrb	w10, [x8, x10]
-	cbnz	w10, .LBB71_11
-	sub	x9, x28, #5
-.LBB71_11:
-	ldrb	w10, [x27, #3]
-	ldrb	w11, [x27, #2]
-	lsl	w10, w10, #8
-	and	w10, w10, #0x3f00
-	orr	w10, w10, w11
 	cmp	w10, #4
-	b.eq	.LBB71_20
+	b.eq	.LBB71_19
 	cmp	w10, #1
 	b.ne	.LBB71_4
+	cbz	x9, .LBB71_12
+	sub	x10, x28, #5
+	ldrb	w10, [x8, x10]
+	cbz	w10, .LBB71_27
+.LBB71_12:
 	cmp	x9, #6
-	b.eq	.LBB71_31
+	b.eq	.LBB71_28
+.LBB71_13:
 	cmp	x9, #4
-	b.eq	.LBB71_29
+	b.eq	.LBB71_25
 	cmp	x9, #3
 	b.ne	.LBB71_2
 	ldrb	w8, [x8]
 	cmp	w8, #99
-	b.eq	.LBB71_33
+	b.eq	.LBB71_36
 	cmp	w8, #104
 	b.ne	.LBB71_2
 	ldrb	w8, [x27, #5]
@@ -16403,16 +16401,22 @@ link_state.level.fill_link_info.0:
 	mov	w8, #3
 	cinc	w25, w8, ne
 	b	.LBB71_3
-.LBB71_20:
+.LBB71_19:
+	cbz	x9, .LBB71_21
+	sub	x10, x28, #5
+	ldrb	w10, [x8, x10]
+	cbz	w10, .LBB71_30
+.LBB71_21:
 	cmp	x9, #6
-	b.eq	.LBB71_24
+	b.eq	.LBB71_31
+.LBB71_22:
 	cmp	x9, #4
-	b.ne	.LBB71_27
+	b.ne	.LBB71_34
 	ldr	w8, [x8]
 	mov	w9, #28514
 	movk	w9, #25710, lsl #16
 	cmp	w8, w9
-	b.ne	.LBB71_27
+	b.ne	.LBB71_34
 	adrp	x2, .Lstatic.145
 	add	x2, x2, :lo12:.Lstatic.145
 	add	x0, x27, #4
@@ -16421,29 +16425,8 @@ link_state.level.fill_link_info.0:
 	bl	core.cmp.slices.groups_equal.i8.31.core.cmp.numbers.U8PartialEq
 	cmp	w0, #0
 	csinc	w8, w25, wzr, eq
-	b	.LBB71_28
-.LBB71_24:
-	ldr	w8, [x8]
-	mov	w9, #29282
-	movk	w9, #25705, lsl #16
-	cmp	w8, w9
-	b.ne	.LBB71_27
-	adrp	x2, .Lstatic.141
-	add	x2, x2, :lo12:.Lstatic.141
-	add	x0, x27, #4
-	mov	w1, #6
-	bl	core.cmp.slices.groups_equal.i8.31.core.cmp.numbers.U8PartialEq
-	tbz	w0, #0, .LBB71_27
-	mov	w8, wzr
-	b	.LBB71_28
-.LBB71_27:
-	mov	w8, #4
-.LBB71_28:
-	tst	w22, #0x1
-	mov	w22, #1
-	csel	w21, w21, w8, ne
-	b	.LBB71_4
-.LBB71_29:
+	b	.LBB71_35
+.LBB71_25:
 	ldr	w8, [x8]
 	mov	w9, #25462
 	mov	w25, #4
@@ -16459,7 +16442,11 @@ link_state.level.fill_link_info.0:
 	cmp	w0, #0
 	csel	w25, w8, w25, ne
 	b	.LBB71_3
-.LBB71_31:
+.LBB71_27:
+	sub	x9, x28, #5
+	cmp	x9, #6
+	b.ne	.LBB71_13
+.LBB71_28:
 	ldr	w8, [x8]
 	mov	w9, #29282
 	mov	w25, #4
@@ -16474,7 +16461,32 @@ link_state.level.fill_link_info.0:
 	cmp	w0, #0
 	csel	w25, wzr, w25, ne
 	b	.LBB71_3
-.LBB71_33:
+.LBB71_30:
+	sub	x9, x28, #5
+	cmp	x9, #6
+	b.ne	.LBB71_22
+.LBB71_31:
+	ldr	w8, [x8]
+	mov	w9, #29282
+	movk	w9, #25705, lsl #16
+	cmp	w8, w9
+	b.ne	.LBB71_34
+	adrp	x2, .Lstatic.141
+	add	x2, x2, :lo12:.Lstatic.141
+	add	x0, x27, #4
+	mov	w1, #6
+	bl	core.cmp.slices.groups_equal.i8.31.core.cmp.numbers.U8PartialEq
+	tbz	w0, #0, .LBB71_34
+	mov	w8, wzr
+	b	.LBB71_35
+.LBB71_34:
+	mov	w8, #4
+.LBB71_35:
+	tst	w22, #0x1
+	mov	w22, #1
+	csel	w21, w21, w8, ne
+	b	.LBB71_4
+.LBB71_36:
 	ldrb	w8, [x27, #5]
 	cmp	w8, #97
 	b.ne	.LBB71_2
@@ -16483,17 +16495,17 @@ link_state.level.fill_link_info.0:
 	b.ne	.LBB71_2
 	mov	w25, #2
 	b	.LBB71_3
-.LBB71_36:
+.LBB71_39:
 	tst	w24, #0x1
 	mov	w9, #4
 	csel	w8, w23, w9, ne
 	tst	w22, #0x1
 	csel	w9, w21, w9, ne
-	b	.LBB71_38
-.LBB71_37:
+	b	.LBB71_41
+.LBB71_40:
 	mov	w8, #4
 	mov	w9, #4
-.LBB71_38:
+.LBB71_41:
 	sub	x2, x29, #4
 	mov	x0, x20
 	mov	x1, x19

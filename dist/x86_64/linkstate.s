@@ -18955,7 +18955,7 @@ link_state.level.fill_link_info.0:
 	jmp	.LBB70_3
 .LBB70_1:
 	movw	$1028, %ax
-	jmp	.LBB70_37
+	jmp	.LBB70_40
 .LBB70_22:
 	movb	$4, %al
 	.p2align	4
@@ -18965,41 +18965,41 @@ link_state.level.fill_link_info.0:
 	testb	$1, %dl
 	cmovnel	%ecx, %ebp
 	movb	$1, %dl
-.LBB70_35:
+.LBB70_38:
 	addl	$3, %r14d
 	andl	$-4, %r14d
 	cmpq	%r14, %rbx
-	jbe	.LBB70_36
+	jbe	.LBB70_39
 .LBB70_3:
 	subq	%r14, %rbx
 	cmpq	$4, %rbx
-	jb	.LBB70_36
+	jb	.LBB70_39
 	addq	%r14, %r12
 	movzwl	(%r12), %r14d
 	cmpw	$4, %r14w
-	jb	.LBB70_36
+	jb	.LBB70_39
 	cmpq	%r14, %rbx
-	jb	.LBB70_36
-	leaq	4(%r12), %rdi
-	movq	%r14, %rcx
-	addq	$-4, %rcx
-	je	.LBB70_9
-	cmpb	$0, -5(%rdi,%r14)
-	je	.LBB70_8
-.LBB70_9:
+	jb	.LBB70_39
 	movzwl	2(%r12), %eax
+	leaq	4(%r12), %rdi
+	leaq	-4(%r14), %rcx
 	andl	$16383, %eax
 	cmpl	$4, %eax
 	je	.LBB70_26
-.LBB70_10:
 	cmpl	$1, %eax
-	jne	.LBB70_35
+	jne	.LBB70_38
+	testq	%rcx, %rcx
+	je	.LBB70_11
+	cmpb	$0, -5(%rdi,%r14)
+	je	.LBB70_10
+.LBB70_11:
 	movb	$4, %al
-	cmpq	$6, %rcx
+	cmpl	$6, %ecx
 	je	.LBB70_18
-	cmpq	$4, %rcx
+.LBB70_12:
+	cmpl	$4, %ecx
 	je	.LBB70_23
-	cmpq	$3, %rcx
+	cmpl	$3, %ecx
 	jne	.LBB70_25
 	movzbl	(%rdi), %ecx
 	cmpl	$99, %ecx
@@ -19013,19 +19013,19 @@ link_state.level.fill_link_info.0:
 	subb	%cl, %al
 	jmp	.LBB70_25
 	.p2align	4
-.LBB70_8:
-	leaq	-5(%r14), %rcx
-	movzwl	2(%r12), %eax
-	andl	$16383, %eax
-	cmpl	$4, %eax
-	jne	.LBB70_10
 .LBB70_26:
-	cmpq	$6, %rcx
-	je	.LBB70_30
-	cmpq	$4, %rcx
-	jne	.LBB70_29
+	testq	%rcx, %rcx
+	je	.LBB70_29
+	cmpb	$0, -5(%rdi,%r14)
+	je	.LBB70_28
+.LBB70_29:
+	cmpl	$6, %ecx
+	je	.LBB70_33
+.LBB70_30:
+	cmpl	$4, %ecx
+	jne	.LBB70_32
 	cmpl	$1684959074, (%rdi)
-	jne	.LBB70_29
+	jne	.LBB70_32
 	movq	%rdx, 8(%rsp)
 	leaq	.Lstatic.145(%rip), %rdx
 	movl	$4, %esi
@@ -19036,29 +19036,7 @@ link_state.level.fill_link_info.0:
 	sete	%cl
 	leal	(%rcx,%rcx,2), %eax
 	incl	%eax
-	jmp	.LBB70_34
-.LBB70_30:
-	cmpl	$1684632162, (%rdi)
-	jne	.LBB70_29
-	movq	%rdx, 8(%rsp)
-	leaq	.Lstatic.141(%rip), %rdx
-	movl	$6, %esi
-	callq	core.cmp.slices.groups_equal.i8.31.core.cmp.numbers.U8PartialEq
-	movq	8(%rsp), %rdx
-	testb	%al, %al
-	je	.LBB70_29
-	xorl	%eax, %eax
-	jmp	.LBB70_34
-	.p2align	4
-.LBB70_29:
-	movb	$4, %al
-.LBB70_34:
-	movzbl	%r15b, %ecx
-	movzbl	%al, %r15d
-	testb	$1, %r13b
-	cmovnel	%ecx, %r15d
-	movb	$1, %r13b
-	jmp	.LBB70_35
+	jmp	.LBB70_37
 .LBB70_23:
 	cmpl	$1851876214, (%rdi)
 	jne	.LBB70_25
@@ -19071,6 +19049,11 @@ link_state.level.fill_link_info.0:
 	addb	%al, %al
 	addb	$2, %al
 	jmp	.LBB70_25
+.LBB70_10:
+	leaq	-5(%r14), %rcx
+	movb	$4, %al
+	cmpl	$6, %ecx
+	jne	.LBB70_12
 .LBB70_18:
 	cmpl	$1684632162, (%rdi)
 	jne	.LBB70_25
@@ -19082,6 +19065,32 @@ link_state.level.fill_link_info.0:
 	xorb	$1, %al
 	shlb	$2, %al
 	jmp	.LBB70_25
+.LBB70_28:
+	leaq	-5(%r14), %rcx
+	cmpl	$6, %ecx
+	jne	.LBB70_30
+.LBB70_33:
+	cmpl	$1684632162, (%rdi)
+	jne	.LBB70_32
+	movq	%rdx, 8(%rsp)
+	leaq	.Lstatic.141(%rip), %rdx
+	movl	$6, %esi
+	callq	core.cmp.slices.groups_equal.i8.31.core.cmp.numbers.U8PartialEq
+	movq	8(%rsp), %rdx
+	testb	%al, %al
+	je	.LBB70_32
+	xorl	%eax, %eax
+	jmp	.LBB70_37
+	.p2align	4
+.LBB70_32:
+	movb	$4, %al
+.LBB70_37:
+	movzbl	%r15b, %ecx
+	movzbl	%al, %r15d
+	testb	$1, %r13b
+	cmovnel	%ecx, %r15d
+	movb	$1, %r13b
+	jmp	.LBB70_38
 .LBB70_20:
 	cmpb	$97, 5(%r12)
 	jne	.LBB70_22
@@ -19089,7 +19098,7 @@ link_state.level.fill_link_info.0:
 	cmpb	$110, 6(%r12)
 	jne	.LBB70_22
 	jmp	.LBB70_25
-.LBB70_36:
+.LBB70_39:
 	movzbl	%bpl, %eax
 	testb	$1, %dl
 	movl	$4, %ecx
@@ -19102,7 +19111,7 @@ link_state.level.fill_link_info.0:
 	orl	%ecx, %eax
 	movq	32(%rsp), %rsi
 	movq	24(%rsp), %rdi
-.LBB70_37:
+.LBB70_40:
 	movw	%ax, 22(%rsp)
 	leaq	22(%rsp), %rdx
 	callq	link_state.walk.fill_list.55a30d9452a72b40

@@ -28,8 +28,9 @@ fn name_in(payload: &[u8]) -> &[u8] {
     }
 }
 
-/// The kind with this name.
-fn device_kind(name: &[u8]) -> Kind {
+/// The kind with the name in this payload.
+fn device_kind(payload: &[u8]) -> Kind {
+    let name = name_in(payload);
     if name == b"bridge".as_slice() {
         Kind::Bridge
     } else if name == b"can".as_slice() || name == b"vcan".as_slice() {
@@ -41,8 +42,9 @@ fn device_kind(name: &[u8]) -> Kind {
     }
 }
 
-/// The kind with this name, where something of its ports moves.
-fn port_kind(name: &[u8]) -> Kind {
+/// The kind with the name in this payload, where something of its ports moves.
+fn port_kind(payload: &[u8]) -> Kind {
+    let name = name_in(payload);
     if name == b"bridge".as_slice() {
         Kind::Bridge
     } else if name == b"bond".as_slice() {
@@ -62,10 +64,10 @@ pub(crate) fn kinds(list: &[u8]) -> (Kind, Kind) {
             Ok(frame) => frame,
             _ => break,
         };
-        let name = name_in(frame.value());
+        let payload = frame.value();
         match frame.kind() {
-            IFLA_INFO_KIND => kind = Some(kind.unwrap_or(device_kind(name))),
-            IFLA_INFO_SLAVE_KIND => slave_kind = Some(slave_kind.unwrap_or(port_kind(name))),
+            IFLA_INFO_KIND => kind = Some(kind.unwrap_or(device_kind(payload))),
+            IFLA_INFO_SLAVE_KIND => slave_kind = Some(slave_kind.unwrap_or(port_kind(payload))),
             _ => {}
         }
     }

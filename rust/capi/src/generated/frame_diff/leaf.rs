@@ -143,7 +143,7 @@ fn show_end(page: &mut Page, run: Run) -> Result<(), AllocError> {
         return Ok(());
     }
     show_id(page, "id-end", run.said.id(run.last))?;
-    page.number("vid-end", run.last.into())
+    page.keyed_number("vid-end", run.last.into())
 }
 
 /// Adds VLANs of which the same is said as one value.
@@ -151,7 +151,7 @@ fn show_run(page: &mut Page, name: &str, run: Run) -> Result<(), AllocError> {
     page.begin(name, Nest::Object)?;
     show_id(page, "id", run.said.id(run.first))?;
     show_vlan_flags(page, "flags", run.said.flags.into())?;
-    page.number("vid", run.first.into())?;
+    page.keyed_number("vid", run.first.into())?;
     show_end(page, run)?;
     page.end()
 }
@@ -185,7 +185,7 @@ fn show_name(page: &mut Page, text: &str) -> Result<(), AllocError> {
     if text.is_empty() {
         return Ok(());
     }
-    page.string("name", text)
+    page.keyed_string("name", text)
 }
 
 /// Adds an attribute that is kept as it is.
@@ -197,7 +197,7 @@ fn show_kept(
     payload: &[u8],
 ) -> Result<(), AllocError> {
     page.begin(name, Nest::Object)?;
-    page.number("number", (kind & NLA_TYPE_MASK).into())?;
+    page.keyed_number("number", (kind & NLA_TYPE_MASK).into())?;
     show_name(page, text)?;
     show_flags(page, "flags", kind)?;
     page.hex("payload", payload)?;
@@ -244,11 +244,11 @@ fn show_value<D: Depth>(
 ) -> Result<(), AllocError> {
     match value {
         Value::Payload(way, payload) => show_way::<D>(cx, page, name, way, payload),
-        Value::Number(kind) => page.number(name, (kind & NLA_TYPE_MASK).into()),
-        Value::Name(text) => page.string(name, text),
+        Value::Number(kind) => page.keyed_number(name, (kind & NLA_TYPE_MASK).into()),
+        Value::Name(text) => page.keyed_string(name, text),
         Value::Flags(kind) => show_flags(page, name, kind),
-        Value::Unsigned(number) => page.number(name, number),
-        Value::Signed(number) => page.signed(name, number),
+        Value::Unsigned(number) => page.keyed_number(name, number),
+        Value::Signed(number) => page.keyed_signed(name, number),
         Value::Spelled(plain, bytes) => show_spelled(page, name, plain, bytes),
         Value::Field(field, bytes, place) => show_field(cx, page, name, field, bytes, place),
         Value::Octets(bytes) => page.hex(name, bytes),
@@ -335,13 +335,12 @@ pub(crate) fn put_alone<D: Depth>(
     value: Value<'_>,
 ) -> Result<(), AllocError> {
     page.begin("", Nest::Object)?;
-    page.string("path", path)?;
+    page.keyed_string("path", path)?;
     show_value::<D>(cx, page, side.name(), value)?;
     page.end()
 }
 
 /// Adds the change of a value that turned.
-#[inline(always)]
 pub(crate) fn put_turned<D: Depth>(
     cx: &Around<'_>,
     theirs: &Around<'_>,
@@ -351,7 +350,7 @@ pub(crate) fn put_turned<D: Depth>(
     is: Value<'_>,
 ) -> Result<(), AllocError> {
     page.begin("", Nest::Object)?;
-    page.string("path", path)?;
+    page.keyed_string("path", path)?;
     show_value::<D>(cx, page, "old", was)?;
     show_value::<D>(theirs, page, "new", is)?;
     page.end()
@@ -377,6 +376,7 @@ fn is_untold<D: Depth>(
 }
 
 /// Adds the change of a value: one that turned, if another one stands beside it.
+#[inline(always)]
 fn put<D: Depth>(
     cx: &Around<'_>,
     theirs: &Around<'_>,

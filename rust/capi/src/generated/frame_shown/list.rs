@@ -69,11 +69,55 @@ fn show_counters<D: Depth>(
 }
 
 /// Which attributes of a list say nothing under a name of their own.
-struct Left {
+#[derive(Clone, Copy)]
+enum Left {
+    /// None.
+    Nothing,
+    /// Those that are kept as they are.
+    Kept,
+    /// Those that are values of lists.
+    Values,
+    /// Both.
+    Both,
+}
+
+impl Left {
+    /// What is left, by whether there are such and such.
+    fn of(is_any_kept: bool, is_any_value: bool) -> Left {
+        match (is_any_kept, is_any_value) {
+            (false, false) => Left::Nothing,
+            (true, false) => Left::Kept,
+            (false, true) => Left::Values,
+            (true, true) => Left::Both,
+        }
+    }
+
+    /// What is left where an attribute says this beside.
+    #[inline(always)]
+    fn and(self, said: Said) -> Left {
+        match (said, self) {
+            (Said::Named, left) => left,
+            (Said::Kept, Left::Nothing | Left::Kept) => Left::Kept,
+            (Said::Value, Left::Nothing | Left::Values) => Left::Values,
+            _ => Left::Both,
+        }
+    }
+
     /// Whether there is one that is kept as it is.
-    is_any_kept: bool,
+    fn is_any_kept(self) -> bool {
+        match self {
+            Left::Kept | Left::Both => true,
+            Left::Nothing | Left::Values => false,
+        }
+    }
+
     /// Whether there is one that is a value of a list.
-    is_any_value: bool,
+    fn is_any_value(self) -> bool {
+        match self {
+            Left::Values | Left::Both => true,
+            Left::Nothing | Left::Kept => false,
+        }
+    }
 }
 
 /// What an attribute says.
@@ -153,10 +197,7 @@ pub fn has_twice(bytes: &[u8]) -> bool {
 /// What an attribute leaves over: it is kept as it is, or a value of a list, or neither.
 fn left_by<D: Depth>(cx: &Around<'_>, list: &List, frame: &NlaBuffer<'_>) -> Left {
     let (_, manner) = found_in(cx, list, frame.kind());
-    Left {
-        is_any_kept: is_kept_by(manner, frame.value()),
-        is_any_value: is_each_by(manner),
-    }
+    Left::of(is_kept_by(manner, frame.value()), is_each_by(manner))
 }
 
 /// What the attributes of a list are together.
@@ -185,8 +226,8 @@ fn look_over<D: Depth>(cx: &Around<'_>, list: &List, bytes: &[u8]) -> Survey {
             seen[number] = 1;
         } else {
             let left = left_by::<D>(cx, list, &frame);
-            is_any_kept |= left.is_any_kept;
-            is_any_value |= left.is_any_value;
+            is_any_kept |= left.is_any_kept();
+            is_any_value |= left.is_any_value();
         }
     }
     Survey {
@@ -204,23 +245,16 @@ fn show_named<D: Depth>(
     bytes: &[u8],
 ) -> Result<Left, AllocError> {
     let rows = own_rows(list);
-    let mut is_any_kept = false;
-    let mut is_any_value = false;
+    let mut left = Left::Nothing;
     for item in NlasIterator::new(bytes) {
         let frame = match item {
             Ok(frame) => frame,
             _ => break,
         };
-        match show_frame::<D>(cx, page, list, rows, &frame)? {
-            Said::Named => {}
-            Said::Kept => is_any_kept = true,
-            Said::Value => is_any_value = true,
-        }
+        let said = show_frame::<D>(cx, page, list, rows, &frame)?;
+        left = left.and(said);
     }
-    Ok(Left {
-        is_any_kept,
-        is_any_value,
-    })
+    Ok(left)
 }
 
 /// Adds an attribute that is kept.
@@ -411,6 +445,34 @@ fn show_lists<D: Depth>(
     show_arrays::<D>(cx, page, list, bytes)
 }
 
+/// Adds the attributes that say nothing under a name of their own: lists that have a value, and those that are kept.
+#[inline(never)]
+fn show_rest<D: Depth>(
+    cx: &Around<'_>,
+    page: &mut Page,
+    list: &List,
+    bytes: &[u8],
+    left: Left,
+) -> Result<(), AllocError> {
+    show_lists::<D>(cx, page, list, bytes, left.is_any_value())?;
+    show_others::<D>(cx, page, list, bytes, left.is_any_kept())
+}
+
+/// Adds the attributes that say nothing under a name of their own, if there are any: most lists have none.
+#[inline(always)]
+fn show_left<D: Depth>(
+    cx: &Around<'_>,
+    page: &mut Page,
+    list: &List,
+    bytes: &[u8],
+    left: Left,
+) -> Result<(), AllocError> {
+    match left {
+        Left::Nothing => Ok(()),
+        _ => show_rest::<D>(cx, page, list, bytes, left),
+    }
+}
+
 /// How many attributes there are of each number that has a name.
 #[cold]
 #[inline(never)]
@@ -551,8 +613,7 @@ pub fn show_members<D: Depth>(
         return show_surveyed::<D>(cx, page, list, bytes);
     }
     let left = show_named::<D>(cx, page, list, bytes)?;
-    show_lists::<D>(cx, page, list, bytes, left.is_any_value)?;
-    show_others::<D>(cx, page, list, bytes, left.is_any_kept)
+    show_left::<D>(cx, page, list, bytes, left)
 }
 
 /// Adds the attributes of a list as an object.
@@ -579,7 +640,7 @@ pub fn show_one_list<D: Depth>(
     page.begin(name, Nest::List)?;
     let left = show_named::<D>(cx, page, list, bytes)?;
     page.end()?;
-    Ok(left.is_any_kept)
+    Ok(left.is_any_kept())
 }
 
 /// Adds the attributes of a list as an object in which all that have a name stand in one list.

@@ -118,7 +118,7 @@ pub fn show_changes(
     new: &Snapshot,
     page: &mut Page,
 ) -> Result<(), AllocError> {
-    page.begin("changes", Nest::List)?;
+    page.keyed_begin("changes", Nest::List)?;
     tell_all(texts, by, old, new, page)?;
     page.end()
 }

@@ -45,7 +45,7 @@ fn push_difference(
 ) -> Result<(), AllocError> {
     let mut page = desk.line.begin()?;
     show_told(&mut page, front)?;
-    page.string("change", "changed")?;
+    page.keyed_string("change", "changed")?;
     show_interface(alloc, &mut page, new.text())?;
     show_changes(&mut desk.texts, by, old, new, &mut page)?;
     desk.line.finish(page, out)?;

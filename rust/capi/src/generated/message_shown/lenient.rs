@@ -82,7 +82,7 @@ fn show_refusals(page: &mut Page, bytes: &[u8]) -> Result<(), AllocError> {
 
 /// Adds the list of the attributes that are refused.
 fn show_refused(page: &mut Page, bytes: &[u8]) -> Result<(), AllocError> {
-    page.begin("refused", Nest::List)?;
+    page.keyed_begin("refused", Nest::List)?;
     show_refusals(page, bytes)?;
     page.end()
 }
