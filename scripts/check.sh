@@ -1,7 +1,7 @@
 #!/usr/bin/env bash
 # That rust/ and dist/ fit the crates, the gate, and then the scripts over what it left, side by side; those that need
-# dist/ alone begin with the gate, and take what it leaves of the processors. What they print comes one after the other.
-# The last line is the gate's own, printed again.
+# dist/ alone begin with the gate. What they print comes one after the other. The last line is the gate's own, printed
+# again.
 set -euo pipefail
 cd "$(dirname "$0")/.."
 folder=$(mktemp -d)
@@ -42,7 +42,6 @@ texts() {
 }
 
 assembled() {
-    renice -n 19 -p "$BASHPID" >/dev/null
     stage 'builds of dist/' scripts/test/dist_tests.sh
     stage costs.py python3 scripts/measure/costs.py
     stage test_costs.sh scripts/test/test_costs.sh
