@@ -1,5 +1,6 @@
 /* Times the functions of linkwire.h on the same 50,000 messages of 20 to 2,000 bytes, beside a plain copy of each
- * message, in processor time: the best of several rounds, in which the functions take turns. */
+ * message, in processor time: the best of several rounds, in which the functions take turns. `link_bench 3 sums` makes
+ * three rounds, and prints what the answers add up to instead, which is the same each time. */
 #include <stdio.h>
 #include <stdlib.h>
 #include <string.h>
@@ -129,6 +130,10 @@ static long canonical(const uint8_t *message, size_t len) {
     return linkwire_canonical(message, len, out, sizeof out);
 }
 
+static long state_of(const uint8_t *message, size_t len) {
+    return linkwire_state(message, len, out, sizeof out);
+}
+
 static struct call {
     const char *name;
     long (*run)(const uint8_t *, size_t);
@@ -138,9 +143,12 @@ static struct call {
     {"linkwire_check", check, 1e300},
     {"linkwire_canonical", canonical, 1e300},
     {"linkwire_canonical_len", measure, 1e300},
+    {"linkwire_state", state_of, 1e300},
 };
 
 enum { CALLS = sizeof calls / sizeof *calls };
+
+static long sum;
 
 static double seconds(void) {
     struct timespec now;
@@ -152,10 +160,12 @@ static double seconds(void) {
 static void time_round(struct call *call) {
     double start = seconds();
     for (size_t i = 0; i < MESSAGES; i++) {
-        if (call->run(bytes + starts[i], starts[i + 1] - starts[i]) < 0) {
+        long answer = call->run(bytes + starts[i], starts[i + 1] - starts[i]);
+        if (answer < 0) {
             fprintf(stderr, "%s refuses message %zu\n", call->name, i);
             exit(1);
         }
+        sum += answer;
     }
     double took = seconds() - start;
     if (took < call->best) {
@@ -178,6 +188,10 @@ int main(int argc, char **argv) {
         }
     }
     printf("%d messages, %zu bytes\n", MESSAGES, starts[MESSAGES]);
+    if (argc > 2) {
+        printf("the answers add up to %ld\n", sum);
+        return 0;
+    }
     printf("%-24s %12s %10s\n", "", "ns a message", "MB/s");
     for (int i = 0; i < CALLS; i++) {
         double took = calls[i].best;
