@@ -1,5 +1,5 @@
 //! Fixed records of virtual functions, as link attributes carry them.
-// Tests: the crate `value_tests`. Edits: edits/link_vfrec.txt, crates/link_vfrec/must-fail.
+// Tests: the crate `value_tests`. Edits: edits/link_vfrec.txt.
 #![tactic(auto)]
 
 pub mod broadcast;
