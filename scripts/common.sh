@@ -102,11 +102,11 @@ has_namespace() {
     unshare "${2:--rn}" true 2>/dev/null || { lacks "$1: no right to make a network namespace"; return 1; }
 }
 
-# program NAME [FOLDER..]: where the program is, in these folders, else as the gate left it or in out/; nothing where it
+# program NAME [FOLDER..]: where the program is, in these folders, else in out/ or as the gate left it; nothing where it
 # is not built
 program() {
     local IFS=:
-    [ "$#" != 1 ] || set -- "$1" "$top/crates/$1/out" "$top/out"
+    [ "$#" != 1 ] || set -- "$1" "$top/out" "$top/crates/$1/out"
     PATH=${*:2} type -P "$1" | xargs -r realpath || true
 }
 

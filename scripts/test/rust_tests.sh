@@ -2,7 +2,9 @@
 # Tests the crate in rust/, the program in docs/USING.md, and the library of rust/capi. It needs no registry.
 . "$(dirname "$0")/../common.sh"
 needs cargo
+# what is built goes with the folder: nothing is kept for a second build, or for a debugger
 export CARGO_TARGET_DIR=$folder/target CARGO_NET_OFFLINE=true
+export CARGO_INCREMENTAL=0 CARGO_PROFILE_DEV_DEBUG=0 CARGO_PROFILE_TEST_DEBUG=0
 
 cd "$top/rust"
 runs cargo test --locked
