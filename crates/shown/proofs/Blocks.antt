@@ -37,29 +37,38 @@ on_true : (b : Bool) (P : Type 0) → (b ≡ true → P) → OnTrue b P
 on_true true P f = f refl
 on_true false P f = tt
 
--- lanes in which a test is computed that each byte passes that may need an escape: where none does, all are plain
-pub plain_lanes : (f : ℕ → ℕ) (p : ℕ → Bool) → agree_below (λ x. top 7 (f x)) p 256 ≡ true
-    → agree_below (λ x. p x || not (may_escape x)) (λ _. true) 256 ≡ true
+-- lanes in which a test is computed that each byte passes of which q is true: where none does, q is true of none
+pub clear_lanes : (q : ℕ → Bool) (f : ℕ → ℕ) (p : ℕ → Bool) → agree_below (λ x. top 7 (f x)) p 256 ≡ true
+    → agree_below (λ x. p x || not (q x)) (λ _. true) 256 ≡ true
     → (d : List ℕ) (i n : ℕ) → i + n ≤ length d → n ≤ 64 → ((k : ℕ) → Fits w8 (get_or d k 0))
     → (z : List ℕ) → z ≡ map f (chunk i n d)
-    → OnTrue (mask_l (map (top 7) z) % 2 ^ 64 == 0) (PlainBetween d i (i + n))
-plain_lanes f p same so d i n room few fits z is =
+    → OnTrue (mask_l (map (top 7) z) % 2 ^ 64 == 0) ((k : ℕ) → i ≤ k → k < i + n → not (q (get_or d k 0)) ≡ true)
+clear_lanes q f p same so d i n room few fits z is =
     let v = chunk i n d in
     let long = length-chunk i n d room in
     let mask : mask_l (map (top 7) z) % 2 ^ 64 ≡ mask_l (map p v) =
     ap (λ l. mask_l (map (top 7) l) % 2 ^ 64) is
     ∙ ap (λ l. mask_l l % 2 ^ 64) (each_lane f p same v (chunk-fits w8 i n d fits))
     ∙ mask_l-mod (map p v) 64 (omega (arith, length-map v p)) in
-    let plain : (mask_l (map (top 7) z) % 2 ^ 64 == 0) ≡ true → PlainBetween d i (i + n) =
+    let clear : (mask_l (map (top 7) z) % 2 ^ 64 == 0) ≡ true
+    → (k : ℕ) → i ≤ k → k < i + n → not (q (get_or d k 0)) ≡ true =
     λ e k from to.
     let back : i + (k - i) ≡ k = omega arith in
     let at : get_or v (k - i) 0 ≡ get_or d k 0 =
     get_or-chunk i n d (k - i) 0 (omega arith) ∙ ap (λ j. get_or d j 0) back in
     let none : p (get_or d k 0) ≡ false =
     ap p (sym at) ∙ none_set p v (sym mask ∙ eqb-true _ 0 e) (k - i) (omega arith) in
-    sym (ap (λ b. b || not (may_escape (get_or d k 0))) none)
-    ∙ agree_below_at (λ x. p x || not (may_escape x)) (λ _. true) 256 (get_or d k 0) so (fits k).fits in
-    on_true _ _ plain
+    sym (ap (λ b. b || not (q (get_or d k 0))) none)
+    ∙ agree_below_at (λ x. p x || not (q x)) (λ _. true) 256 (get_or d k 0) so (fits k).fits in
+    on_true _ _ clear
+
+-- where no byte may need an escape
+pub plain_lanes : (f : ℕ → ℕ) (p : ℕ → Bool) → agree_below (λ x. top 7 (f x)) p 256 ≡ true
+    → agree_below (λ x. p x || not (may_escape x)) (λ _. true) 256 ≡ true
+    → (d : List ℕ) (i n : ℕ) → i + n ≤ length d → n ≤ 64 → ((k : ℕ) → Fits w8 (get_or d k 0))
+    → (z : List ℕ) → z ≡ map f (chunk i n d)
+    → OnTrue (mask_l (map (top 7) z) % 2 ^ 64 == 0) (PlainBetween d i (i + n))
+plain_lanes = clear_lanes may_escape
 
 -- ** parts of texts
 

@@ -3,7 +3,7 @@ use Rattle.std.proofs.Common.{◌≡◌, ℕ, zero, suc, ◌+◌, ◌-◌, ◌<�
 use Rattle.std.proofs.Common.{List, [], ◌∷◌, ◌++◌}
 use Rattle.std.proofs.Common.{length, take, drop, get_or, nat_lt, refl, ap, sym, ◌∙◌, subst, arith, length-drop}
 use Rattle.std.proofs.Common.{append_assoc, append-nil, get_or-drop, length-take-le, Bool, ◌||◌, ◌⊎◌, inl, inr}
-use Rattle.std.specs.Prelude.{◌&&◌, Option, Some, None}
+use Rattle.std.specs.Prelude.{◌&&◌, cond, Option, Some, None}
 use Rattle.std.specs.List.{slice_get}
 use Rattle.std.specs.Bool.{OnTrue}
 use Rattle.std.proofs.lemmas.Option.{slice_get_read}
@@ -14,7 +14,7 @@ use Rattle.std.proofs.lemmas.List.{drop_all, drop_more, drop-drop, take_all}
 use Rattle.json.specs.Filled.{Placed}
 use Rattle.json.proofs.Printed.Places.{Placed-then}
 use Rattle.json.proofs.Printed.Strings.{escape_byte_plain}
-use Rattle.shown.specs.Escapes.{AddsEscaped, Escaped, PlainBetween, may_escape}
+use Rattle.shown.specs.Escapes.{AddsEscaped, Escaped, PlainBetween, SeenBetween, may_escape}
 use Rattle.shown.specs.Print.{bytes_behind, escape, escape_byte, escape_first, escape_from, unseen, unseen_in}
 use Rattle.shown.specs.Sheets.{Adds, Keeps}
 use Rattle.shown.proofs.Blocks.{part_plain}
@@ -101,6 +101,62 @@ plain_part text from n within h =
     (λ k low high. ap (λ x. not (may_escape x)) (get_or-drop from text k 0) ∙ h (from + k) (omega arith) (omega arith))
     ∙ ap (λ l. take n (drop from text) ++ escape l) (drop-drop n from text)
 
+-- ** bytes that stand for themselves
+
+-- a byte that may need an escape, but for 0xe2
+abbrev pub may_alone : ℕ → Bool
+may_alone x = nat_lt x 0x20 || (x == 0x22) || (x == 0x5c) || (x == 0x7f) || (x == 0xc2) || (x == 0xd8)
+
+-- what stands behind 0xe2 in a character that has an escape
+abbrev pub goes_on : ℕ → Bool
+goes_on y = (y == 0x80) || (y == 0x81)
+
+quiet : (x y z : ℕ) → (x == 0x7f) ≡ false → (x == 0xc2) ≡ false → (x == 0xd8) ≡ false → (y == 0x80) ≡ false
+    → (y == 0x81) ≡ false → unseen x y z ≡ 0
+quiet x y z del two eight first second = rw (del, two, eight, first, second) (go (x == 0xe2) _ _ _ _)
+  where
+    go : (h p q : Bool) (m n : ℕ) → cond (h && false && p) m (cond (h && false && q) n 0) ≡ 0
+    go true p q m n = refl
+    go false p q m n = refl
+
+pub seen_at : (x y z : ℕ) → not (may_alone x) ≡ true → not (goes_on y) ≡ true
+    → (unseen x y z ≡ 0) × (escape_byte x ≡ x ∷ [])
+seen_at x y z alone others =
+    let behind = or_parts (y == 0x80) (y == 0x81) (not-true (goes_on y) others) in
+    let fifth = or_parts _ (x == 0xd8) (not-true (may_alone x) alone) in
+    let fourth = or_parts _ (x == 0xc2) fifth.0 in
+    let third = or_parts _ (x == 0x7f) fourth.0 in
+    let second = or_parts _ (x == 0x5c) third.0 in
+    let first = or_parts (nat_lt x 0x20) (x == 0x22) second.0 in (
+      quiet x y z third.1 fourth.1 fifth.1 behind.0 behind.1,
+      escape_byte_plain x (eqb-false x 34 first.1) (eqb-false x 92 second.1) (ltb-false x 32 first.0),
+    )
+
+-- two tests of the lanes, of bytes and of those behind them
+pub both_seen : (d : List ℕ) (from : ℕ) (a b : Bool)
+    → OnTrue a ((k : ℕ) → from ≤ k → k < from + 16 → not (may_alone (get_or d k 0)) ≡ true)
+    → OnTrue b ((k : ℕ) → from + 1 ≤ k → k < from + 1 + 16 → not (goes_on (get_or d k 0)) ≡ true)
+    → OnTrue (a && b) (SeenBetween d from (from + 16))
+both_seen d from true true alone others = λ k low high.
+    let here : k + 0 ≡ k = omega arith in
+    let first : get_or (drop k d) 0 0 ≡ get_or d k 0 = get_or-drop k d 0 0 ∙ ap (λ n. get_or d n 0) here in
+    let is =
+    seen_at (get_or (drop k d) 0 0) (get_or (drop k d) 1 0) (get_or (drop k d) 2 0)
+    (ap (λ x. not (may_alone x)) first ∙ alone k low high)
+    (ap (λ x. not (goes_on x)) (get_or-drop k d 1 0) ∙ others (k + 1) (omega arith) (omega arith)) in
+    (is.0, subst (λ x. escape_byte x ≡ x ∷ []) first is.1)
+both_seen d from true false alone others = tt
+both_seen d from false b alone others = tt
+
+pub seen_run : (n : ℕ) (t : List ℕ) → n ≤ length t → SeenBetween t 0 n → escape t ≡ take n t ++ escape (drop n t)
+seen_run zero t within h = refl
+seen_run (suc n) [] within h = absurd (omega arith)
+seen_run (suc n) (x ∷ s) within h =
+    let is = h 0 (omega arith) (omega arith) in
+    front_and_rest x s ∙ (λ i. escape_first (is.0 i) x ++ escape (drop (bytes_behind (is.0 i)) s))
+    ∙ ap (λ l. l ++ escape s) is.1
+    ∙ ap (λ l. x ∷ l) (seen_run n s (omega arith) (λ k from to. h (suc k) (omega arith) (omega arith)))
+
 -- ** one byte
 
 pub plain_byte : (x : ℕ) → (x == 34) || (x == 92) ≡ false → 32 ≤ x → escape_byte x ≡ x ∷ []
@@ -183,6 +239,23 @@ plain_stored {a} {b} {at} text from n within plain placed = record {
   room = omega arith;
 }
 
+pub seen_between_stored : {a b : List ℕ} {at : ℕ} (text : List ℕ) (from n : ℕ) → from + n ≤ length text
+    → SeenBetween text from (from + n) → Placed a b at (take n (drop from text)) (at + n)
+    → Escaped a b at (at + n) text from (from + n)
+seen_between_stored {a} {b} {at} text from n within seen placed = record {
+  piece = take n (drop from text);
+  placed = placed;
+  is = seen_run n (drop from text) (omega (arith, length-drop from text)) (λ k low high.
+      let here = seen (from + k) (omega arith) (omega arith) in (
+        ap unseen_in (drop-drop k from text) ∙ here.0,
+        ap (λ x. escape_byte x) (get_or-drop from text k 0) ∙ here.1
+            ∙ ap (λ x. x ∷ []) (sym (get_or-drop from text k 0)),
+      ))
+      ∙ ap (λ l. take n (drop from text) ++ escape l) (drop-drop n from text);
+  onwards = omega arith;
+  room = omega arith;
+}
+
 -- a part without bytes that may need an escape
 pub part_stored : {a b : List ℕ} {at : ℕ} (text : List ℕ) (from to : ℕ) → from ≤ to → to ≤ length text
     → PlainBetween (take (to - from) (drop from text)) 0 (length (take (to - from) (drop from text)))
@@ -245,6 +318,25 @@ byte_stored text from within h placed = record {
   onwards = omega arith;
   room = omega (arith, placed.moved);
 }
+
+-- a byte above DEL stands for itself where it begins nothing that has an escape
+pub seen_stored : {a b : List ℕ} {at end : ℕ} (text : List ℕ) (from : ℕ) → from < length text
+    → unseen_in (drop from text) ≡ 0 → 0x7f < get_or text from 0
+    → Placed a b at (get_or text from 0 ∷ []) end → Escaped a b at end text from (from + 1)
+seen_stored text from within none high placed =
+    let x = get_or text from 0 in
+    let one : from + 1 + 0 ≡ from + 1 = omega arith in
+    let itself : escape_byte x ≡ x ∷ [] =
+    escape_byte_plain x (λ is. omega (arith, is, high)) (λ is. omega (arith, is, high)) (omega (arith, high)) in
+    record {
+      piece = x ∷ [];
+      placed = placed;
+      is = at_place text from within
+          ∙ (λ i. escape_first (none i) x ++ escape (drop (from + 1 + bytes_behind (none i)) text))
+          ∙ (λ i. itself i ++ escape (drop (one i) text));
+      onwards = omega arith;
+      room = omega (arith, placed.moved);
+    }
 
 -- what was stored before at the same place is stored over
 pub stored_anew : {a b c text : List ℕ} {at end from to : ℕ} → take at b ≡ take at a → length b ≡ length a

@@ -1,8 +1,8 @@
 -- What is stored of a text with its escapes, part after part.
-use Rattle.std.specs.Prelude.{◌≡◌, ℕ, ◌+◌, ◌-◌, ◌*◌, ◌<◌, ◌≤◌, ◌==◌, ◌||◌, not, List, ◌++◌, Bool, true, drop, get_or}
-use Rattle.std.specs.Prelude.{nat_lt}
+use Rattle.std.specs.Prelude.{◌≡◌, ℕ, ◌+◌, ◌-◌, ◌*◌, ◌<◌, ◌≤◌, ◌==◌, ◌||◌, not, List}
+use Rattle.std.specs.Prelude.{[], ◌∷◌, ◌++◌, Bool, true, drop, get_or, nat_lt}
 use Rattle.json.specs.Filled.{Placed}
-use Rattle.shown.specs.Print.{escape}
+use Rattle.shown.specs.Print.{escape, escape_byte, unseen_in}
 use Rattle.shown.specs.Sheets.{Adds}
 
 -- a byte with which something begins that has an escape, or may have one
@@ -13,6 +13,11 @@ may_escape x =
 -- no byte from i up to j is one
 abbrev pub PlainBetween : List ℕ → ℕ → ℕ → Type 0
 PlainBetween text i j = (k : ℕ) → i ≤ k → k < j → not (may_escape (get_or text k 0)) ≡ true
+
+-- each byte from i up to j stands for itself
+abbrev pub SeenBetween : List ℕ → ℕ → ℕ → Type 0
+SeenBetween text i j = (k : ℕ) → i ≤ k → k < j
+    → (unseen_in (drop k text) ≡ 0) × (escape_byte (get_or text k 0) ≡ get_or text k 0 ∷ [])
 
 -- what a text has from one place up to another, which cuts no character, was stored with its escapes
 pub record Escaped (old new : List ℕ) (at end : ℕ) (text : List ℕ) (from to : ℕ) : Type 0 where

@@ -10,7 +10,7 @@ ghost use Rattle.shown.specs.Print.{escape_byte};
 ghost use Rattle.shown.specs.Escapes.{Escaped, may_escape};
 ghost use Rattle.shown.specs.Print.{bytes_behind, escape_first, unicode_escape, unseen, unseen_in};
 
-use crate::block::{put_byte, put_exactly, put_plain};
+use crate::block::{are_seen, put_byte, put_exactly, put_plain};
 
 /// The escape of each byte below a blank, at the front of six bytes, and its length.
 const CONTROLS: [([u8; 6], usize); 32] = [
@@ -159,7 +159,11 @@ fn put_escape(buf: &mut [u8], at: usize, text: &[u8], from: usize) -> (usize, us
     ensures onwards { (from < result.1) × (result.1 ≤ from + 3) }
 {
     let number = unseen_at(text, from);
-    let (escape, len) = escape_first(number, text[from]);
+    let byte = text[from];
+    if number == 0 && byte > 0x7f {
+        return (put_byte(buf, at, byte), from + 1);
+    }
+    let (escape, len) = escape_first(number, byte);
     buf[at..at + 6].copy_from_slice(&escape);
     (at + len, from + 1 + bytes_behind(number))
 }
@@ -217,7 +221,7 @@ fn put_few(buf: &mut [u8], at: usize, text: &[u8], from: usize, to: usize) -> (u
     (end, done)
 }
 
-/// Stores a block of a text: at once, where none of its bytes may need an escape.
+/// Stores a block of a text: at once, where each of its bytes stands for itself.
 #[inline(always)]
 fn put_part(buf: &mut [u8], at: usize, text: &[u8], from: usize) -> (usize, usize)
     requires within { from + 16 ≤ length text.now }
@@ -226,6 +230,9 @@ fn put_part(buf: &mut [u8], at: usize, text: &[u8], from: usize) -> (usize, usiz
     ensures reached { (from + 16 ≤ result.1) × (result.1 ≤ from + 18) }
 {
     if put_exactly(buf, at, text, from) {
+        return (at + 16, from + 16);
+    }
+    if text.len() - from > 16 && are_seen(text, from) {
         return (at + 16, from + 16);
     }
     put_few(buf, at, text, from, from + 16)

@@ -4,7 +4,7 @@ use Rattle.json.specs.Filled.{Placed}
 use Rattle.json.proofs.Printed.Places.{Placed-put_mid}
 use Rattle.shown.specs.Escapes.{Escaped}
 use Rattle.shown.specs.Print.{bytes_behind, escape_first, unseen_in}
-use Rattle.shown.proofs.Escapes.{character_stored}
+use Rattle.shown.proofs.Escapes.{character_stored, seen_stored}
 use Rattle.shown.proofs.escape.put_escape.Goals as goal
 
 pub returns-clause-escaped : goal.returns-clause-escaped
@@ -28,3 +28,9 @@ returns-clause-escaped c =
     subst (λ n. Escaped c.args.buf.now new at (at + len) text from n) to
     (character_stored text from c.requires.within c.escape_first-len.ensures.bound
     (subst (λ l. Placed c.args.buf.now new at l (at + len)) first put))
+
+pub returns-then-byte-gt127-clause-escaped : goal.returns-then-byte-gt127-clause-escaped
+returns-then-byte-gt127-clause-escaped c =
+    seen_stored c.args.text.now c.args.from c.requires.within
+    (omega (arith, c.unseen_at-number.ensures, c.if-number-eq0.true)) (omega (arith, c.if-byte-gt127.true))
+    c.put_byte.ensures
