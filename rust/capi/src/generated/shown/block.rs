@@ -42,6 +42,25 @@ pub(crate) fn put_exactly(buf: &mut [u8], at: usize, text: &[u8], from: usize) -
         == 0
 }
 
+/// Whether each of 16 bytes of a text, from one place of it on, stands for itself: none may need an escape but 0xe2,
+/// and behind none stands 0x80 or 0x81, with which the characters go on that begin with 0xe2 and have one.
+#[inline(always)]
+pub(crate) fn are_seen(text: &[u8], from: usize) -> bool {
+    let block = u8x16::from_slice(&text[from..]);
+    let next = u8x16::from_slice(&text[from + 1..]);
+    let are_alone = (block.simd_lt(u8x16::splat(0x20))
+        | block.simd_eq(u8x16::splat(b'"'))
+        | block.simd_eq(u8x16::splat(b'\\'))
+        | block.simd_eq(u8x16::splat(0x7f))
+        | block.simd_eq(u8x16::splat(0xc2))
+        | block.simd_eq(u8x16::splat(0xd8))).to_bitmask()
+        == 0;
+    let are_others = (next.simd_eq(u8x16::splat(0x80))
+        | next.simd_eq(u8x16::splat(0x81))).to_bitmask()
+        == 0;
+    are_alone & are_others
+}
+
 /// Stores a text of N to 2N bytes; whether none of them may need an escape.
 #[inline(always)]
 fn put_ends<const N: usize>(buf: &mut [u8], at: usize, text: &[u8]) -> bool {

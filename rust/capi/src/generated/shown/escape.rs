@@ -4,7 +4,7 @@
 //! An escape is made in six bytes, of which some count, as by the writer of the toolchain's crate `json`. Here all six
 //! are stored. Characters have escapes too that show nothing, or that turn what stands beside them.
 
-use crate::shown::block::{put_byte, put_exactly, put_plain};
+use crate::shown::block::{are_seen, put_byte, put_exactly, put_plain};
 
 /// The escape of each byte below a blank, at the front of six bytes, and its length.
 const CONTROLS: [([u8; 6], usize); 32] = [
@@ -127,7 +127,11 @@ fn escape_first(number: u16, byte: u8) -> ([u8; 6], usize) {
 #[inline(always)]
 fn put_escape(buf: &mut [u8], at: usize, text: &[u8], from: usize) -> (usize, usize) {
     let number = unseen_at(text, from);
-    let (escape, len) = escape_first(number, text[from]);
+    let byte = text[from];
+    if number == 0 && byte > 0x7f {
+        return (put_byte(buf, at, byte), from + 1);
+    }
+    let (escape, len) = escape_first(number, byte);
     buf[at..at + 6].copy_from_slice(&escape);
     (at + len, from + 1 + bytes_behind(number))
 }
@@ -171,10 +175,13 @@ fn put_few(buf: &mut [u8], at: usize, text: &[u8], from: usize, to: usize) -> (u
     (end, done)
 }
 
-/// Stores a block of a text: at once, where none of its bytes may need an escape.
+/// Stores a block of a text: at once, where each of its bytes stands for itself.
 #[inline(always)]
 fn put_part(buf: &mut [u8], at: usize, text: &[u8], from: usize) -> (usize, usize) {
     if put_exactly(buf, at, text, from) {
+        return (at + 16, from + 16);
+    }
+    if text.len() - from > 16 && are_seen(text, from) {
         return (at + 16, from + 16);
     }
     put_few(buf, at, text, from, from + 16)
