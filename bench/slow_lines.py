@@ -5,10 +5,7 @@ They are texts of which each byte wants an escape, or the last one does, names a
 no UTF-8, a key of ten million bytes, and lines that begin with no digit.
 """
 
-import sys
-from pathlib import Path
-
-from frames import frame, head, u32
+from frames import frame, head, u32, write_files
 
 IFLA_MTU, IFLA_IFALIAS, IFLA_PROP_LIST, IFLA_ALT_IFNAME = 4, 20, 52, 53
 
@@ -47,13 +44,4 @@ def lines():
     }
 
 
-def main():
-    if len(sys.argv) != 2:
-        sys.exit("usage: slow_lines.py FOLDER")
-    folder = Path(sys.argv[1])
-    folder.mkdir(parents=True, exist_ok=True)
-    for name, rows in lines().items():
-        (folder / name).write_bytes(b"".join(row + b"\n" for row in rows))
-
-
-main()
+write_files(lines())

@@ -2,15 +2,14 @@
 """Writes the lines of the workloads that users have, of the messages stored in messages.txt: usual_lines.py FOLDER.
 
 From line to line the index, the MTU, the last letter of the name and the counters of a message turn, so that no program
-gets it twice. Nothing is left to chance but what counters say, and that is the same each time.
+gets it twice. What is by chance is the same each time.
 """
 
 import random
 import struct
-import sys
 from pathlib import Path
 
-from frames import frame, head, u32
+from frames import frame, head, u32, write_files
 
 IFLA_ADDRESS, IFLA_IFNAME, IFLA_MTU, IFLA_STATS, IFLA_IFALIAS, IFLA_VFINFO_LIST, IFLA_STATS64 = 1, 3, 4, 7, 20, 22, 23
 HEADER_SIZE = 16
@@ -145,14 +144,4 @@ def lines():
     }
 
 
-def main():
-    if len(sys.argv) != 2:
-        sys.exit("usage: usual_lines.py FOLDER")
-    folder = Path(sys.argv[1])
-    folder.mkdir(parents=True, exist_ok=True)
-    for name, rows in lines().items():
-        with open(folder / name, "wb") as out:
-            out.writelines(row + b"\n" for row in rows)
-
-
-main()
+write_files(lines())
