@@ -71,7 +71,7 @@ for name, number in numbers:
 
 # hardware types, in the order of their numbers
 kinds = {kind: int(number) for kind, number in re.findall(r"LinkLayerType::(\w+) => (\d+),", read(TYPES))}
-names = dict(re.findall(r'LinkLayerType::(\w+) => "([^"]*)",', read(TYPES)))
+names = dict(re.findall(r'LinkLayerType::(\w+) => "([^"]*)",', read(TYPES.replace(".rt", "/names.rt"))))
 assert kinds.keys() == names.keys() and len(kinds) > 60, "numbers and names"
 types = sorted((number, names[kind].lower()) for kind, number in kinds.items())
 for name, wanted in (("operstate", listed("OPERSTATES")), ("linkmode", listed("LINK_MODES")),

@@ -7,7 +7,7 @@ ghost use Rattle.nla_wire.specs.Canon.{canons, AllFit, IsSmall};
 ghost use Rattle.link_info.specs.Meanings.{meaning, payload_as};
 ghost use Rattle.link_info.specs.Built.{Built, row_named, placed, has_number, Holds, IsSet, value_of, IsRefused};
 ghost use Rattle.link_info.specs.Built.{AreWhole, DataFit, list_of, kind_in, data_in, AreSet, AreRefused};
-ghost use Rattle.link_info.specs.Built.{IsSetTo, number_named, names_of, by_name, bits_named, bits_of};
+ghost use Rattle.link_info.specs.Built.{IsSetTo, by_name, bits_of};
 ghost use Rattle.link_info.specs.Lent.{row_now};
 ghost use Rattle.link_info.specs.Places.{place_of_kind};
 ghost use Rattle.link_info.specs.Rows.{rows_at};
@@ -16,9 +16,10 @@ ghost use Rattle.nla_wire.specs.Items.{items};
 ghost use Rattle.link_info.specs.declared.info.InfoError.TheVariants as why;
 
 use crate::holds::holds;
+use crate::named::{bits_of, by_name};
 use crate::place::Place;
 use crate::read::read;
-use crate::style::{Names, Plain, Row, Style};
+use crate::style::Row;
 use crate::value::Value;
 use crate::write::push_payload;
 use link_nest::LinkInfo;
@@ -121,61 +122,6 @@ fn put(frames: &mut Vec<DefaultNla>, frame: DefaultNla) -> Result<(), AllocError
             frames.push_reserved(frame);
             Ok(())
         }
-    }
-}
-
-/// The first number or bit of this name.
-fn number_named(names: Names, name: &str) -> Option<u64>
-    ensures { result ≡ number_named names.now name.now }
-{
-    names.iter().find(|row| row.1 == name).map(|row| row.0)
-}
-
-/// The names of numbers or bits of this style.
-fn names_of(style: Style) -> Names
-    ensures { result.now ≡ names_of style }
-{
-    match style.plain() {
-        Plain::Named(_, names) => names,
-        Plain::BigEndianNamed(_, names) => names,
-        Plain::Flags(_, names) => names,
-        Plain::BigEndianFlags(_, names) => names,
-        _ => &[],
-    }
-}
-
-/// The number of a name that the style has; another value as it is.
-fn by_name<'v>(style: Style, value: Value<'v>) -> Value<'v>
-    ensures { meaning result ≡ by_name style (meaning value.entry) }
-{
-    let Value::Text(name) = value else {
-        return value;
-    };
-    match number_named(names_of(style), name) {
-        Some(number) => Value::Unsigned(number),
-        None => value,
-    }
-}
-
-/// The bits of these names, if each has one.
-fn bits_named(names: Names, flags: &[&str]) -> Option<u64>
-    ensures { result ≡ bits_named names.now 0 flags.now }
-{
-    let mut bits = 0;
-    for flag in flags {
-        bits |= number_named(names, flag)?;
-    }
-    Some(bits)
-}
-
-/// The bits of these names, by a style of flags that has each.
-fn bits_of(style: Style, flags: &[&str]) -> Option<u64>
-    ensures { result ≡ bits_of style flags.now }
-{
-    match style.plain() {
-        Plain::Flags(_, names) => bits_named(names, flags),
-        Plain::BigEndianFlags(_, names) => bits_named(names, flags),
-        _ => None,
     }
 }
 
