@@ -1,31 +1,26 @@
-//! The outermost table: how attributes are read under the header's family, checked, and written again without memory.
+//! The outermost table: how a frame is read under the header's family, checked, and written again without memory.
 
-ghost use Rattle.std.specs.Prelude.{◌≡◌, ◌≢◌, ◌*◌, ◌<◌, ◌≤◌, ◌↔◌, length, vec_len, vec_capacity, IsTrue};
-ghost use Rattle.std.specs.Prelude.{IfOk, IfErr, MatchResult};
+ghost use Rattle.std.specs.Prelude.{◌≡◌, ◌<◌, ◌↔◌, length, vec_len, vec_capacity, IsTrue};
 ghost use Rattle.nla_wire.specs.Frames.{IsFrame, number};
-ghost use Rattle.nla_wire.specs.Grammar.{list};
-ghost use Rattle.nla_wire.specs.Canon.{canon, canons, AllFit, Weighs, HasRoom, Rewrites, RoomWhereFit, Canonical};
-ghost use Rattle.nla_wire.specs.Canon.{MeansEncoding};
-ghost use Rattle.link_msg.specs.Prefixes.{IsOwnText};
+ghost use Rattle.nla_wire.specs.Canon.{canon, Weighs, HasRoom, Rewrites};
 ghost use Rattle.link_msg.specs.declared.attribute.LinkAttribute.TheVariants.{Other};
 ghost use Rattle.link_msg.specs.declared.numbers.TheConstants.{IFLA_VF_PORTS};
-ghost use Rattle.nla_wire.specs.Gives.{Fails, Gives, Adds, Checks};
-ghost use Rattle.nla_wire.specs.declared.error.Cause.TheVariants.{OutOfMemory};
+ghost use Rattle.nla_wire.specs.Gives.{Adds, Checks};
+
+mod with_param;
 
 use crate::attribute::LinkAttribute;
 use crate::family::{parse_af_spec_into, parse_proto_info_into};
 use crate::numbers::*;
 use crate::payload::{parse_any, parse_functions, parse_mask, parse_ports, parse_some};
-use crate::prefix::copied_prefix;
 use crate::shape::Shape;
 use link_nest::WirelessEvent;
 use link_recs::{Map, Stats, Stats64};
 use link_vals::{AddressFamily, LinkEvent, LinkMode, LinkPhysId, State};
 use link_vf::{Entry, LinkVfPort};
 use nla_wire::{
-    Bytes, DecodeError, DefaultNla, NlaBuffer, NlasIterator, Place, add_len, check_members,
-    check_one, measure_members, padded_len, parse_i32, parse_members, parse_one, parse_string,
-    parse_u8, parse_u16, parse_u32, write_members, write_value,
+    Bytes, DecodeError, DefaultNla, NlaBuffer, Place, parse_i32, parse_string, parse_u8, parse_u16,
+    parse_u32, write_value,
 };
 use std::alloc::Global;
 
@@ -54,28 +49,7 @@ pub(crate) use push;
 
 impl LinkAttribute {
     ghost use Rattle.link_msg.specs.Plain.{NotPlain, NotText};
-    ghost use Rattle.link_msg.specs.Tables.{attribute_place, attribute_frame, AttributeFits, Values};
-    ghost use Rattle.link_msg.specs.Canonical.{ListWeighs, ListMeasures};
-
-    /// Reads a frame under the header's family: the number selects the variant, whatever the flag bits of the kind.
-    ///
-    /// Refuses with the cause of the first fault of the payload; or with `OutOfMemory`, which says nothing of the
-    /// bytes.
-    pub fn parse_with_param(
-        alloc: Global,
-        buffer: &NlaBuffer<'_>,
-        family: AddressFamily,
-    ) -> Result<LinkAttribute, DecodeError>
-        ensures found { IfOk result ((attribute_place family).means buffer.now) }
-        ensures fault { IfErr result
-            (λ e. e.cause ≢ OutOfMemory → (attribute_place family).bad buffer.now e.cause) }
-        ensures refused { IfErr result (λ e. e.cause ≢ OutOfMemory → (v : LinkAttribute)
-            → (attribute_place family).means buffer.now v → ⊥) }
-        ensures reads { Gives result ((attribute_place family).reads buffer.now) }
-    {
-        buffer.is_frame();
-        parse_one(&AttributePlace { family }, alloc, buffer)
-    }
+    ghost use Rattle.link_msg.specs.Tables.{attribute_place, attribute_frame, AttributeFits};
 
     /// Reads a frame into the room after the last value: its number selects the variant. Numbers, ids and records are
     /// read here, with no room on the stack for a value.
@@ -226,24 +200,6 @@ impl LinkAttribute {
         }
     }
 
-    /// Whether a frame is read under the header's family: refuses what `parse_with_param` refuses, with the same cause.
-    /// It takes no memory, and so never returns `OutOfMemory`.
-    pub fn check_with_param(
-        buffer: &NlaBuffer<'_>,
-        family: AddressFamily,
-    ) -> Result<(), DecodeError>
-        ensures found { IfOk result
-            (λ _. (v : LinkAttribute) × (attribute_place family).means buffer.now v) }
-        ensures fault { IfErr result (λ e. (attribute_place family).bad buffer.now e.cause) }
-        ensures refused { IfErr result
-            (λ e. (v : LinkAttribute) → (attribute_place family).means buffer.now v → ⊥) }
-        ensures memory { IfErr result (λ e. e.cause ≢ OutOfMemory) }
-        ensures reads { Checks result ((attribute_place family).reads buffer.now) }
-    {
-        buffer.is_frame();
-        check_one(&AttributePlace { family }, buffer)
-    }
-
     /// `Ok` where a frame is read, else its first fault, by the shape of its payload; for the proof: its clause cites
     /// the reader alone, and those of `check_with_param` follow.
     #[inline(always)]
@@ -272,31 +228,6 @@ impl LinkAttribute {
         }
     }
 
-    /// Whether a frame is canonical as it is spelled, but for its padding, and not an empty list of ports. One with
-    /// flags is not looked at.
-    #[inline(always)]
-    pub(crate) fn is_own_encoding(buffer: &NlaBuffer<'_>, family: AddressFamily) -> bool
-        ensures { IsTrue result → IsOwnText family buffer.now }
-    {
-        let payload = buffer.value();
-        if !has_no_flags(buffer) {
-            return false;
-        }
-        if is_empty_ports(buffer, payload.len()) {
-            return false;
-        }
-        let Some(shape) = Shape::of(buffer.kind(), payload.len(), family) else {
-            return true;
-        };
-        if !shape.is_copied() {
-            return false;
-        }
-        match shape.measure(payload) {
-            Some(len) => len == payload.len(),
-            None => false,
-        }
-    }
-
     /// Writes the canonical encoding of a frame that was measured to the front of the buffer, and returns its length
     /// with header and padding.
     #[inline(always)]
@@ -312,135 +243,6 @@ impl LinkAttribute {
             Some(shape) => shape.write(buffer.kind(), payload, out),
             None => write_value(buffer.kind_with_flags(), payload, out),
         }
-    }
-
-    /// Writes the canonical encoding of the value that a frame has under the header's family to the front of the
-    /// buffer, with no memory, and returns its length. The rest of the buffer is kept.
-    ///
-    /// There is room for that encoding: `growth_per_byte` bytes for each byte of header and payload are enough. Returns
-    /// `None` where the value does not fit or the frame is refused, and changes nothing then.
-    pub fn canon_with_param(
-        buffer: &NlaBuffer<'_>,
-        family: AddressFamily,
-        out: &mut [u8],
-    ) -> Option<usize>
-        requires room { RoomWhereFit (λ v. canon (attribute_frame v)) AttributeFits
-            ((attribute_place family).reads buffer.now) (length out.old) }
-        ensures means { MeansEncoding ((attribute_place family).means buffer.now)
-            (λ v. canon (attribute_frame v)) AttributeFits out.old out.new result }
-        ensures reads { Canonical (λ v. canon (attribute_frame v)) AttributeFits
-            ((attribute_place family).reads buffer.now) out.old out.new result }
-    {
-        buffer.is_frame();
-        let Some(_len) = LinkAttribute::measure_frame(buffer, family) else {
-            return None;
-        };
-        Some(LinkAttribute::write_frame(buffer, family, out))
-    }
-
-    /// Reads a list of attributes under the header's family. The empty payload is the empty list.
-    ///
-    /// Refuses with the cause of the fault that is met first, front to back, each value before the next frame; or with
-    /// `OutOfMemory`.
-    pub fn parse_list_with_param(
-        alloc: Global,
-        bytes: &[u8],
-        family: AddressFamily,
-    ) -> Result<Vec<LinkAttribute>, DecodeError>
-        ensures found { IfOk result (λ v. (list (attribute_place family)).means bytes.now v.items) }
-        ensures fault { IfErr result
-            (λ e. e.cause ≢ OutOfMemory → (list (attribute_place family)).bad bytes.now e.cause) }
-        ensures refused { IfErr result (λ e. e.cause ≢ OutOfMemory → (vs : Values)
-            → (list (attribute_place family)).means bytes.now vs → ⊥) }
-        ensures reads { MatchResult result (λ v. (list (attribute_place family)).reads bytes.now
-            ≡ Ok v.items) (λ e. Fails e.cause ((list (attribute_place family)).reads bytes.now)) }
-        ensures few { IfOk result (λ v. 4 * length v.items ≤ length bytes.now) }
-    {
-        parse_members(&AttributePlace { family }, alloc, bytes)
-    }
-
-    /// Whether the bytes are a list of attributes under the header's family, and the first fault if not. It takes no
-    /// memory.
-    pub fn check_list_with_param(bytes: &[u8], family: AddressFamily) -> Result<(), DecodeError>
-        ensures found { IfOk result
-            (λ _. (vs : Values) × (list (attribute_place family)).means bytes.now vs) }
-        ensures fault { IfErr result (λ e. (list (attribute_place family)).bad bytes.now e.cause) }
-        ensures refused { IfErr result
-            (λ e. (vs : Values) → (list (attribute_place family)).means bytes.now vs → ⊥) }
-        ensures memory { IfErr result (λ e. e.cause ≢ OutOfMemory) }
-        ensures reads { Checks result ((list (attribute_place family)).reads bytes.now) }
-    {
-        check_members(&AttributePlace { family }, bytes)
-    }
-
-    /// Writes the canonical encoding of a list of attributes under the header's family to the front of the buffer, with
-    /// no memory, and returns its length. The rest of the buffer is kept.
-    ///
-    /// There is room for that encoding: `growth_per_byte` bytes for each byte of the list are enough. Returns `None`
-    /// where an attribute does not fit or the list is refused, and changes nothing then.
-    pub fn canon_list_with_param(
-        bytes: &[u8],
-        family: AddressFamily,
-        out: &mut [u8],
-    ) -> Option<usize>
-        requires room { RoomWhereFit (canons attribute_frame) (AllFit AttributeFits attribute_frame)
-            ((list (attribute_place family)).reads bytes.now) (length out.old) }
-        ensures means { MeansEncoding ((list (attribute_place family)).means bytes.now)
-            (canons attribute_frame) (AllFit AttributeFits attribute_frame)
-            out.old out.new result }
-        ensures reads { Canonical (canons attribute_frame) (AllFit AttributeFits attribute_frame)
-            ((list (attribute_place family)).reads bytes.now) out.old out.new result }
-    {
-        let Some(_len) = measure_members(&AttributePlace { family }, bytes) else {
-            return None;
-        };
-        Some(write_members(&AttributePlace { family }, bytes, out))
-    }
-
-    /// The length of the canonical encoding of a list of attributes under the header's family, and whether an empty
-    /// list of ports is among them, with no memory; `None` where one does not fit, or the list is refused.
-    ///
-    /// A list of ports has an encoding of no bytes exactly where it is empty, so that the same walk tells it.
-    fn measure_with_ports(bytes: &[u8], family: AddressFamily) -> Option<(usize, bool)>
-        ensures { ListWeighs ((list (attribute_place family)).reads bytes.now) result }
-    {
-        let mut len: usize = 0;
-        let mut empty = false;
-        for item in NlasIterator::new(bytes) {
-            let Ok(frame) = item else {
-                return None;
-            };
-            let Some(value) = LinkAttribute::measure_frame(&frame, family) else {
-                return None;
-            };
-            let Some(more) = add_len(len, padded_len(value)) else {
-                return None;
-            };
-            if is_empty_ports(&frame, value) {
-                empty = true;
-            }
-            len = more;
-        }
-        Some((len, empty))
-    }
-
-    /// The same of a whole list, and how many bytes in front are canonical as they are spelled: these are looked at
-    /// first, and only what stands after them is measured.
-    pub(crate) fn measure_list_with_param(
-        bytes: &[u8],
-        family: AddressFamily,
-    ) -> Option<(usize, bool, usize)>
-        ensures { ListMeasures family bytes.now result }
-    {
-        let prefix = copied_prefix(bytes, family);
-        let Some((after, empty)) = LinkAttribute::measure_with_ports(&bytes[prefix..], family)
-        else {
-            return None;
-        };
-        let Some(len) = add_len(prefix, after) else {
-            return None;
-        };
-        Some((len, empty, prefix))
     }
 }
 
@@ -458,17 +260,9 @@ fn keep_into(
     Ok(())
 }
 
-/// Whether the kind of a frame is its number alone.
-#[inline(always)]
-fn has_no_flags(buffer: &NlaBuffer<'_>) -> bool
-    ensures { IsTrue result ↔ (buffer.now.kind ≡ number buffer.now) }
-{
-    buffer.kind_with_flags() == buffer.kind()
-}
-
 /// Whether a frame whose value has an encoding of so many bytes is an empty list of ports.
 #[inline(always)]
-fn is_empty_ports(buffer: &NlaBuffer<'_>, value_len: usize) -> bool
+pub(crate) fn is_empty_ports(buffer: &NlaBuffer<'_>, value_len: usize) -> bool
     ensures told { IsTrue result ↔ ((number buffer.now ≡ IFLA_VF_PORTS) × (value_len ≡ 0)) }
     ensures frame { IsFrame buffer.now }
 {
