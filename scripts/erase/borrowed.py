@@ -1,10 +1,10 @@
 #!/usr/bin/env python3
-"""Fills in the values over borrowed bytes of crates/link_view, `borrowed`, `nest`, `afspec` and `vf`, of the rows of
-`LinkAttribute`, of those of the enums of inner lists, and of the lines of their tables. What else is written of an enum
-of an inner list is made of what stands there of the first one, with other names. The proof refuses a row that does not
-fit its table."""
-import functools
+"""Fills in the values over borrowed bytes of crates/link_view, `borrowed` and the files of `nest`, `afspec` and `vf`,
+of the rows of `LinkAttribute`, of those of the enums of inner lists, each in its file, and of the lines of their
+tables. What else is written of an enum of an inner list is made of what stands there of the first one, with other
+names. The proof refuses a row that does not fit its table."""
 import re
+from functools import lru_cache, partial
 
 import keys
 from rules import TABLES
@@ -29,7 +29,7 @@ impl<'a> [\s\S]*?unfolding\(([\s\S]*?)\)\)\]
 """, re.M)
 
 
-@functools.lru_cache(maxsize=None)
+@lru_cache(maxsize=None)
 def table_of(crate):
     return (keys.CRATES / crate / "specs" / "Tables.antt").read_text("utf-8")
 
@@ -116,17 +116,22 @@ def module_of(crate):
     return crate.removeprefix("link_")
 
 
+def file_of(crate, enum):
+    return f"src/{module_of(crate)}/{keys.snake(enum)}.rt"
+
+
 def names(crate, enum):
     """The names of an enum in what is written of it."""
     return place_of(crate, enum), f"owned_{keys.snake(enum)}", enum, f"specs.{module_of(crate).capitalize()}."
 
 
-def block(crate, enum, said, rows):
-    """What is written of an enum: what stands there of the first one, with other names, and parts made of the rows."""
-    found = BLOCK.search((VIEW / f"src/{module_of(keys.INNER[0])}.rt").read_text("utf-8"))
+def member(crate, enum, said, rows, there):
+    """The file of an enum: behind its imports what is in that of the first, with other names, and what rows make."""
+    first = keys.INNER[0], next(inner(keys.INNER[0]))[0]
+    found = BLOCK.search((VIEW / file_of(*first)).read_text("utf-8"))
     ends = [found.start(), *map(found.end, range(1, 6))], [*map(found.start, range(1, 6)), found.end()]
     text = "\0".join(found.string[start:end] for start, end in zip(*ends))
-    for one, other in zip(names(keys.INNER[0], found[2]), names(crate, enum)):
+    for one, other in zip(names(*first), names(crate, enum)):
         text = text.replace(one, other)
     opened = [f"{crate}::specs::Tables::{place_of(crate, enum)}"]
     opened += ["nla_wire::specs::Grammar::unless_empty"] * any(row.how == "some" for row in rows)
@@ -136,15 +141,8 @@ def block(crate, enum, said, rows):
     said = f"{said.split(' (linux/')[0].rstrip('.')} over borrowed bytes: a variant for each of `{enum}`."
     for part in (said, enum, "\n".join(variants(rows)), ", ".join(opened), "\n".join(body)):
         text = text.replace("\0", part, 1)
-    return text if rows else re.sub(r"\bkind\b", "_kind", text, count=2)     # `read` looks at none
-
-
-def members(crate, text):
-    made = {enum: block(crate, enum, said, rows) for enum, said, rows in inner(crate)}
-    there = [found[2] for found in BLOCK.finditer(text)]
-    if sorted(there) != sorted(made):
-        raise ValueError(f"borrowed.py: {module_of(crate)}.rt has {', '.join(there)}, and not {', '.join(made)}")
-    return BLOCK.sub(lambda found: made[found[2]], text)
+    text = text if rows else re.sub(r"\bkind\b", "_kind", text, count=2)     # `read` looks at none
+    return between(there, r"^(/// [\s\S]*)\Z", [text])
 
 
 def member_specs(crate, text):
@@ -168,10 +166,12 @@ def squeezed(text):
 
 def stale():
     """The files that are not what is made of the rows, each with its text."""
-    makes = {"src/borrowed.rt": attributes, "specs/Borrowed.antt": attribute_specs}
+    makes = {file_of(crate, one[0]): partial(member, crate, *one) for crate in keys.INNER for one in inner(crate)}
+    for it in {str(path.relative_to(VIEW)) for path in VIEW.glob("src/*/*")} ^ makes.keys():
+        raise ValueError(f"borrowed.py: {it} and an enum of its name are not both there")
+    makes |= {"src/borrowed.rt": attributes, "specs/Borrowed.antt": attribute_specs}
     for crate in keys.INNER:
-        makes[f"src/{module_of(crate)}.rt"] = functools.partial(members, crate)
-        makes[f"specs/{module_of(crate).capitalize()}.antt"] = functools.partial(member_specs, crate)
+        makes[f"specs/{module_of(crate).capitalize()}.antt"] = partial(member_specs, crate)
     for path, make in makes.items():
         there = VIEW / path
         before = there.read_text("utf-8")

@@ -7,24 +7,25 @@ use Rattle.nla_wire.specs.Grammar.{list, not_empty}
 use Rattle.link_afspec.specs.Tables.{af_spec_mctp_place, af_spec_inet_place, af_spec_inet6_place}
 use Rattle.link_afspec.specs.declared.inet.AfSpecInet.{AfSpecInet}
 use Rattle.link_afspec.specs.declared.inet.AfSpecInet.TheVariants as AfSpecInetOf
-use Rattle.link_view.specs.declared.afspec.BorrowedAfSpecInet.{BorrowedAfSpecInet}
-use Rattle.link_view.specs.declared.afspec.BorrowedAfSpecInet.TheVariants as BorrowedAfSpecInetOf
+use Rattle.link_view.specs.declared.afspec.af_spec_inet.BorrowedAfSpecInet.{BorrowedAfSpecInet}
+use Rattle.link_view.specs.declared.afspec.af_spec_inet.BorrowedAfSpecInet.TheVariants as BorrowedAfSpecInetOf
 use Rattle.link_afspec.specs.declared.inet6.AfSpecInet6.{AfSpecInet6}
 use Rattle.link_afspec.specs.declared.inet6.AfSpecInet6.TheVariants as AfSpecInet6Of
-use Rattle.link_view.specs.declared.afspec.BorrowedAfSpecInet6.{BorrowedAfSpecInet6}
-use Rattle.link_view.specs.declared.afspec.BorrowedAfSpecInet6.TheVariants as BorrowedAfSpecInet6Of
+use Rattle.link_view.specs.declared.afspec.af_spec_inet6.BorrowedAfSpecInet6.{BorrowedAfSpecInet6}
+use Rattle.link_view.specs.declared.afspec.af_spec_inet6.BorrowedAfSpecInet6.TheVariants as BorrowedAfSpecInet6Of
 use Rattle.link_afspec.specs.declared.mctp.AfSpecMctp.{AfSpecMctp}
 use Rattle.link_afspec.specs.declared.mctp.AfSpecMctp.TheVariants as AfSpecMctpOf
-use Rattle.link_view.specs.declared.afspec.BorrowedAfSpecMctp.{BorrowedAfSpecMctp}
-use Rattle.link_view.specs.declared.afspec.BorrowedAfSpecMctp.TheVariants as BorrowedAfSpecMctpOf
+use Rattle.link_view.specs.declared.afspec.af_spec_mctp.BorrowedAfSpecMctp.{BorrowedAfSpecMctp}
+use Rattle.link_view.specs.declared.afspec.af_spec_mctp.BorrowedAfSpecMctp.TheVariants as BorrowedAfSpecMctpOf
 use Rattle.link_afspec.specs.declared.proto_inet6.LinkProtoInfoInet6.{LinkProtoInfoInet6}
 use Rattle.link_afspec.specs.declared.proto_inet6.LinkProtoInfoInet6.TheVariants as LinkProtoInfoInet6Of
-use Rattle.link_view.specs.declared.afspec.BorrowedLinkProtoInfoInet6.{BorrowedLinkProtoInfoInet6}
-use Rattle.link_view.specs.declared.afspec.BorrowedLinkProtoInfoInet6.TheVariants as BorrowedLinkProtoInfoInet6Of
+use Rattle.link_view.specs.declared.afspec.link_proto_info_inet6.BorrowedLinkProtoInfoInet6 as proto_inet6
+use proto_inet6.{BorrowedLinkProtoInfoInet6}
+use proto_inet6.TheVariants as BorrowedLinkProtoInfoInet6Of
 use Rattle.link_afspec.specs.declared.unspec.AfSpecUnspec.{AfSpecUnspec}
 use Rattle.link_afspec.specs.declared.unspec.AfSpecUnspec.TheVariants as AfSpecUnspecOf
-use Rattle.link_view.specs.declared.afspec.BorrowedAfSpecUnspec.{BorrowedAfSpecUnspec}
-use Rattle.link_view.specs.declared.afspec.BorrowedAfSpecUnspec.TheVariants as BorrowedAfSpecUnspecOf
+use Rattle.link_view.specs.declared.afspec.af_spec_unspec.BorrowedAfSpecUnspec.{BorrowedAfSpecUnspec}
+use Rattle.link_view.specs.declared.afspec.af_spec_unspec.BorrowedAfSpecUnspec.TheVariants as BorrowedAfSpecUnspecOf
 
 -- what `parse` reads of it: the same variant with the same value; of a list what its payload is read as, or its fault
 abbrev pub owned_af_spec_inet : BorrowedAfSpecInet → Result AfSpecInet Cause

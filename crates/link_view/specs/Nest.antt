@@ -4,28 +4,29 @@ use Rattle.std.specs.Prelude.{Result, Ok}
 use Rattle.nla_wire.specs.declared.error.Cause.{Cause}
 use Rattle.link_nest.specs.declared.devlink_port.DevlinkPort.{DevlinkPort}
 use Rattle.link_nest.specs.declared.devlink_port.DevlinkPort.TheVariants as DevlinkPortOf
-use Rattle.link_view.specs.declared.nest.BorrowedDevlinkPort.{BorrowedDevlinkPort}
-use Rattle.link_view.specs.declared.nest.BorrowedDevlinkPort.TheVariants as BorrowedDevlinkPortOf
+use Rattle.link_view.specs.declared.nest.devlink_port.BorrowedDevlinkPort.{BorrowedDevlinkPort}
+use Rattle.link_view.specs.declared.nest.devlink_port.BorrowedDevlinkPort.TheVariants as BorrowedDevlinkPortOf
 use Rattle.link_nest.specs.declared.down_reason.LinkProtocolDownReason.{LinkProtocolDownReason}
 use Rattle.link_nest.specs.declared.down_reason.LinkProtocolDownReason.TheVariants as LinkProtocolDownReasonOf
-use Rattle.link_view.specs.declared.nest.BorrowedLinkProtocolDownReason.{BorrowedLinkProtocolDownReason}
-use Rattle.link_view.specs.declared.nest.BorrowedLinkProtocolDownReason.TheVariants as BorrowedLinkProtocolDownReasonOf
+use Rattle.link_view.specs.declared.nest.link_protocol_down_reason.BorrowedLinkProtocolDownReason as down_reason
+use down_reason.{BorrowedLinkProtocolDownReason}
+use down_reason.TheVariants as BorrowedLinkProtocolDownReasonOf
 use Rattle.link_nest.specs.declared.dpll_pin.DpllPin.{DpllPin}
 use Rattle.link_nest.specs.declared.dpll_pin.DpllPin.TheVariants as DpllPinOf
-use Rattle.link_view.specs.declared.nest.BorrowedDpllPin.{BorrowedDpllPin}
-use Rattle.link_view.specs.declared.nest.BorrowedDpllPin.TheVariants as BorrowedDpllPinOf
+use Rattle.link_view.specs.declared.nest.dpll_pin.BorrowedDpllPin.{BorrowedDpllPin}
+use Rattle.link_view.specs.declared.nest.dpll_pin.BorrowedDpllPin.TheVariants as BorrowedDpllPinOf
 use Rattle.link_nest.specs.declared.link_info.LinkInfo.{LinkInfo}
 use Rattle.link_nest.specs.declared.link_info.LinkInfo.TheVariants as LinkInfoOf
-use Rattle.link_view.specs.declared.nest.BorrowedLinkInfo.{BorrowedLinkInfo}
-use Rattle.link_view.specs.declared.nest.BorrowedLinkInfo.TheVariants as BorrowedLinkInfoOf
+use Rattle.link_view.specs.declared.nest.link_info.BorrowedLinkInfo.{BorrowedLinkInfo}
+use Rattle.link_view.specs.declared.nest.link_info.BorrowedLinkInfo.TheVariants as BorrowedLinkInfoOf
 use Rattle.link_nest.specs.declared.prop_list.Prop.{Prop}
 use Rattle.link_nest.specs.declared.prop_list.Prop.TheVariants as PropOf
-use Rattle.link_view.specs.declared.nest.BorrowedProp.{BorrowedProp}
-use Rattle.link_view.specs.declared.nest.BorrowedProp.TheVariants as BorrowedPropOf
+use Rattle.link_view.specs.declared.nest.prop.BorrowedProp.{BorrowedProp}
+use Rattle.link_view.specs.declared.nest.prop.BorrowedProp.TheVariants as BorrowedPropOf
 use Rattle.link_nest.specs.declared.xdp.LinkXdp.{LinkXdp}
 use Rattle.link_nest.specs.declared.xdp.LinkXdp.TheVariants as LinkXdpOf
-use Rattle.link_view.specs.declared.nest.BorrowedLinkXdp.{BorrowedLinkXdp}
-use Rattle.link_view.specs.declared.nest.BorrowedLinkXdp.TheVariants as BorrowedLinkXdpOf
+use Rattle.link_view.specs.declared.nest.link_xdp.BorrowedLinkXdp.{BorrowedLinkXdp}
+use Rattle.link_view.specs.declared.nest.link_xdp.BorrowedLinkXdp.TheVariants as BorrowedLinkXdpOf
 
 -- what `parse` reads of it: the same variant with the same value; of a list what its payload is read as, or its fault
 abbrev pub owned_devlink_port : BorrowedDevlinkPort → Result DevlinkPort Cause

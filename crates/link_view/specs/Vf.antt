@@ -7,20 +7,20 @@ use Rattle.nla_wire.specs.Grammar.{list}
 use Rattle.link_vf.specs.Tables.{vf_stats_place, vf_vlan_place}
 use Rattle.link_vf.specs.declared.stats.VfStats.{VfStats}
 use Rattle.link_vf.specs.declared.stats.VfStats.TheVariants as VfStatsOf
-use Rattle.link_view.specs.declared.vf.BorrowedVfStats.{BorrowedVfStats}
-use Rattle.link_view.specs.declared.vf.BorrowedVfStats.TheVariants as BorrowedVfStatsOf
+use Rattle.link_view.specs.declared.vf.vf_stats.BorrowedVfStats.{BorrowedVfStats}
+use Rattle.link_view.specs.declared.vf.vf_stats.BorrowedVfStats.TheVariants as BorrowedVfStatsOf
 use Rattle.link_vf.specs.declared.vf_info.VfInfo.{VfInfo}
 use Rattle.link_vf.specs.declared.vf_info.VfInfo.TheVariants as VfInfoOf
-use Rattle.link_view.specs.declared.vf.BorrowedVfInfo.{BorrowedVfInfo}
-use Rattle.link_view.specs.declared.vf.BorrowedVfInfo.TheVariants as BorrowedVfInfoOf
+use Rattle.link_view.specs.declared.vf.vf_info.BorrowedVfInfo.{BorrowedVfInfo}
+use Rattle.link_view.specs.declared.vf.vf_info.BorrowedVfInfo.TheVariants as BorrowedVfInfoOf
 use Rattle.link_vf.specs.declared.vf_port.VfPort.{VfPort}
 use Rattle.link_vf.specs.declared.vf_port.VfPort.TheVariants as VfPortOf
-use Rattle.link_view.specs.declared.vf.BorrowedVfPort.{BorrowedVfPort}
-use Rattle.link_view.specs.declared.vf.BorrowedVfPort.TheVariants as BorrowedVfPortOf
+use Rattle.link_view.specs.declared.vf.vf_port.BorrowedVfPort.{BorrowedVfPort}
+use Rattle.link_view.specs.declared.vf.vf_port.BorrowedVfPort.TheVariants as BorrowedVfPortOf
 use Rattle.link_vf.specs.declared.vf_vlan.VfVlan.{VfVlan}
 use Rattle.link_vf.specs.declared.vf_vlan.VfVlan.TheVariants as VfVlanOf
-use Rattle.link_view.specs.declared.vf.BorrowedVfVlan.{BorrowedVfVlan}
-use Rattle.link_view.specs.declared.vf.BorrowedVfVlan.TheVariants as BorrowedVfVlanOf
+use Rattle.link_view.specs.declared.vf.vf_vlan.BorrowedVfVlan.{BorrowedVfVlan}
+use Rattle.link_view.specs.declared.vf.vf_vlan.BorrowedVfVlan.TheVariants as BorrowedVfVlanOf
 
 -- what `parse` reads of it: the same variant with the same value; of a list what its payload is read as, or its fault
 abbrev pub owned_vf_stats : BorrowedVfStats → Result VfStats Cause

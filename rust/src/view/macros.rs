@@ -108,7 +108,7 @@ macro_rules! members {
             use super::{AddressFamily, Attribute, BorrowedAttributes, DecodeError, Key, ListView, Place, Sought};
             #[allow(unused_imports)]
             use crate::$numbers::numbers;
-            use crate::link_view::$file::$borrowed as Borrowed;
+            use crate::link_view::$file::$module::$borrowed as Borrowed;
 
             $(
                 $(#[$row_docs])+
