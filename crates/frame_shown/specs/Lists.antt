@@ -10,10 +10,10 @@ use Rattle.frame_shown.specs.declared.form.Around.{Around}
 use Rattle.frame_shown.specs.declared.form.List.{List as Shape}
 use Rattle.frame_shown.specs.declared.form.List.TheVariants as Shapes
 use Rattle.frame_shown.specs.declared.form.Order.{Order}
-use Rattle.frame_shown.specs.declared.list.Left.{Left}
-use Rattle.frame_shown.specs.declared.list.Left.TheVariants as Lefts
-use Rattle.frame_shown.specs.declared.list.Said.{Said}
-use Rattle.frame_shown.specs.declared.list.Said.TheVariants as Saids
+use Rattle.frame_shown.specs.declared.list.left.Left.{Left}
+use Rattle.frame_shown.specs.declared.list.left.Left.TheVariants as Lefts
+use Rattle.frame_shown.specs.declared.list.left.Said.{Said}
+use Rattle.frame_shown.specs.declared.list.left.Said.TheVariants as Saids
 
 -- an attribute is kept as it is, or is a value of a list
 abbrev pub said_kept : Said → Bool

@@ -1,0 +1,14 @@
+use Rattle.std.proofs.Common.{◌≡◌, ℕ, ◌+◌, ◌<◌, length}
+use Rattle.std.specs.Prelude.{slice_index}
+use Rattle.nla_wire.specs.Items.{items}
+use Rattle.frame_shown.specs.Items.{count_of}
+use Rattle.frame_shown.specs.Frames.{items_in}
+use Rattle.frame_shown.proofs.list.repeated.count.Given as goal
+
+abbrev pub invariant-loop-item : goal.invariant-loop-item
+invariant-loop-item g l = record {
+  size : length l.counts ≡ 256;
+  told : (n : ℕ) → n < 256
+      → slice_index l.counts n + count_of n (items_in (g.D.Depth.nest l.cx) l.cx l.list l.item-iterator)
+      ≡ count_of n (items_in (g.D.Depth.nest l.cx) l.cx l.list (items l.bytes));
+}
