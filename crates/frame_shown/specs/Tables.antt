@@ -23,7 +23,7 @@ use Rattle.frame_shown.specs.declared.form.List.{List as Shape}
 use Rattle.frame_shown.specs.declared.form.List.TheVariants as Shapes
 use Rattle.frame_shown.specs.declared.form.Manner.{Manner}
 use Rattle.frame_shown.specs.declared.form.Manner.TheVariants as Manners
-use Rattle.frame_shown.specs.declared.form.Rows.{Rows as Standing}
+use Rattle.frame_shown.specs.declared.row.Rows.{Rows as Standing}
 use Rattle.frame_shown.specs.declared.form.Table.{Table}
 use Rattle.frame_shown.specs.declared.form.Table.TheVariants as Tables
 use Rattle.frame_shown.specs.declared.form.Way.{Way}

@@ -3,11 +3,13 @@
 #![tactic(auto)]
 
 pub mod accepted;
+mod apart;
 pub mod depth;
 pub mod form;
 mod kept;
 pub mod laws;
 pub mod list;
 pub mod message;
+mod row;
 pub mod tables;
 pub mod value;

@@ -11,8 +11,10 @@ ghost use Rattle.frame_shown.specs.Frames.{items_in, values_by};
 ghost use Rattle.frame_shown.specs.Tables.{is_each, is_listed, lists_in, lists_of, row_in};
 ghost use Rattle.frame_shown.specs.declared.form.Way.TheVariants as Ways;
 
+use crate::apart::is_listed;
 use crate::depth::Depth;
-use crate::form::{Around, List, Manner, data_rows, found_in, is_listed};
+use crate::form::{Around, List, Manner};
+use crate::row::{data_rows, found_in};
 use crate::value::show_style;
 use link_info::{Row as PlaceRow, Style};
 use nla_wire::NlasIterator;

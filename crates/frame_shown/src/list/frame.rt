@@ -12,12 +12,11 @@ ghost use Rattle.frame_shown.specs.Values.{form_shown, style_shown};
 ghost use Rattle.link_info.specs.declared.style.Style.TheVariants as S;
 ghost use Rattle.shown.specs.Keys.{IsKey};
 
+use crate::apart::{is_each_by, is_kept_by, is_kept_form, is_listed};
 use crate::depth::Depth;
-use crate::form::{
-    Around, Form, List, Manner, Rows, Way, found_by, found_in, is_each_by, is_kept_by,
-    is_kept_form, is_listed, own_rows,
-};
+use crate::form::{Around, Form, List, Manner, Way};
 use crate::list::left::{Left, Said};
+use crate::row::{Rows, found_by, found_in, own_rows};
 use crate::value::{number_at, show_form, show_style, show_text};
 use link_info::{Member, Place, Style};
 use nla_wire::{NlaBuffer, NlasIterator};

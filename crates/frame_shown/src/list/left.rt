@@ -9,10 +9,12 @@ ghost use Rattle.frame_shown.specs.Frames.{frame_item, items_in};
 ghost use Rattle.frame_shown.specs.Tables.{lists_in};
 ghost use Rattle.frame_shown.specs.Lists.{left_kept, left_value, said_kept, said_value};
 
+use crate::apart::{is_each_by, is_kept_by, kind_shown};
 use crate::depth::Depth;
-use crate::form::{Around, List, found_in, is_each_by, is_kept_by, kind_shown};
+use crate::form::{Around, List};
 use crate::kept::show_kept;
 use crate::list::arrays::show_lists;
+use crate::row::found_in;
 use nla_wire::{NlaBuffer, NlasIterator};
 use shown::{Nest, Page};
 use std::alloc::AllocError;

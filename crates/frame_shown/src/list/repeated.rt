@@ -10,10 +10,11 @@ ghost use Rattle.frame_shown.specs.Frames.{are_twice, by_number, items_in};
 ghost use Rattle.frame_shown.specs.Tables.{lists_in};
 
 use crate::depth::Depth;
-use crate::form::{Around, List, NUMBERS, own_rows};
+use crate::form::{Around, List};
 use crate::list::arrays::show_lists;
 use crate::list::frame::{number_in, show_frame, show_named};
 use crate::list::left::{left_by, show_others};
+use crate::row::{NUMBERS, own_rows};
 use nla_wire::{NlaBuffer, NlasIterator};
 use shown::{Nest, Page};
 use std::alloc::AllocError;

@@ -1,6 +1,6 @@
 use Rattle.frame_shown.proofs.RowKeys.{keyed_by, message_key, refused_key, table_key}
 use Rattle.frame_shown.specs.Tables.{manner_way}
-use Rattle.frame_shown.proofs.form.found_in.Goals as goal
+use Rattle.frame_shown.proofs.row.found_in.Goals as goal
 
 pub returns-in-Message-clause-key : goal.returns-in-Message-clause-key
 returns-in-Message-clause-key c =

@@ -1,7 +1,7 @@
 use Rattle.std.proofs.Common.{◌≡◌, ◌+◌, ◌-◌, ◌∙◌, ap, arith, map, sym}
 use Rattle.frame_shown.specs.Tables.{row_by}
 use Rattle.frame_shown.proofs.Placed.{none_behind, none_below, row_there}
-use Rattle.frame_shown.proofs.form.row_from.Goals as goal
+use Rattle.frame_shown.proofs.row.row_from.Goals as goal
 
 pub returns-then-number-first : goal.returns-then-number-first
 returns-then-number-first c =

@@ -1,6 +1,6 @@
 use Rattle.frame_shown.specs.Tables.{manner_way}
 use Rattle.frame_shown.proofs.RowKeys.{key_among, keyed_by}
-use Rattle.frame_shown.proofs.form.found_by.Goals as goal
+use Rattle.frame_shown.proofs.row.found_by.Goals as goal
 
 pub returns-clause-key : goal.returns-clause-key
 returns-clause-key c =
