@@ -51,7 +51,7 @@ class Repository:
         self.read_records()
         self.read_places()
         # the rows of the places that linkshow shows as lists
-        code = self.code("frame_shown/src/tables.rt")
+        code = self.code("frame_shown/src/tables/*.rt")
         shown = re.findall(r'"([\w-]+)",\s*Form::List\(\s*List::(?:Listed|Entries)\(', code)
         names = {name.replace("-", "") for name in shown}
         nests = {row.form.place for rows in self.places.values() for row in rows if row.name.lower() in names}

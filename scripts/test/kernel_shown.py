@@ -7,7 +7,7 @@ import re
 
 from kernel_names import OWN_FIELDS, PLACES, REASONS, ROWS
 
-NAMES = "frame_shown/src/tables.rt"
+NAMES = "frame_shown/src/tables/*.rt"
 SPELLED = re.compile(r"\b(?:Form|Field)::\w+(?:\((?:[^()]|\([^()]*\))*\))?")
 FORMS, FIELDS = dict(ROWS["forms shown"]), dict(ROWS["fields shown"])
 
@@ -62,7 +62,7 @@ def compare_shown(ours, headers, report):
     known = dict(ROWS["shown"])
     found = dict(tables(ours.code(NAMES)))
     del found["KERNEL_NAMES"]   # those of MESSAGE in another spelling, as the proof says
-    report.same_names("table of tables.rt", found, known)
+    report.same_names("table of frame_shown", found, known)
     for table in filter(known.get, found):
         kind, rows = known[table], found[table]
         if kind in ours.places:

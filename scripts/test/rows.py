@@ -41,8 +41,8 @@ def of_header(name):
 
 
 def listed(name):
-    """The names of a table of tables.rt, in the order of their numbers or bits."""
-    found = dict(tables(read(f"crates/{NAMES}")))[name]
+    """The names of a table of frame_shown, in the order of their numbers or bits."""
+    found = dict(tables(read_all(f"crates/{NAMES}")))[name]
     assert all(len(row) == 1 or row[0] == 1 << at for at, row in enumerate(found)), name
     return [row[-1] for row in found]
 

@@ -24,7 +24,7 @@ use Rattle.frame_shown.specs.declared.form.List.TheVariants as Shapes
 use Rattle.frame_shown.specs.declared.form.Table.{Table}
 use Rattle.frame_shown.specs.declared.form.Table.TheVariants as Tables
 use Rattle.frame_shown.specs.declared.form.Way.TheVariants as Ways
-use Rattle.frame_shown.specs.declared.tables.TheConstants.{KERNEL_NAMES, MESSAGE}
+use Rattle.frame_shown.specs.declared.tables.link.TheConstants.{KERNEL_NAMES, MESSAGE}
 use Rattle.frame_diff.specs.Forests.{is_text}
 use Rattle.frame_diff.specs.Names.{NamesAreApart}
 use Rattle.frame_diff.specs.Shown.{HasNamesApart, AreNumbersApart}

@@ -27,7 +27,7 @@ use Rattle.frame_shown.specs.declared.form.Form.TheVariants as Forms
 use Rattle.frame_shown.specs.declared.form.List.{List as Shape}
 use Rattle.frame_shown.specs.declared.form.Order.{Order}
 use Rattle.frame_shown.specs.declared.form.Order.TheVariants as Orders
-use Rattle.frame_shown.specs.declared.tables.TheConstants.{VF_LINK_STATES}
+use Rattle.frame_shown.specs.declared.tables.functions.TheConstants.{VF_LINK_STATES}
 use Rattle.frame_diff.specs.Members.{is_nest}
 use Rattle.frame_diff.specs.Nests.{are_flags, nest_form, nest_meaning}
 

@@ -20,7 +20,7 @@ use Rattle.frame_shown.specs.Laws.{vlan_info_by}
 use Rattle.frame_shown.specs.Values.{Nesting, address_shown, fields_in, fields_shown, protocol_name}
 use Rattle.frame_shown.specs.declared.form.Around.{Around}
 use Rattle.frame_shown.specs.declared.form.Record.TheVariants as Records
-use Rattle.frame_shown.specs.declared.tables.TheConstants.{VF_LINK_STATES}
+use Rattle.frame_shown.specs.declared.tables.functions.TheConstants.{VF_LINK_STATES}
 
 abbrev off : ℕ
 off = 0

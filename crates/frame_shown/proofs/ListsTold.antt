@@ -26,7 +26,7 @@ use Rattle.frame_shown.specs.declared.form.List.TheVariants as Shapes
 use Rattle.frame_shown.specs.declared.form.Order.{Order}
 use Rattle.frame_shown.specs.declared.form.Table.TheVariants as Tables
 use Rattle.frame_shown.specs.declared.form.Way.TheVariants as Ways
-use Rattle.frame_shown.specs.declared.tables.TheConstants.{KERNEL_NAMES}
+use Rattle.frame_shown.specs.declared.tables.link.TheConstants.{KERNEL_NAMES}
 use Rattle.frame_shown.proofs.Plain.{each_now, lists_of_now, row_at_now}
 
 -- ** each value has a list

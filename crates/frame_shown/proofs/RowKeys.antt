@@ -19,7 +19,7 @@ use Rattle.frame_shown.specs.declared.form.Table.{Table}
 use Rattle.frame_shown.specs.declared.form.Table.TheVariants as Tables
 use Rattle.frame_shown.specs.declared.form.Way.{Way}
 use Rattle.frame_shown.specs.declared.form.Way.TheVariants as Ways
-use Rattle.frame_shown.specs.declared.tables.TheConstants.{KERNEL_NAMES, MESSAGE}
+use Rattle.frame_shown.specs.declared.tables.link.TheConstants.{KERNEL_NAMES, MESSAGE}
 use Rattle.frame_shown.specs.Tables.{Known, Rows, no_row, rows_in, row_by, row_found, row_of_list, styled, is_own}
 use Rattle.frame_shown.specs.Tables.{place_row, proto_inet6_row, nest_row, xstats_row, info_row, message_row}
 use Rattle.frame_shown.specs.Tables.{af_spec_form, proto_info_form, listed_row, own_rows, refused_row, row_in}

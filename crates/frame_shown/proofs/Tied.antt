@@ -1,15 +1,17 @@
 -- The tables that the code goes by are those of the annex, by computation.
 use Rattle.std.proofs.Common.{refl}
 use Rattle.frame_shown.specs.declared.kept.TheConstants.{FRAME_FLAGS}
-use Rattle.frame_shown.specs.declared.tables.TheConstants.{OPERSTATES, LINK_MODES, EXT_MASK, LINK_FLAGS, STATS, MAP}
-use Rattle.frame_shown.specs.declared.tables.TheConstants.{VF_MAC, VF_VLAN, VF_TX_RATE, VF_SETTING, VF_LINK_STATE}
-use Rattle.frame_shown.specs.declared.tables.TheConstants.{VF_RATE, VF_GUID, VF_VLAN_INFO, MESSAGE, PROPS}
-use Rattle.frame_shown.specs.declared.tables.TheConstants.{DEVLINK_PORT, DPLL_PIN, DOWN_REASON, FUNCTION}
-use Rattle.frame_shown.specs.declared.tables.TheConstants.{FUNCTION_STATS, FUNCTION_VLANS, FAMILIES, INET, INET6}
-use Rattle.frame_shown.specs.declared.tables.TheConstants.{MCTP, XDP, INET6_STATS, KERNEL_NAMES, MCTP_BINDINGS}
-use Rattle.frame_shown.specs.declared.tables.TheConstants.{VF_LINK_STATES}
-use Rattle.frame_shown.specs.declared.tables.TheConstants.{ICMP6_STATS, INET_CONF, INET6_CONF, CACHE_INFO}
-use Rattle.frame_shown.specs.declared.tables.TheConstants.{INET6_FLAGS, ADDR_GEN_MODES, XDP_ATTACHED, EVENTS}
+use Rattle.frame_shown.specs.declared.tables.family.TheConstants.{FAMILIES, INET, INET6, MCTP, INET6_STATS}
+use Rattle.frame_shown.specs.declared.tables.family.TheConstants.{MCTP_BINDINGS, ICMP6_STATS, INET_CONF, INET6_CONF}
+use Rattle.frame_shown.specs.declared.tables.family.TheConstants.{CACHE_INFO, INET6_FLAGS, ADDR_GEN_MODES}
+use Rattle.frame_shown.specs.declared.tables.functions.TheConstants.{VF_MAC, VF_VLAN, VF_TX_RATE, VF_SETTING}
+use Rattle.frame_shown.specs.declared.tables.functions.TheConstants.{VF_LINK_STATE, VF_RATE, VF_GUID, VF_VLAN_INFO}
+use Rattle.frame_shown.specs.declared.tables.functions.TheConstants.{FUNCTION, FUNCTION_STATS, FUNCTION_VLANS}
+use Rattle.frame_shown.specs.declared.tables.functions.TheConstants.{VF_LINK_STATES}
+use Rattle.frame_shown.specs.declared.tables.link.TheConstants.{MESSAGE, PROPS, DEVLINK_PORT, DPLL_PIN, DOWN_REASON}
+use Rattle.frame_shown.specs.declared.tables.link.TheConstants.{XDP, KERNEL_NAMES}
+use Rattle.frame_shown.specs.declared.tables.names.TheConstants.{OPERSTATES, LINK_MODES, EXT_MASK, LINK_FLAGS, STATS}
+use Rattle.frame_shown.specs.declared.tables.names.TheConstants.{MAP, XDP_ATTACHED, EVENTS}
 use Rattle.frame_shown.specs.Tied.{TablesAreThese}
 
 pub tables_are_these : TablesAreThese

@@ -50,9 +50,10 @@ use Rattle.frame_shown.specs.declared.form.Order.TheVariants as Orders
 use Rattle.frame_shown.specs.declared.form.Record.TheVariants as Records
 use Rattle.frame_shown.specs.declared.form.Settings.TheVariants as Sets
 use Rattle.frame_shown.specs.declared.form.Words.TheVariants as Counts
-use Rattle.frame_shown.specs.declared.tables.TheConstants.{CACHE_INFO, ICMP6_STATS, INET_CONF, INET6_CONF}
-use Rattle.frame_shown.specs.declared.tables.TheConstants.{INET6_STATS}
-use Rattle.frame_shown.specs.declared.tables.TheConstants.{STATS, VF_LINK_STATES}
+use Rattle.frame_shown.specs.declared.tables.family.TheConstants.{CACHE_INFO, ICMP6_STATS, INET_CONF, INET6_CONF}
+use Rattle.frame_shown.specs.declared.tables.family.TheConstants.{INET6_STATS}
+use Rattle.frame_shown.specs.declared.tables.functions.TheConstants.{VF_LINK_STATES}
+use Rattle.frame_shown.specs.declared.tables.names.TheConstants.{STATS}
 
 -- a payload that means a value is shown as the value is
 abbrev pub Shows : {A : Type 0} → Grammar (List ℕ) A → (List ℕ → List Token) → (A → List Token) → Type 0

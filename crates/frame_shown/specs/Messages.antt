@@ -14,7 +14,7 @@ use Rattle.frame_shown.specs.Frames.{items_in, levels}
 use Rattle.frame_shown.specs.Tables.{lists_in}
 use Rattle.frame_shown.specs.declared.form.Around.{Around}
 use Rattle.frame_shown.specs.declared.form.List.TheVariants as Shapes
-use Rattle.frame_shown.specs.declared.tables.TheConstants.{LINK_FLAGS}
+use Rattle.frame_shown.specs.declared.tables.names.TheConstants.{LINK_FLAGS}
 
 unfoldable pub link_flag_names : BitNames
 link_flag_names = map (λ row. (row.0, row.1.now)) LINK_FLAGS

@@ -8,7 +8,8 @@ use Rattle.frame_shown.specs.declared.form.Record.{Record}
 use Rattle.frame_shown.specs.declared.form.Settings.{Settings}
 use Rattle.frame_shown.specs.declared.form.Table.{Table}
 use Rattle.frame_shown.specs.declared.form.Words.{Words}
-use Rattle.frame_shown.specs.declared.tables.TheConstants.{INET6_STATS, MESSAGE}
+use Rattle.frame_shown.specs.declared.tables.family.TheConstants.{INET6_STATS}
+use Rattle.frame_shown.specs.declared.tables.link.TheConstants.{MESSAGE}
 
 -- none of these names is that of another
 abbrev pub are_apart : List (List ℕ) → Bool

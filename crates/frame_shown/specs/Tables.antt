@@ -28,9 +28,10 @@ use Rattle.frame_shown.specs.declared.form.Table.{Table}
 use Rattle.frame_shown.specs.declared.form.Table.TheVariants as Tables
 use Rattle.frame_shown.specs.declared.form.Way.{Way}
 use Rattle.frame_shown.specs.declared.form.Way.TheVariants as Ways
-use Rattle.frame_shown.specs.declared.tables.TheConstants.{MESSAGE, PROPS, DEVLINK_PORT, DPLL_PIN, DOWN_REASON}
-use Rattle.frame_shown.specs.declared.tables.TheConstants.{FUNCTION, FUNCTION_STATS, FUNCTION_VLANS, FAMILIES, INET}
-use Rattle.frame_shown.specs.declared.tables.TheConstants.{INET6, KERNEL_NAMES, MCTP, XDP}
+use Rattle.frame_shown.specs.declared.tables.family.TheConstants.{FAMILIES, INET, INET6, MCTP}
+use Rattle.frame_shown.specs.declared.tables.functions.TheConstants.{FUNCTION, FUNCTION_STATS, FUNCTION_VLANS}
+use Rattle.frame_shown.specs.declared.tables.link.TheConstants.{MESSAGE, PROPS, DEVLINK_PORT, DPLL_PIN, DOWN_REASON}
+use Rattle.frame_shown.specs.declared.tables.link.TheConstants.{KERNEL_NAMES, XDP}
 
 -- a name, and how a payload is shown
 abbrev pub Known : Type 0

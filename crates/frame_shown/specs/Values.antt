@@ -45,12 +45,14 @@ use Rattle.frame_shown.specs.declared.form.List.{List as Shape}
 use Rattle.frame_shown.specs.declared.form.List.TheVariants as Shapes
 use Rattle.frame_shown.specs.declared.form.Record.{Record}
 use Rattle.frame_shown.specs.declared.form.Record.TheVariants as Records
-use Rattle.frame_shown.specs.declared.tables.TheConstants.{ICMP6_STATS, INET_CONF, INET6_CONF, CACHE_INFO}
-use Rattle.frame_shown.specs.declared.tables.TheConstants.{INET6_FLAGS, ADDR_GEN_MODES, XDP_ATTACHED, EVENTS}
-use Rattle.frame_shown.specs.declared.tables.TheConstants.{OPERSTATES, LINK_MODES, EXT_MASK, STATS, INET6_STATS}
-use Rattle.frame_shown.specs.declared.tables.TheConstants.{MCTP_BINDINGS, VF_LINK_STATES, MAP, VF_MAC, VF_VLAN}
-use Rattle.frame_shown.specs.declared.tables.TheConstants.{VF_TX_RATE, VF_SETTING, VF_LINK_STATE, VF_RATE, VF_GUID}
-use Rattle.frame_shown.specs.declared.tables.TheConstants.{VF_VLAN_INFO}
+use Rattle.frame_shown.specs.declared.tables.family.TheConstants.{ICMP6_STATS, INET_CONF, INET6_CONF, CACHE_INFO}
+use Rattle.frame_shown.specs.declared.tables.family.TheConstants.{INET6_FLAGS, ADDR_GEN_MODES, INET6_STATS}
+use Rattle.frame_shown.specs.declared.tables.family.TheConstants.{MCTP_BINDINGS}
+use Rattle.frame_shown.specs.declared.tables.functions.TheConstants.{VF_LINK_STATES, VF_MAC, VF_VLAN, VF_TX_RATE}
+use Rattle.frame_shown.specs.declared.tables.functions.TheConstants.{VF_SETTING, VF_LINK_STATE, VF_RATE, VF_GUID}
+use Rattle.frame_shown.specs.declared.tables.functions.TheConstants.{VF_VLAN_INFO}
+use Rattle.frame_shown.specs.declared.tables.names.TheConstants.{XDP_ATTACHED, EVENTS, OPERSTATES, LINK_MODES}
+use Rattle.frame_shown.specs.declared.tables.names.TheConstants.{EXT_MASK, STATS, MAP}
 
 -- what lists of attributes are shown as
 abbrev pub Nesting : Type 0

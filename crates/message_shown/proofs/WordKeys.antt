@@ -12,7 +12,7 @@ use Rattle.std.proofs.lemmas.Bool.Decides.{nat_tests}
 use Rattle.std.proofs.lemmas.List.Folds.{list_any-append}
 use lib.Pointwise.{pointwise}
 use Rattle.message_shown.specs.WordKeys.{own_keys, answer_keys, written_keys, is_among, is_member, name_if}
-use Rattle.frame_shown.specs.declared.tables.TheConstants.{MESSAGE}
+use Rattle.frame_shown.specs.declared.tables.link.TheConstants.{MESSAGE}
 use Rattle.message_shown.specs.declared.word_keys.TheConstants.{OWN_KEYS, FIRSTS}
 
 pub any_mapped : {A : Type 0} (p : List ℕ → Bool) (f : A → List ℕ) (xs : List A)

@@ -25,7 +25,7 @@ use Rattle.shown.specs.Pages.{IsObject}
 use Rattle.shown.specs.Values.{numbered}
 use Rattle.frame_shown.specs.Accepted.{lenient_members}
 use Rattle.frame_shown.specs.Items.{objects}
-use Rattle.frame_shown.specs.declared.tables.TheConstants.{MESSAGE}
+use Rattle.frame_shown.specs.declared.tables.link.TheConstants.{MESSAGE}
 use Rattle.message_shown.specs.Causes.{cause_members, cause_text}
 use Rattle.message_shown.specs.Lines.{TellsMessage, fault_head, message_head}
 use Rattle.message_shown.specs.declared.context.Context.{Context}

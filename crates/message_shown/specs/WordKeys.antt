@@ -4,7 +4,7 @@ use Rattle.std.specs.Prelude.{Option, Some, None}
 use Rattle.std.specs.List.{list_any}
 use Rattle.std.specs.Str.{is_utf8}
 use lib.Pointwise.{pointwise}
-use Rattle.frame_shown.specs.declared.tables.TheConstants.{MESSAGE}
+use Rattle.frame_shown.specs.declared.tables.link.TheConstants.{MESSAGE}
 
 -- the keys of an answer that are no attribute's name: of the header, of lists, and of faults
 unfoldable pub own_keys : List (List ℕ)

@@ -21,7 +21,7 @@ use Rattle.frame_shown.specs.declared.form.Table.{Table}
 use Rattle.frame_shown.specs.declared.form.Table.TheVariants as Tables
 use Rattle.frame_shown.specs.declared.form.Way.{Way}
 use Rattle.frame_shown.specs.declared.form.Way.TheVariants as Ways
-use Rattle.frame_shown.specs.declared.tables.TheConstants.{KERNEL_NAMES, MESSAGE}
+use Rattle.frame_shown.specs.declared.tables.link.TheConstants.{KERNEL_NAMES, MESSAGE}
 use Rattle.frame_diff.specs.Counters.{is_passed}
 
 -- the table of what IPv6 says

@@ -6,7 +6,7 @@ use Rattle.nla_wire.specs.Fields.{number_at}
 use Rattle.shown.specs.Drafts.{with_members}
 use Rattle.shown.proofs.Drafts.{object_ended}
 use Rattle.frame_shown.specs.Values.{placed_shown, unless_zero_named}
-use Rattle.frame_shown.specs.declared.tables.TheConstants.{INET6_STATS}
+use Rattle.frame_shown.specs.declared.tables.family.TheConstants.{INET6_STATS}
 use Rattle.frame_shown.proofs.Items.{both_added}
 use Rattle.frame_shown.proofs.value.counters.show_ipv6_named.Goals as goal
 
