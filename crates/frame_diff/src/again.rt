@@ -13,7 +13,8 @@ ghost use Rattle.frame_diff.specs.Walked.{AreAlike, HasNames, HasRowByNumber, Ho
 ghost use Rattle.frame_diff.specs.Walked.{held_at, held_items, named_at, reading_at};
 ghost use Rattle.frame_diff.specs.declared.walk.Attribute.{Attribute as One};
 
-use crate::leaf::{Texts, is_same};
+use crate::leaf::Texts;
+use crate::leaf::compare::is_same;
 use crate::list::{behind, comes, is_alike};
 use crate::named::is_unnamed;
 use crate::path::{join, join_place};

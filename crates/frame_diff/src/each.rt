@@ -10,7 +10,9 @@ ghost use Rattle.frame_diff.specs.Items.{alone_texts, each_items, leaf_items, te
 ghost use Rattle.frame_diff.specs.Each.{each_shown, one_shown, whole_shown};
 ghost use Rattle.frame_diff.specs.Texts.{left_over, times, times_in};
 
-use crate::leaf::{Texts, Value, is_same, push_text, put_turned, tell_leaf};
+use crate::leaf::compare::is_same;
+use crate::leaf::show::push_text;
+use crate::leaf::{Texts, Value, put_turned, tell_leaf};
 use crate::path::join_each;
 use crate::side::Side;
 use frame_shown::depth::Depth;

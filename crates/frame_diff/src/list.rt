@@ -18,7 +18,8 @@ ghost use Rattle.frame_diff.specs.Walked.{has_payload, is_told_of_old};
 ghost use Rattle.frame_diff.specs.Walked.{held_at, held_items, is_row_alike};
 ghost use Rattle.frame_diff.specs.Walked.{is_unnamed_there, is_there, named_at, reading_at};
 
-use crate::leaf::{Texts, is_same};
+use crate::leaf::Texts;
+use crate::leaf::compare::is_same;
 use crate::named::{find_named, is_named, is_unnamed, name_of};
 use crate::nests::is_fixed;
 use crate::path::join;

@@ -17,7 +17,8 @@ ghost use Rattle.frame_diff.specs.declared.walk.Attribute.{Attribute as One};
 ghost use Rattle.frame_diff.specs.declared.side.Side.TheVariants as Sides;
 ghost use Rattle.frame_shown.specs.declared.form.List.TheVariants as Shapes;
 
-use crate::leaf::{Texts, Value, is_same, put_alone, tell_leaf, tell_turned};
+use crate::leaf::compare::is_same;
+use crate::leaf::{Texts, Value, put_alone, tell_leaf, tell_turned};
 use crate::lists::{is_without, tell_object};
 use crate::picked::{bare_beside, entry_beside, entry_list, is_entries};
 use crate::plain_lists::flat_value;

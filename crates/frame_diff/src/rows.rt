@@ -25,7 +25,8 @@ ghost use Rattle.frame_diff.specs.Walked.{last_items};
 
 use crate::counters::{Cleared, cleared_part, is_passed};
 use crate::fields::{counter_rows, event_rows, ipv6_rows, member_rows, record_rows, settings_rows};
-use crate::leaf::{Texts, Value, is_shown_same, put_step, tell_step};
+use crate::leaf::compare::is_shown_same;
+use crate::leaf::{Texts, Value, put_step, tell_step};
 use crate::side::Side;
 use crate::walk::Attribute;
 use frame_shown::depth::Bottom;

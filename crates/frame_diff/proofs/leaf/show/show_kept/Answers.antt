@@ -9,7 +9,7 @@ use Rattle.shown.specs.Values.{flags_of}
 use Rattle.shown.specs.declared.page.Nest.TheVariants.{Object}
 use Rattle.shown.proofs.Drafts.{object_ended}
 use Rattle.frame_shown.specs.Kept.{frame_flags, frame_members, text_unless_empty}
-use Rattle.frame_diff.proofs.leaf.show_kept.Goals as goal
+use Rattle.frame_diff.proofs.leaf.show.show_kept.Goals as goal
 
 pub returns : goal.returns
 returns c =

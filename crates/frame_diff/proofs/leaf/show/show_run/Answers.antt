@@ -8,7 +8,7 @@ use Rattle.shown.specs.Values.{numbered}
 use Rattle.shown.specs.declared.page.Nest.TheVariants.{Object}
 use Rattle.shown.proofs.Drafts.{object_ended}
 use Rattle.frame_diff.specs.Vlans.{end_members, flags_shown, id_member}
-use Rattle.frame_diff.proofs.leaf.show_run.Goals as goal
+use Rattle.frame_diff.proofs.leaf.show.show_run.Goals as goal
 
 pub returns : goal.returns
 returns c =

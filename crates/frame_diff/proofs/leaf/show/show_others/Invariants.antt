@@ -2,7 +2,7 @@ use Rattle.std.proofs.Common.{◌≡◌, drop}
 use Rattle.shown.specs.Drafts.{with_begun, with_members}
 use Rattle.shown.specs.declared.page.Nest.TheVariants as Nests
 use Rattle.frame_diff.proofs.EachTold.{other_members}
-use Rattle.frame_diff.proofs.leaf.show_others.Given as goal
+use Rattle.frame_diff.proofs.leaf.show.show_others.Given as goal
 
 abbrev pub invariant-loop-one : goal.invariant-loop-one
 invariant-loop-one l =

@@ -1,5 +1,5 @@
 use Rattle.frame_diff.specs.Vlans.{vlan_flag_names}
-use Rattle.frame_diff.proofs.leaf.show_vlan_flags.Goals as goal
+use Rattle.frame_diff.proofs.leaf.show.show_vlan_flags.Goals as goal
 
 pub returns : goal.returns
 unfolding vlan_flag_names

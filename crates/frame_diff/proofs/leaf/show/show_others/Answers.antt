@@ -5,7 +5,7 @@ use Rattle.shown.specs.Drafts.{list_of, with_begun, with_members, with_value}
 use Rattle.shown.specs.declared.page.Nest.TheVariants as Nests
 use Rattle.shown.proofs.Drafts.{list_ended}
 use Rattle.frame_diff.proofs.EachTold.{other_members, others_values}
-use Rattle.frame_diff.proofs.leaf.show_others.Goals as goal
+use Rattle.frame_diff.proofs.leaf.show.show_others.Goals as goal
 
 pub returns : goal.returns
 returns c =

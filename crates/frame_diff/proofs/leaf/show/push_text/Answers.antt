@@ -1,7 +1,7 @@
 use Rattle.std.proofs.lemmas.Result.{on_ok_weaker}
 use Rattle.frame_diff.specs.Values.{value_shown}
 use Rattle.frame_diff.proofs.Texts.{text_added}
-use Rattle.frame_diff.proofs.leaf.push_text.Goals as goal
+use Rattle.frame_diff.proofs.leaf.show.push_text.Goals as goal
 
 pub returns : goal.returns
 returns g c =

@@ -2,7 +2,7 @@ use Rattle.std.proofs.Common.{◌≡◌, drop}
 use Rattle.shown.specs.Drafts.{with_begun, with_members}
 use Rattle.shown.specs.declared.page.Nest.TheVariants as Nests
 use Rattle.frame_diff.proofs.EachTold.{entry_members}
-use Rattle.frame_diff.proofs.leaf.show_entries.Given as goal
+use Rattle.frame_diff.proofs.leaf.show.show_entries.Given as goal
 
 abbrev pub invariant-loop-entry : goal.invariant-loop-entry
 invariant-loop-entry g l =
