@@ -15,7 +15,8 @@ ghost use Rattle.frame_diff.specs.declared.walk.Attribute.{Attribute as One};
 
 use crate::leaf::Texts;
 use crate::leaf::compare::is_same;
-use crate::list::{behind, comes, is_alike};
+use crate::list::by_name::is_alike;
+use crate::lookup::{behind, comes};
 use crate::named::is_unnamed;
 use crate::path::{join, join_place};
 use crate::value::tell_value;

@@ -11,7 +11,7 @@ ghost use Rattle.frame_diff.specs.Keys.{entry_number, field_number, function_in,
 ghost use Rattle.frame_diff.specs.Keys.{key_at, key_name, meaning_number, member_number, named_number, number_of};
 ghost use Rattle.frame_diff.specs.Keys.{plain_number, way_number};
 
-use crate::list::behind;
+use crate::lookup::behind;
 use crate::named::find_last;
 use crate::walk::{Attribute, Attributes};
 use frame_shown::form::{Form, Group, List, Table, Way, row_in};

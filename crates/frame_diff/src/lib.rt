@@ -17,6 +17,7 @@ pub mod laws;
 pub mod leaf;
 pub mod list;
 pub mod lists;
+mod lookup;
 pub mod members;
 pub mod message;
 pub mod named;

@@ -15,8 +15,8 @@ ghost use Rattle.frame_diff.specs.declared.keys.Key.{Key as Number};
 ghost use Rattle.frame_diff.specs.declared.walk.Attribute.{Attribute as One};
 ghost use Rattle.frame_diff.specs.declared.walk.Attributes.{Attributes as Lists};
 
-use crate::list::behind;
 use crate::lists::{is_without, none_of};
+use crate::lookup::behind;
 use crate::named::{is_each, is_unnamed};
 use crate::walk::{Attribute, Attributes};
 use frame_shown::form::{Form, List, Way, row_in};

@@ -1,7 +1,7 @@
 use Rattle.std.proofs.Common.{◌∙◌}
 use Rattle.frame_diff.specs.Items.{joined}
 use Rattle.frame_diff.proofs.Fixed.{old_tells_page}
-use Rattle.frame_diff.proofs.list.tell_turning.Goals as goal
+use Rattle.frame_diff.proofs.list.by_name.tell_turning.Goals as goal
 
 pub returns-then-is_told_of_old : goal.returns-then-is_told_of_old
 returns-then-is_told_of_old g c =

@@ -1,7 +1,7 @@
 use Rattle.std.proofs.Common.{◌∙◌, sym}
 use Rattle.frame_diff.specs.Items.{joined}
 use Rattle.frame_diff.proofs.Walked.{silent_page}
-use Rattle.frame_diff.proofs.list.tell_unless_same.Goals as goal
+use Rattle.frame_diff.proofs.list.by_name.tell_unless_same.Goals as goal
 
 pub returns-then-has_payload : goal.returns-then-has_payload
 returns-then-has_payload g c =

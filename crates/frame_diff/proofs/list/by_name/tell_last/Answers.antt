@@ -1,6 +1,6 @@
 use Rattle.std.proofs.Common.{◌∙◌, sym}
 use Rattle.frame_diff.proofs.Walked.{rows_same}
-use Rattle.frame_diff.proofs.list.tell_last.Goals as goal
+use Rattle.frame_diff.proofs.list.by_name.tell_last.Goals as goal
 
 pub tell_unless_same-requires-clause-alike : goal.tell_unless_same-requires-clause-alike
 tell_unless_same-requires-clause-alike g c h =

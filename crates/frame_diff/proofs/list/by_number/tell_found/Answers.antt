@@ -1,7 +1,7 @@
 use Rattle.std.proofs.Common.{ap, sym, ◌∙◌}
 use Rattle.frame_diff.specs.Walked.{is_there}
 use Rattle.frame_diff.proofs.There.{there_page}
-use Rattle.frame_diff.proofs.list.tell_found.Goals as goal
+use Rattle.frame_diff.proofs.list.by_number.tell_found.Goals as goal
 
 pub returns-then-is_there : goal.returns-then-is_there
 returns-then-is_there g c =

@@ -3,7 +3,7 @@ use Rattle.nla_wire.specs.Items.{items}
 use Rattle.link_info.specs.Tables.{frames_in}
 use Rattle.frame_diff.specs.Walked.{reading_at}
 use Rattle.frame_diff.proofs.Walked.{comes_named}
-use Rattle.frame_diff.proofs.list.comes.Goals as goal
+use Rattle.frame_diff.proofs.lookup.comes.Goals as goal
 
 pub returns : goal.returns
 returns c nest inner is_state =

@@ -1,5 +1,5 @@
 use Rattle.frame_diff.proofs.There.{found_first, tail_behind}
-use Rattle.frame_diff.proofs.list.look_up.Goals as goal
+use Rattle.frame_diff.proofs.lookup.look_up.Goals as goal
 
 pub returns-in-Some-clause-found : goal.returns-in-Some-clause-found
 returns-in-Some-clause-found c =

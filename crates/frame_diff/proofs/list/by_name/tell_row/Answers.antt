@@ -3,7 +3,7 @@ use Rattle.std.proofs.lemmas.Result.{on_ok_weaker}
 use Rattle.frame_diff.specs.Walked.{NoneComes}
 use Rattle.frame_diff.proofs.There.{none_comes_behind, row_again, row_told}
 use Rattle.frame_diff.proofs.Walked.{names_of}
-use Rattle.frame_diff.proofs.list.tell_row.Goals as goal
+use Rattle.frame_diff.proofs.list.by_name.tell_row.Goals as goal
 
 pub comes_too-requires : goal.comes_too-requires
 comes_too-requires g c h =

@@ -1,7 +1,7 @@
 use Rattle.std.proofs.Common.{ap, sym, ◌∙◌}
 use Rattle.frame_shown.specs.Tables.{row_in}
 use Rattle.frame_diff.proofs.There.{unnamed_page}
-use Rattle.frame_diff.proofs.list.tell_frame.Goals as goal
+use Rattle.frame_diff.proofs.list.by_name.tell_frame.Goals as goal
 use Rattle.frame_diff.specs.Members.{is_unnamed}
 
 pub tell_row-requires-clause-name : goal.tell_row-requires-clause-name

@@ -3,7 +3,7 @@ use Rattle.std.proofs.lemmas.Result.{on_ok_weaker}
 use Rattle.frame_shown.specs.Tables.{Known}
 use Rattle.frame_diff.proofs.There.{rows_beside, single_page}
 use Rattle.frame_diff.proofs.Walked.{names_of}
-use Rattle.frame_diff.proofs.list.tell_single.Goals as goal
+use Rattle.frame_diff.proofs.list.by_number.tell_single.Goals as goal
 
 pub tell_turning-requires-clause-row : goal.tell_turning-requires-clause-row
 tell_turning-requires-clause-row g c =

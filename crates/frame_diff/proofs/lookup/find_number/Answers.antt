@@ -3,7 +3,7 @@ use Rattle.std.specs.Prelude.{◌==◌}
 use Rattle.nla_wire.specs.Items.{items}
 use Rattle.link_info.specs.Tables.{frames_in}
 use Rattle.frame_diff.proofs.There.{none_further, other_number, passed_one}
-use Rattle.frame_diff.proofs.list.find_number.Goals as goal
+use Rattle.frame_diff.proofs.lookup.find_number.Goals as goal
 
 pub loop-item-preserved : goal.loop-item-preserved
 loop-item-preserved c =

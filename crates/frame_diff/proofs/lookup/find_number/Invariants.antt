@@ -4,7 +4,7 @@ use Rattle.std.specs.List.{list_any}
 use Rattle.nla_wire.specs.Frames.{Frame, number}
 use Rattle.nla_wire.specs.Items.{items}
 use Rattle.link_info.specs.Tables.{frames_in}
-use Rattle.frame_diff.proofs.list.find_number.Given as goal
+use Rattle.frame_diff.proofs.lookup.find_number.Given as goal
 
 abbrev pub invariant-loop-item : goal.invariant-loop-item
 invariant-loop-item l = record {
