@@ -19,9 +19,9 @@ use Rattle.frame_diff.specs.Members.{named}
 use Rattle.frame_diff.specs.Rows.{inside_by, is_slots, row_shown}
 use Rattle.frame_diff.specs.Values.{value_shown}
 use Rattle.frame_diff.specs.Walked.{Holding, held_items}
+use Rattle.frame_diff.specs.declared.held.Holds.{Holds}
+use Rattle.frame_diff.specs.declared.held.Holds.TheVariants as Holdings
 use Rattle.frame_diff.specs.declared.leaf.Value.{Value}
-use Rattle.frame_diff.specs.declared.rows.Holds.{Holds}
-use Rattle.frame_diff.specs.declared.rows.Holds.TheVariants as Holdings
 use Rattle.frame_diff.specs.declared.side.Side.{Side}
 use Rattle.frame_diff.proofs.Classes.{left_no_texts}
 

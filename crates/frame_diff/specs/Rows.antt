@@ -12,9 +12,9 @@ use Rattle.frame_diff.specs.Members.{Inner, fields, named, slots_shown}
 use Rattle.frame_diff.specs.Values.{value_shown}
 use Rattle.frame_diff.specs.Walked.{last_items}
 use Rattle.frame_diff.specs.declared.counters.Cleared.{Cleared}
+use Rattle.frame_diff.specs.declared.held.Holds.{Holds}
+use Rattle.frame_diff.specs.declared.held.Holds.TheVariants as Holdings
 use Rattle.frame_diff.specs.declared.leaf.Value.{Value}
-use Rattle.frame_diff.specs.declared.rows.Holds.{Holds}
-use Rattle.frame_diff.specs.declared.rows.Holds.TheVariants as Holdings
 use Rattle.frame_diff.specs.declared.rows.Row.{Row}
 use Rattle.frame_diff.specs.declared.side.Side.TheVariants.{Old}
 

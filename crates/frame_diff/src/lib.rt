@@ -9,6 +9,7 @@ pub mod depth;
 mod each;
 pub mod fields;
 pub mod groups;
+pub mod held;
 pub mod kept;
 mod keyed;
 mod keys;

@@ -18,8 +18,9 @@ ghost use Rattle.frame_diff.specs.Walked.{held_items};
 ghost use Rattle.frame_diff.specs.declared.walk.Attributes.{Attributes as Lists};
 
 use crate::each::{Each, tell_alone, tell_both};
+use crate::held::{Holds, Slots, held_in};
 use crate::leaf::{Texts, Value, tell_leaf};
-use crate::rows::{Holds, Row, Slots, held_in, tell_rows};
+use crate::rows::{Row, tell_rows};
 use crate::walk::{Attribute, Attributes, Pass, Walk};
 use frame_shown::form::Around;
 use link_info::Plain;

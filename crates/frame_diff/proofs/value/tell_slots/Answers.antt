@@ -6,7 +6,7 @@ use Rattle.frame_diff.specs.Forests.{Forest, Held}
 use Rattle.frame_diff.specs.Members.{slots_shown}
 use Rattle.frame_diff.specs.Rows.{inside_by}
 use Rattle.frame_diff.specs.Walked.{held_at}
-use Rattle.frame_diff.specs.declared.rows.Slots.{Slots}
+use Rattle.frame_diff.specs.declared.held.Slots.{Slots}
 use Rattle.frame_diff.proofs.Slots.{slots_written}
 use Rattle.frame_diff.proofs.value.tell_slots.Goals as goal
 

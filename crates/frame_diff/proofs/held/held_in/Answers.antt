@@ -6,7 +6,7 @@ use Rattle.frame_diff.specs.Forests.{Forest}
 use Rattle.frame_diff.specs.Members.{Inner, held_inside, way_inside}
 use Rattle.frame_diff.specs.Rows.{clearing, inside_by}
 use Rattle.frame_diff.proofs.Cleared.{way_same}
-use Rattle.frame_diff.proofs.rows.held_in.Goals as goal
+use Rattle.frame_diff.proofs.held.held_in.Goals as goal
 
 pub returns-then-is_passed : goal.returns-then-is_passed
 returns-then-is_passed c inner =
