@@ -1,8 +1,8 @@
 use Rattle.std.proofs.Common.{◌≡◌, [], ◌∷◌, Ok, ap, rules}
 use Rattle.frame_diff.specs.Members.{slots_shown}
 use Rattle.frame_diff.proofs.Slots.{payload_further, payload_over, payloads_left}
-use Rattle.frame_diff.proofs.value.payloads_in.Goals.{in-None, in-Some+in_default}
-use Rattle.frame_diff.proofs.value.payloads_in.Goals as goal
+use Rattle.frame_diff.proofs.value.payloads.payloads_in.Goals.{in-None, in-Some+in_default}
+use Rattle.frame_diff.proofs.value.payloads.payloads_in.Goals as goal
 
 pub loop-item-preserved : goal.loop-item-preserved
 loop-item-preserved c = λ nest cx.

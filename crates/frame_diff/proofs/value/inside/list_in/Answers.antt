@@ -1,6 +1,6 @@
 use Rattle.std.proofs.Common.{◌∙◌, ap, sym}
 use Rattle.frame_diff.specs.Forests.{find}
-use Rattle.frame_diff.proofs.value.list_in.Goals as goal
+use Rattle.frame_diff.proofs.value.inside.list_in.Goals as goal
 
 pub returns-clause-held : goal.returns-clause-held
 returns-clause-held c nest inner s other =

@@ -4,7 +4,7 @@ use Rattle.std.specs.Prelude.{option_map}
 use Rattle.frame_diff.specs.Differences.{inside_in}
 use Rattle.frame_diff.specs.Forests.{find}
 use Rattle.frame_diff.specs.Walked.{held_at}
-use Rattle.frame_diff.proofs.value.list_beside.Goals as goal
+use Rattle.frame_diff.proofs.value.inside.list_beside.Goals as goal
 
 pub returns-in-Some-clause-held : goal.returns-in-Some-clause-held
 returns-in-Some-clause-held c =

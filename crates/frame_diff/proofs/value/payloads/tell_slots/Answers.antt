@@ -8,7 +8,7 @@ use Rattle.frame_diff.specs.Rows.{inside_by}
 use Rattle.frame_diff.specs.Walked.{held_at}
 use Rattle.frame_diff.specs.declared.held.Slots.{Slots}
 use Rattle.frame_diff.proofs.Slots.{slots_written}
-use Rattle.frame_diff.proofs.value.tell_slots.Goals as goal
+use Rattle.frame_diff.proofs.value.payloads.tell_slots.Goals as goal
 
 pub returns-in_default : goal.returns-in_default
 returns-in_default g c =

@@ -7,7 +7,7 @@ use Rattle.frame_diff.specs.Items.{alone_texts, leaf_items, texts_items}
 use Rattle.frame_diff.specs.Walked.{held_at}
 use Rattle.frame_diff.proofs.Inside.{same_written}
 use Rattle.frame_diff.proofs.Slots.{not_texts, slots_alone, slots_leaf}
-use Rattle.frame_diff.proofs.value.tell_beside.Goals as goal
+use Rattle.frame_diff.proofs.value.payloads.tell_beside.Goals as goal
 
 pub returns-then-not-holds_none : goal.returns-then-not-holds_none
 returns-then-not-holds_none g c =

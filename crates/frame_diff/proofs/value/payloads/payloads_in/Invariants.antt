@@ -4,7 +4,7 @@ use Rattle.frame_shown.specs.declared.form.Around.{Around}
 use Rattle.frame_diff.specs.Members.{slots_shown}
 use Rattle.frame_diff.specs.Values.{value_shown}
 use Rattle.frame_diff.proofs.Slots.{payloads_left}
-use Rattle.frame_diff.proofs.value.payloads_in.Given as goal
+use Rattle.frame_diff.proofs.value.payloads.payloads_in.Given as goal
 
 abbrev pub invariant-loop-item : goal.invariant-loop-item
 invariant-loop-item l = (nest : Nesting) (cx : Around)

@@ -5,7 +5,7 @@ use Rattle.frame_diff.specs.Inside.{inside_list}
 use Rattle.frame_diff.specs.Items.{items_told}
 use Rattle.frame_diff.specs.Walked.{held_at}
 use Rattle.frame_diff.proofs.Inside.{list_beside, same_written}
-use Rattle.frame_diff.proofs.value.tell_inside.Goals as goal
+use Rattle.frame_diff.proofs.value.inside.tell_inside.Goals as goal
 
 pub tell_list-requires-clause-alike : goal.tell_list-requires-clause-alike
 tell_list-requires-clause-alike g c h = c.in_ok-there.ensures.alike c.args.own (c.requires.alike h)

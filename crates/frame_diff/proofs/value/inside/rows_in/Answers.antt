@@ -3,7 +3,7 @@ use Rattle.frame_diff.specs.Forests.{field_step, find}
 use Rattle.frame_diff.specs.Members.{named}
 use Rattle.frame_diff.specs.Rows.{inside_by, row_shown}
 use Rattle.frame_diff.proofs.Inside.{find_left}
-use Rattle.frame_diff.proofs.value.rows_in.Goals as goal
+use Rattle.frame_diff.proofs.value.inside.rows_in.Goals as goal
 
 pub returns-in-Fields : goal.returns-in-Fields
 returns-in-Fields c nest inner fieldless name =

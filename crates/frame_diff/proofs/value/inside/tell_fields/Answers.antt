@@ -8,7 +8,7 @@ use Rattle.frame_diff.specs.Members.{fields}
 use Rattle.frame_diff.specs.Rows.{row_shown}
 use Rattle.frame_diff.specs.Walked.{held_at}
 use Rattle.frame_diff.proofs.Inside.{fields_beside, same_written}
-use Rattle.frame_diff.proofs.value.tell_fields.Goals as goal
+use Rattle.frame_diff.proofs.value.inside.tell_fields.Goals as goal
 
 pub returns : goal.returns
 returns g c =

@@ -1,4 +1,4 @@
-use Rattle.frame_diff.proofs.value.slots_of.Goals as goal
+use Rattle.frame_diff.proofs.value.payloads.slots_of.Goals as goal
 
 pub returns-clause-values : goal.returns-clause-values
 returns-clause-values c = λ nest.
