@@ -1,7 +1,7 @@
 use Rattle.std.proofs.Common.{◌∙◌, sym}
 use Rattle.frame_diff.specs.Keys.{key_at}
 use Rattle.frame_diff.proofs.KeyedTold.{no_placed, none_stands, same_stands}
-use Rattle.frame_diff.proofs.groups.placed_beside.Goals as goal
+use Rattle.frame_diff.proofs.groups.by_place.placed_beside.Goals as goal
 
 pub returns-in-Some-clause-key : goal.returns-in-Some-clause-key
 returns-in-Some-clause-key c =

@@ -8,7 +8,7 @@ use Rattle.frame_diff.specs.Items.{items_told}
 use Rattle.frame_diff.specs.Members.{places}
 use Rattle.frame_diff.proofs.Grouped.{next_fits, places_next}
 use Rattle.frame_diff.proofs.Walked.{named_one, one_stands}
-use Rattle.frame_diff.proofs.groups.tell_places.Goals as goal
+use Rattle.frame_diff.proofs.groups.by_place.tell_places.Goals as goal
 
 pub loop-item-preserved : goal.loop-item-preserved
 loop-item-preserved g c =

@@ -4,7 +4,7 @@ use Rattle.frame_diff.specs.Items.{items_told}
 use Rattle.frame_diff.specs.Members.{places}
 use Rattle.frame_diff.proofs.Inside.{same_written}
 use Rattle.frame_diff.proofs.KeyedTold.{place_told}
-use Rattle.frame_diff.proofs.groups.tell_by_place.Goals as goal
+use Rattle.frame_diff.proofs.groups.by_place.tell_by_place.Goals as goal
 
 pub returns : goal.returns
 returns g c =

@@ -8,7 +8,7 @@ use Rattle.frame_diff.specs.Groups.{group_at, picked_values, is_entries}
 use Rattle.frame_diff.specs.Items.{items_told}
 use Rattle.frame_diff.specs.Members.{placed, places}
 use Rattle.frame_diff.specs.Walked.{reading_at}
-use Rattle.frame_diff.proofs.groups.tell_places.Given as goal
+use Rattle.frame_diff.proofs.groups.by_place.tell_places.Given as goal
 
 abbrev pub invariant-loop-item : goal.invariant-loop-item
 invariant-loop-item g l =
