@@ -7,7 +7,7 @@ ghost use Rattle.json.specs.Filled.{Placed};
 ghost use Rattle.shown.specs.Values.{hardware_address, octet_text};
 
 use crate::block::put_byte;
-use crate::piece::put_number;
+use crate::digits::put_number;
 use std::alloc::{AllocError, Global};
 
 const DIGITS: [char; 16] = [

@@ -3,11 +3,14 @@
 #![tactic(auto)]
 
 mod address;
+mod at_once;
 mod block;
+mod digits;
 mod escape;
 pub mod laws;
 pub mod page;
 mod piece;
+mod quote;
 pub mod room;
 mod sheet;
 

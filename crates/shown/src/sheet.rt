@@ -8,11 +8,9 @@ ghost use Rattle.shown.specs.Print.{print, ends_value, token_text};
 ghost use Rattle.shown.specs.Keys.{IsKey};
 ghost use Rattle.shown.specs.Nesting.{opening, closing};
 
+use crate::at_once::{try_begun, try_named, try_number, try_numbered, try_string};
 use crate::page::Nest;
-use crate::piece::{
-    add_byte, add_bytes, add_name, add_number, add_numbered, add_string, try_begun, try_named,
-    try_number, try_numbered, try_string,
-};
+use crate::piece::{add_byte, add_bytes, add_name, add_number, add_numbered, add_string};
 use itoa::Buffer;
 use std::alloc::{AllocError, Global};
 use std::marker::Model;

@@ -3,7 +3,7 @@ use Rattle.std.proofs.lemmas.Bool.{ne_eqb}
 use Rattle.shown.proofs.Escapes.{escape_on_plain}
 use Rattle.shown.proofs.Keys.{key_escape}
 use Rattle.shown.proofs.Pieces.{placed_keeps, placed_on, plain_placed}
-use Rattle.shown.proofs.piece.put_known.Goals as goal
+use Rattle.shown.proofs.quote.put_known.Goals as goal
 
 pub returns-then-this-ne0-clause-placed : goal.returns-then-this-ne0-clause-placed
 returns-then-this-ne0-clause-placed g c =

@@ -2,7 +2,7 @@ use Rattle.std.proofs.Common.{◌∙◌, arith}
 use Rattle.std.proofs.lemmas.Bool.{OnTrue_at}
 use Rattle.json.proofs.Printed.Places.{Placed-then}
 use Rattle.shown.proofs.Pieces.{kept_before, placed_keeps, quoted_placed}
-use Rattle.shown.proofs.piece.put_quoted.Goals as goal
+use Rattle.shown.proofs.quote.put_quoted.Goals as goal
 
 pub returns-then-not-put_known-clause-kept : goal.returns-then-not-put_known-clause-kept
 returns-then-not-put_known-clause-kept g c =

@@ -1,6 +1,6 @@
 use Rattle.std.proofs.Common.{arith}
 use Rattle.shown.proofs.Pieces.{digit_behind}
-use Rattle.shown.proofs.piece.put_two.Goals as goal
+use Rattle.shown.proofs.digits.put_two.Goals as goal
 
 pub returns-clause-placed : goal.returns-clause-placed
 returns-clause-placed c =
