@@ -27,11 +27,16 @@ low_none : (x y z : ℕ) → x < 0x7f → unseen x y z ≡ 0
 low_none x y z low =
     eqb-true (unseen x y z) 0 (agree_below_at (λ c. unseen c y z == 0) (λ c. true) 0x7f x refl low)
 
+-- the first byte from a place on
+first_at : (text : List ℕ) (at : ℕ) → get_or (drop at text) 0 0 ≡ get_or text at 0
+first_at text at =
+    let here : at + 0 ≡ at = omega arith in
+    get_or-drop at text 0 0 ∙ ap (λ n. get_or text n 0) here
+
 pub none_low : (text : List ℕ) (at : ℕ) → get_or text at 0 < 0x7f → unseen_in (drop at text) ≡ 0
 none_low text at low =
-    let here : at + 0 ≡ at = omega arith in
     low_none (get_or (drop at text) 0 0) (get_or (drop at text) 1 0) (get_or (drop at text) 2 0)
-    (subst (λ n. n < 0x7f) (sym (get_or-drop at text 0 0 ∙ ap (λ n. get_or text n 0) here)) low)
+    (subst (λ n. n < 0x7f) (sym (first_at text at)) low)
 
 skipped : (n : ℕ) (s : List ℕ) → escape_from n s ≡ escape (drop n s)
 unfolding escape_from
@@ -60,47 +65,6 @@ at_place text from within =
     ∙ ap (λ l. escape_first (unseen_in (drop from text)) x ++ escape l)
     (drop-drop (bytes_behind (unseen_in (drop from text))) (from + 1) text)
 
--- ** plain bytes
-
-plain_first : (x y z : ℕ) → not (may_escape x) ≡ true → (unseen x y z ≡ 0) × (escape_byte x ≡ x ∷ [])
-plain_first x y z h =
-    let sixth = or_parts _ (x == 0xe2) (not-true (may_escape x) h) in
-    let fifth = or_parts _ (x == 0xd8) sixth.0 in
-    let fourth = or_parts _ (x == 0xc2) fifth.0 in
-    let third = or_parts _ (x == 0x7f) fourth.0 in
-    let second = or_parts _ (x == 0x5c) third.0 in
-    let first = or_parts (nat_lt x 0x20) (x == 0x22) second.0 in (
-      rw (third.1, fourth.1, fifth.1, sixth.1) refl,
-      escape_byte_plain x (eqb-false x 34 first.1) (eqb-false x 92 second.1) (ltb-false x 32 first.0),
-    )
-
-plain_step : (x : ℕ) (s : List ℕ) → not (may_escape x) ≡ true → escape (x ∷ s) ≡ x ∷ escape s
-plain_step x s h =
-    let is = plain_first x (get_or s 0 0) (get_or s 1 0) h in
-    front_and_rest x s ∙ (λ i. escape_first (is.0 i) x ++ escape (drop (bytes_behind (is.0 i)) s))
-    ∙ ap (λ l. l ++ escape s) is.1
-
-pub plain_run : (n : ℕ) (t : List ℕ) → n ≤ length t → PlainBetween t 0 n → escape t ≡ take n t ++ escape (drop n t)
-plain_run zero t within h = refl
-plain_run (suc n) [] within h = absurd (omega arith)
-plain_run (suc n) (x ∷ s) within h =
-    plain_step x s (h 0 (omega arith) (omega arith))
-    ∙ ap (λ l. x ∷ l) (plain_run n s (omega arith) (λ k from to. h (suc k) (omega arith) (omega arith)))
-
-pub plain_text : (text : List ℕ) → PlainBetween text 0 (length text) → escape text ≡ text
-unfolding escape_from
-plain_text text h =
-    plain_run (length text) text (omega arith) h
-    ∙ (λ i. take_all (length text) text (omega arith) i ++ escape (drop_all (length text) text (omega arith) i))
-    ∙ append-nil text
-
-plain_part : (text : List ℕ) (from n : ℕ) → from + n ≤ length text → PlainBetween text from (from + n)
-    → escape (drop from text) ≡ take n (drop from text) ++ escape (drop (from + n) text)
-plain_part text from n within h =
-    plain_run n (drop from text) (omega (arith, length-drop from text))
-    (λ k low high. ap (λ x. not (may_escape x)) (get_or-drop from text k 0) ∙ h (from + k) (omega arith) (omega arith))
-    ∙ ap (λ l. take n (drop from text) ++ escape l) (drop-drop n from text)
-
 -- ** bytes that stand for themselves
 
 -- a byte that may need an escape, but for 0xe2
@@ -119,18 +83,27 @@ quiet x y z del two eight first second = rw (del, two, eight, first, second) (go
     go true p q m n = refl
     go false p q m n = refl
 
-pub seen_at : (x y z : ℕ) → not (may_alone x) ≡ true → not (goes_on y) ≡ true
-    → (unseen x y z ≡ 0) × (escape_byte x ≡ x ∷ [])
-seen_at x y z alone others =
-    let behind = or_parts (y == 0x80) (y == 0x81) (not-true (goes_on y) others) in
-    let fifth = or_parts _ (x == 0xd8) (not-true (may_alone x) alone) in
+-- of other bytes none is DEL, none begins a character of two bytes that is not seen, and each stands for itself
+alone_parts : (x : ℕ) → may_alone x ≡ false
+    → ((x == 0x7f) ≡ false) × ((x == 0xc2) ≡ false) × ((x == 0xd8) ≡ false) × (escape_byte x ≡ x ∷ [])
+alone_parts x h =
+    let fifth = or_parts _ (x == 0xd8) h in
     let fourth = or_parts _ (x == 0xc2) fifth.0 in
     let third = or_parts _ (x == 0x7f) fourth.0 in
     let second = or_parts _ (x == 0x5c) third.0 in
     let first = or_parts (nat_lt x 0x20) (x == 0x22) second.0 in (
-      quiet x y z third.1 fourth.1 fifth.1 behind.0 behind.1,
+      third.1,
+      fourth.1,
+      fifth.1,
       escape_byte_plain x (eqb-false x 34 first.1) (eqb-false x 92 second.1) (ltb-false x 32 first.0),
     )
+
+pub seen_at : (x y z : ℕ) → not (may_alone x) ≡ true → not (goes_on y) ≡ true
+    → (unseen x y z ≡ 0) × (escape_byte x ≡ x ∷ [])
+seen_at x y z alone others =
+    let behind = or_parts (y == 0x80) (y == 0x81) (not-true (goes_on y) others) in
+    let is = alone_parts x (not-true (may_alone x) alone) in
+    (quiet x y z is.0 is.1 is.2 behind.0 behind.1, is.3)
 
 -- two tests of the lanes, of bytes and of those behind them
 pub both_seen : (d : List ℕ) (from : ℕ) (a b : Bool)
@@ -138,8 +111,7 @@ pub both_seen : (d : List ℕ) (from : ℕ) (a b : Bool)
     → OnTrue b ((k : ℕ) → from + 1 ≤ k → k < from + 1 + 16 → not (goes_on (get_or d k 0)) ≡ true)
     → OnTrue (a && b) (SeenBetween d from (from + 16))
 both_seen d from true true alone others = λ k low high.
-    let here : k + 0 ≡ k = omega arith in
-    let first : get_or (drop k d) 0 0 ≡ get_or d k 0 = get_or-drop k d 0 0 ∙ ap (λ n. get_or d n 0) here in
+    let first = first_at d k in
     let is =
     seen_at (get_or (drop k d) 0 0) (get_or (drop k d) 1 0) (get_or (drop k d) 2 0)
     (ap (λ x. not (may_alone x)) first ∙ alone k low high)
@@ -148,7 +120,7 @@ both_seen d from true true alone others = λ k low high.
 both_seen d from true false alone others = tt
 both_seen d from false b alone others = tt
 
-pub seen_run : (n : ℕ) (t : List ℕ) → n ≤ length t → SeenBetween t 0 n → escape t ≡ take n t ++ escape (drop n t)
+seen_run : (n : ℕ) (t : List ℕ) → n ≤ length t → SeenBetween t 0 n → escape t ≡ take n t ++ escape (drop n t)
 seen_run zero t within h = refl
 seen_run (suc n) [] within h = absurd (omega arith)
 seen_run (suc n) (x ∷ s) within h =
@@ -156,6 +128,30 @@ seen_run (suc n) (x ∷ s) within h =
     front_and_rest x s ∙ (λ i. escape_first (is.0 i) x ++ escape (drop (bytes_behind (is.0 i)) s))
     ∙ ap (λ l. l ++ escape s) is.1
     ∙ ap (λ l. x ∷ l) (seen_run n s (omega arith) (λ k from to. h (suc k) (omega arith) (omega arith)))
+
+-- ** plain bytes
+
+plain_first : (x y z : ℕ) → not (may_escape x) ≡ true → (unseen x y z ≡ 0) × (escape_byte x ≡ x ∷ [])
+plain_first x y z h =
+    let sixth = or_parts (may_alone x) (x == 0xe2) (not-true (may_escape x) h) in
+    let is = alone_parts x sixth.0 in
+    (rw (is.0, is.1, is.2, sixth.1) refl, is.3)
+
+-- plain bytes are seen bytes
+plain_seen : (text : List ℕ) (from to : ℕ) → PlainBetween text from to → SeenBetween text from to
+plain_seen text from to h k low high =
+    let first = first_at text k in
+    let is =
+    plain_first (get_or (drop k text) 0 0) (get_or (drop k text) 1 0) (get_or (drop k text) 2 0)
+    (ap (λ x. not (may_escape x)) first ∙ h k low high) in
+    (is.0, subst (λ x. escape_byte x ≡ x ∷ []) first is.1)
+
+pub plain_text : (text : List ℕ) → PlainBetween text 0 (length text) → escape text ≡ text
+unfolding escape_from
+plain_text text h =
+    seen_run (length text) text (omega arith) (plain_seen text 0 (length text) h)
+    ∙ (λ i. take_all (length text) text (omega arith) i ++ escape (drop_all (length text) text (omega arith) i))
+    ∙ append-nil text
 
 -- ** one byte
 
@@ -228,17 +224,6 @@ character_stored {a} {b} {at} {len} text from within few placed = record {
   room = omega arith;
 }
 
-pub plain_stored : {a b : List ℕ} {at : ℕ} (text : List ℕ) (from n : ℕ) → from + n ≤ length text
-    → PlainBetween text from (from + n) → Placed a b at (take n (drop from text)) (at + n)
-    → Escaped a b at (at + n) text from (from + n)
-plain_stored {a} {b} {at} text from n within plain placed = record {
-  piece = take n (drop from text);
-  placed = placed;
-  is = plain_part text from n within plain;
-  onwards = omega arith;
-  room = omega arith;
-}
-
 pub seen_between_stored : {a b : List ℕ} {at : ℕ} (text : List ℕ) (from n : ℕ) → from + n ≤ length text
     → SeenBetween text from (from + n) → Placed a b at (take n (drop from text)) (at + n)
     → Escaped a b at (at + n) text from (from + n)
@@ -255,6 +240,11 @@ seen_between_stored {a} {b} {at} text from n within seen placed = record {
   onwards = omega arith;
   room = omega arith;
 }
+
+pub plain_stored : {a b : List ℕ} {at : ℕ} (text : List ℕ) (from n : ℕ) → from + n ≤ length text
+    → PlainBetween text from (from + n) → Placed a b at (take n (drop from text)) (at + n)
+    → Escaped a b at (at + n) text from (from + n)
+plain_stored text from n within plain = seen_between_stored text from n within (plain_seen text from (from + n) plain)
 
 -- a part without bytes that may need an escape
 pub part_stored : {a b : List ℕ} {at : ℕ} (text : List ℕ) (from to : ℕ) → from ≤ to → to ≤ length text
@@ -307,36 +297,40 @@ one_plain text from h k low high =
     let same : from ≡ k = omega arith in
     subst (λ j. not (may_escape (get_or text j 0)) ≡ true) same (ap not h)
 
+-- a byte that stands for itself
+itself_stored : {a b : List ℕ} {at end : ℕ} (text : List ℕ) (from : ℕ) → from < length text
+    → (unseen_in (drop from text) ≡ 0) × (escape_byte (get_or text from 0) ≡ get_or text from 0 ∷ [])
+    → Placed a b at (get_or text from 0 ∷ []) end → Escaped a b at end text from (from + 1)
+itself_stored text from within is placed =
+    let x = get_or text from 0 in
+    let one : from + 1 + 0 ≡ from + 1 = omega arith in
+    record {
+      piece = x ∷ [];
+      placed = placed;
+      is = at_place text from within
+          ∙ (λ i. escape_first (is.0 i) x ++ escape (drop (from + 1 + bytes_behind (is.0 i)) text))
+          ∙ (λ i. is.1 i ++ escape (drop (one i) text));
+      onwards = omega arith;
+      room = omega (arith, placed.moved);
+    }
+
 pub byte_stored : {a b : List ℕ} {at end : ℕ} (text : List ℕ) (from : ℕ) → from < length text
     → may_escape (get_or text from 0) ≡ false → Placed a b at (get_or text from 0 ∷ []) end
     → Escaped a b at end text from (from + 1)
-byte_stored text from within h placed = record {
-  piece = get_or text from 0 ∷ [];
-  placed = placed;
-  is = plain_part text from 1 (omega arith) (one_plain text from h)
-      ∙ ap (λ l. l ++ escape (drop (from + 1) text)) (ap (take 1) (drop_more text from 0 within));
-  onwards = omega arith;
-  room = omega (arith, placed.moved);
-}
+byte_stored text from within h =
+    itself_stored text from within
+    (plain_seen text from (from + 1) (one_plain text from h) from (omega arith) (omega arith))
 
 -- a byte above DEL stands for itself where it begins nothing that has an escape
 pub seen_stored : {a b : List ℕ} {at end : ℕ} (text : List ℕ) (from : ℕ) → from < length text
     → unseen_in (drop from text) ≡ 0 → 0x7f < get_or text from 0
     → Placed a b at (get_or text from 0 ∷ []) end → Escaped a b at end text from (from + 1)
-seen_stored text from within none high placed =
+seen_stored text from within none high =
     let x = get_or text from 0 in
-    let one : from + 1 + 0 ≡ from + 1 = omega arith in
-    let itself : escape_byte x ≡ x ∷ [] =
-    escape_byte_plain x (λ is. omega (arith, is, high)) (λ is. omega (arith, is, high)) (omega (arith, high)) in
-    record {
-      piece = x ∷ [];
-      placed = placed;
-      is = at_place text from within
-          ∙ (λ i. escape_first (none i) x ++ escape (drop (from + 1 + bytes_behind (none i)) text))
-          ∙ (λ i. itself i ++ escape (drop (one i) text));
-      onwards = omega arith;
-      room = omega (arith, placed.moved);
-    }
+    itself_stored text from within (
+      none,
+      escape_byte_plain x (λ is. omega (arith, is, high)) (λ is. omega (arith, is, high)) (omega (arith, high)),
+    )
 
 -- what was stored before at the same place is stored over
 pub stored_anew : {a b c text : List ℕ} {at end from to : ℕ} → take at b ≡ take at a → length b ≡ length a
