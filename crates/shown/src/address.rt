@@ -1,8 +1,7 @@
-//! Hardware addresses, and bytes as digits.
+//! Hardware addresses, and addresses of IPv4.
 
 ghost use Rattle.std.specs.Prelude.{◌≡◌, ◌+◌, ◌*◌, ◌<◌, ◌≤◌, IfOk, length, string_bytes, take};
 ghost use Rattle.std.specs.Net.Text.{ipv4_text};
-ghost use Rattle.hex.specs.Hex.{encode_lower};
 ghost use Rattle.json.specs.Filled.{Placed};
 ghost use Rattle.shown.specs.Values.{hardware_address, octet_text};
 
@@ -54,19 +53,6 @@ pub(crate) fn put_address(buf: &mut [u8], bytes: &[u8]) -> usize
         if i > 0 {
             end = put_byte(buf, end, b':');
         }
-        end = put_octet(buf, end, *byte);
-    }
-    end
-}
-
-/// Stores two digits for each byte; where they end.
-pub(crate) fn put_hex(buf: &mut [u8], bytes: &[u8]) -> usize
-    requires room { length bytes.now * 2 ≤ length buf.old }
-    ensures text { take result buf.new ≡ encode_lower bytes.now }
-    ensures within { result ≤ length buf.new }
-{
-    let mut end = 0;
-    for byte in bytes {
         end = put_octet(buf, end, *byte);
     }
     end

@@ -8,8 +8,9 @@ ghost use Rattle.json.specs.Token.{string};
 ghost use Rattle.shown.specs.Values.{hardware_address};
 ghost use Rattle.shown.specs.Drafts.{with_value};
 
-use crate::address::{DOTTED, address_text, put_address, put_hex, put_ipv4};
+use crate::address::{DOTTED, address_text, put_address, put_ipv4};
 use crate::page::Page;
+use hex::encode_to_slice;
 use std::alloc::AllocError;
 use std::fmt::InlineText;
 use std::net::{Ipv4Addr, Ipv6Addr};
@@ -52,9 +53,9 @@ impl Page {
             (self.new ≡ with_value name.now (string (encode_lower bytes.now) ∷ []) self.old) }
     {
         if bytes.len() <= FEW {
-            let mut digits = [0u8; 2 * FEW];
-            let end = put_hex(&mut digits, bytes);
-            if self.try_text::<false>(name, &digits[..end]) {
+            let mut room = [0u8; 2 * FEW];
+            let digits = &mut room[..2 * bytes.len()];
+            if encode_to_slice(bytes, digits).is_ok() && self.try_text::<false>(name, digits) {
                 return Ok(());
             }
         }
