@@ -3,5 +3,6 @@
 mod damaged;
 mod faults;
 mod lines;
+mod members;
 mod pieces;
 mod rows;

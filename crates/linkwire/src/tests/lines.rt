@@ -1,6 +1,7 @@
 //! Each line of the tables, and each damaged list, has its answer.
 
 use super::damaged::{self, Damaged};
+use super::members;
 use super::pieces::{NEVER, answers_to, run_in_pieces};
 use super::rows::{self, Row};
 use std::alloc::Global;
@@ -93,12 +94,12 @@ fn damaged_lists(rt: HostRuntime) -> Result<(), Fail> {
 
 #[test]
 fn lists_without_members(rt: HostRuntime) -> Result<(), Fail> {
-    answers(&rt, rt.alloc(), &damaged::EMPTY_LISTS)
+    answers(&rt, rt.alloc(), &members::EMPTY_LISTS)
 }
 
 #[test]
 fn lists_of_foreign_members(rt: HostRuntime) -> Result<(), Fail> {
-    answers(&rt, rt.alloc(), &damaged::FOREIGN_MEMBERS)
+    answers(&rt, rt.alloc(), &members::FOREIGN_MEMBERS)
 }
 
 #[test]

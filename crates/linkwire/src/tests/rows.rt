@@ -1,6 +1,6 @@
 //! Lines and their answers, worked out by hand from the kernel's headers: a table for each subject.
 
-/// What a line has, the line, and what it is answered. Empty lists stand in `damaged`.
+/// What a line has, the line, and what it is answered. Empty lists stand in `members`.
 pub type Row = (&'static str, &'static str, &'static str);
 
 /// Lines that are no hexadecimal, or no message.
