@@ -3,7 +3,7 @@
 use super::damaged::{self, Damaged};
 use super::members;
 use super::pieces::{NEVER, answers_to, run_in_pieces};
-use super::rows::{self, Row};
+use super::rows::{self, Row, lists};
 use std::alloc::Global;
 use std::process::Abort;
 use std::test::Fail;
@@ -57,17 +57,17 @@ fn records(rt: HostRuntime) -> Result<(), Fail> {
 
 #[test]
 fn flat_lists(rt: HostRuntime) -> Result<(), Fail> {
-    answers(&rt, rt.alloc(), &rows::LISTS)
+    answers(&rt, rt.alloc(), &lists::LISTS)
 }
 
 #[test]
 fn functions_and_ports(rt: HostRuntime) -> Result<(), Fail> {
-    answers(&rt, rt.alloc(), &rows::FUNCTIONS)
+    answers(&rt, rt.alloc(), &lists::FUNCTIONS)
 }
 
 #[test]
 fn settings_by_family(rt: HostRuntime) -> Result<(), Fail> {
-    answers(&rt, rt.alloc(), &rows::FAMILIES)
+    answers(&rt, rt.alloc(), &lists::FAMILIES)
 }
 
 #[test]
