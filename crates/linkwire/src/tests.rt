@@ -2,6 +2,7 @@
 
 mod damaged;
 mod faults;
+mod growth;
 mod lines;
 mod members;
 mod pieces;
