@@ -17,7 +17,7 @@ use Rattle.message_diff.specs.declared.store.Known.{Known}
 use Rattle.message_diff.specs.declared.store.Host.{Host}
 use Rattle.message_diff.specs.declared.store.Entry.{Entry}
 use Rattle.message_diff.specs.declared.files.Untold.{Untold}
-use Rattle.message_diff.specs.declared.files.Written.{Written}
+use Rattle.message_diff.specs.declared.files.written.Written.{Written}
 use Rattle.std.specs.Io.KnownBytes.{Appends}
 use Rattle.line_filter.specs.Steps.{FailedWrite}
 use Rattle.line_filter.specs.declared.error.RunError.{RunError}

@@ -14,7 +14,7 @@ use Rattle.message_diff.specs.declared.store.Known.{Known}
 use Rattle.message_diff.specs.declared.store.Host.{Host}
 use Rattle.message_diff.specs.declared.store.Entry.{Entry}
 use Rattle.message_diff.specs.declared.files.Untold.{Untold}
-use Rattle.message_diff.specs.declared.files.Written.{Written}
+use Rattle.message_diff.specs.declared.files.written.Written.{Written}
 use Rattle.message_diff.specs.declared.files.Noted.{Noted}
 use Rattle.message_diff.specs.declared.files.Findings.{Findings}
 use Rattle.message_diff.specs.declared.files.Outcome.{Outcome}

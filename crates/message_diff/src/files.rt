@@ -1,25 +1,21 @@
 //! One file beside another.
 
-ghost use Rattle.std.specs.Prelude.{◌≡◌, ◌||◌, ◌∷◌, [], Some, false, true, cond, IfErr, IfOk, OnOk, length, map};
-ghost use Rattle.std.specs.Prelude.{nat_lt, option_copied};
-ghost use Rattle.std.specs.List.{flat_map};
-ghost use Rattle.std.specs.Map.{keys_of};
-ghost use Rattle.message_diff.specs.Known.{in_family};
+ghost use Rattle.std.specs.Prelude.{◌≡◌, ◌||◌, IfErr, IfOk, length, nat_lt};
 ghost use Rattle.message_diff.specs.declared.telling.Told.TheVariants.{Faults};
-ghost use Rattle.message_diff.specs.Watched.{WatchStops, host_in};
-ghost use Rattle.message_diff.specs.Files.{News, words_told, found, found_last, known_at, are_two, tells};
-ghost use Rattle.message_diff.specs.Files.{news_at, gone_of, gone_at, host_news, host_gone, names_in, Adds};
-ghost use Rattle.message_diff.specs.Files.{missings, is_missing, is_last, missing_in, NotesTo, TellsNews, Compares};
+ghost use Rattle.message_diff.specs.Watched.{WatchStops};
+ghost use Rattle.message_diff.specs.Files.{missings, is_missing, missing_in, NotesTo, TellsNews, Compares};
 ghost use Rattle.message_diff.specs.Files.{StopsAtEnds, CompareStops, is_any, notes_line, outcome_of};
 
-use crate::announced::are_two as names_two;
+mod came;
+mod side;
+mod went;
+mod written;
+
 use crate::desk::Desk;
-use crate::key::{AF_UNSPEC, Key};
 use crate::snapshot::Compared;
-use crate::store::{Entry, Host, Known};
 use crate::telling::Told;
-use crate::told::{push_changed, push_gone, push_new};
 use crate::watch::Watch;
+use came::push_came;
 use line_filter::answers::Take;
 use line_filter::error::RunError;
 use line_filter::run::read_lines;
@@ -27,6 +23,8 @@ use line_filter::write::write_out;
 use message_shown::context::text_of;
 use std::alloc::{AllocError, Global};
 use std::io::{Read, Write};
+use went::push_went;
+use written::Written;
 
 /// A family of a host of which it is not told what came or what went, since one file has no whole dump of it.
 #[derive(Drop)]
@@ -95,283 +93,6 @@ impl Findings {
             Outcome::Same
         }
     }
-}
-
-/// What one file has of a host.
-#[derive(Clone, Copy)]
-struct Side<'a> {
-    by: Compared,
-    name: &'a [u8],
-    host: Option<&'a Host>,
-    has_dumps: bool,
-}
-
-impl<'a> Side<'a> {
-    /// What a file has of the host with this name.
-    fn of(watch: &'a Watch, name: &'a [u8]) -> Side<'a>
-        ensures name { result.name.now ≡ name.now }
-        ensures host { option_copied result.host ≡ host_in watch.now name.now }
-        ensures has_dumps { result.has_dumps ≡ watch.now.has_dumps }
-        ensures by { result.by ≡ watch.now.told.by }
-    {
-        Side {
-            by: watch.by(),
-            name,
-            host: watch.hosts().get(name),
-            has_dumps: watch.has_dumps(),
-        }
-    }
-
-    /// What it has of an interface.
-    fn known(self, key: Key) -> Option<&'a Known>
-        ensures { option_copied result
-            ≡ known_at (option_copied self.entry.host) key }
-    {
-        match self.host {
-            Some(host) => host.known.get(&key),
-            None => None,
-        }
-    }
-
-    /// Whether what it has not of a family was not there.
-    fn tells(self, family: u8) -> bool
-        ensures { result
-            ≡ tells self.entry.has_dumps (option_copied self.entry.host) family }
-    {
-        match self.host {
-            Some(host) => !self.has_dumps || host.is_whole(family),
-            None => !self.has_dumps,
-        }
-    }
-}
-
-/// What is written, and what is not told.
-#[derive(Drop)]
-struct Written {
-    desk: Desk,
-    out: Vec<u8>,
-    untold: Vec<Untold>,
-}
-
-impl Written {
-    /// Whether the last family that was added is this one.
-    fn is_last(&self, is_new: bool, family: u8, host: &[u8]) -> bool
-        ensures { result ≡ is_last self.now.untold.items
-            (record { is_new = is_new; family = family; host = host.now }) }
-    {
-        match self.untold.as_slice().last() {
-            Some(last) => last.is(is_new, family, host),
-            None => false,
-        }
-    }
-
-    /// Adds a family of a host of which something is not told, unless it was the last one that was added.
-    fn add_untold(
-        &mut self,
-        alloc: Global,
-        is_new: bool,
-        family: u8,
-        host: &[u8],
-    ) -> Result<(), AllocError>
-        ensures { OnOk result (Adds (News.untold
-            (record { is_new = is_new; family = family; host = host.now }) ∷ [])
-            self.old self.new) }
-    {
-        if self.is_last(is_new, family, host) {
-            return Ok(());
-        }
-        let host = host.to_vec(alloc)?;
-        self.untold.push(Untold {
-            is_new,
-            family,
-            host,
-        })?;
-        Ok(())
-    }
-}
-
-/// Whether an interface has messages of two kinds in two files.
-fn are_two(was: &Known, is: &Known) -> bool
-    ensures { result ≡ are_two (found_last was.now.last) (found_last is.now.last) }
-{
-    let Some(last) = was.last.as_ref() else {
-        return false;
-    };
-    let Some(new) = is.last.as_ref() else {
-        return false;
-    };
-    names_two(last.kind(), new.kind())
-}
-
-/// The same of the interface alone.
-fn are_two_alone(old: Side<'_>, new: Side<'_>, key: Key) -> bool
-    ensures { result
-        ≡ are_two (found (option_copied old.entry.host) (in_family 0 key))
-        (found (option_copied new.entry.host) (in_family 0 key)) }
-{
-    let alone = key.in_family(AF_UNSPEC);
-    let Some(was) = old.known(alone) else {
-        return false;
-    };
-    let Some(is) = new.known(alone) else {
-        return false;
-    };
-    are_two(was, is)
-}
-
-/// Adds what changed of an interface which both files have, or that it went and another one came.
-fn push_both(
-    alloc: Global,
-    by: Compared,
-    was: &Entry,
-    is: &Entry,
-    is_replaced: bool,
-    written: &mut Written,
-) -> Result<(), AllocError>
-    ensures { OnOk result (Adds (cond is_replaced
-        (News.replaced (words_told was.now) was.now.snapshot (words_told is.now) is.now.snapshot)
-        (News.changed by (words_told is.now) was.now.snapshot is.now.snapshot) ∷ [])
-        written.old written.new) }
-{
-    let Written { desk, out, .. } = written;
-    let front = is.words();
-    if is_replaced {
-        push_gone(alloc, was.words(), &was.snapshot, out)?;
-        return push_new(alloc, front, &is.snapshot, out);
-    }
-    push_changed(alloc, by, front, &was.snapshot, &is.snapshot, desk, out)?;
-    Ok(())
-}
-
-/// Adds what came or changed of an interface of which the new file knows this. Of one of which a file has nothing but
-/// refusals nothing is added.
-fn push_news(
-    alloc: Global,
-    old: Side<'_>,
-    new: Side<'_>,
-    key: Key,
-    known: &Known,
-    written: &mut Written,
-) -> Result<(), AllocError>
-    requires { known_at (option_copied new.host) key ≡ Some known.now }
-    ensures { OnOk result (Adds (news_at old.entry.by old.entry.has_dumps old.entry.name.now
-        (option_copied old.entry.host) (option_copied new.entry.host) key ∷ [])
-        written.old written.new) }
-{
-    let Some(is) = known.last.as_ref() else {
-        return Ok(());
-    };
-    let Some(other) = old.known(key) else {
-        if old.tells(key.family) {
-            return push_new(alloc, is.words(), &is.snapshot, &mut written.out);
-        }
-        return written.add_untold(alloc, false, key.family, old.name);
-    };
-    let Some(was) = other.last.as_ref() else {
-        return Ok(());
-    };
-    let is_replaced = are_two(other, known) || key.is_part() && are_two_alone(old, new, key);
-    push_both(alloc, old.by, was, is, is_replaced, written)
-}
-
-/// Adds that an interface of which the old file knows this went, if the new one has nothing of it.
-fn push_left(
-    alloc: Global,
-    new: Side<'_>,
-    key: Key,
-    known: &Known,
-    written: &mut Written,
-) -> Result<(), AllocError>
-    ensures { OnOk result (Adds (gone_of
-        (tells new.entry.has_dumps (option_copied new.entry.host) key.family)
-        (record { is_new = true; family = key.family; host = new.entry.name.now })
-        (found_last known.now.last)
-        (found (option_copied new.entry.host) key) ∷ [])
-        written.old written.new) }
-{
-    let Some(was) = known.last.as_ref() else {
-        return Ok(());
-    };
-    if new.known(key).is_some() {
-        return Ok(());
-    }
-    if new.tells(key.family) {
-        return push_gone(alloc, was.words(), &was.snapshot, &mut written.out);
-    }
-    written.add_untold(alloc, true, key.family, new.name)
-}
-
-/// Adds what came or changed of a host.
-fn push_host(
-    alloc: Global,
-    old: Side<'_>,
-    new: Side<'_>,
-    host: &Host,
-    written: &mut Written,
-) -> Result<(), AllocError>
-    requires { option_copied new.host ≡ Some host.now }
-    ensures { OnOk result (Adds (map (news_at old.entry.by old.entry.has_dumps old.entry.name.now
-        (option_copied old.entry.host) (option_copied new.entry.host))
-        (keys_of host.now.known.entries)) written.old written.new) }
-{
-    for (key, known) in host.known.iter() {
-        push_news(alloc, old, new, *key, known, written)?;
-    }
-    Ok(())
-}
-
-/// Adds what went of a host.
-fn push_left_of(
-    alloc: Global,
-    new: Side<'_>,
-    host: &Host,
-    written: &mut Written,
-) -> Result<(), AllocError>
-    ensures { OnOk result (Adds (map (gone_at new.entry.has_dumps new.entry.name.now
-        (Some host.now) (option_copied new.entry.host))
-        (keys_of host.now.known.entries)) written.old written.new) }
-{
-    for (key, known) in host.known.iter() {
-        push_left(alloc, new, *key, known, written)?;
-    }
-    Ok(())
-}
-
-/// Adds what came or changed: each interface of the new file, in order.
-fn push_came(
-    alloc: Global,
-    old: &Watch,
-    new: &Watch,
-    written: &mut Written,
-) -> Result<(), AllocError>
-    ensures { OnOk result (Adds (flat_map (host_news old.now new.now) (names_in new.now))
-        written.old written.new) }
-{
-    for (name, host) in new.hosts().iter() {
-        let name = name.as_slice();
-        let was = Side::of(old, name);
-        let is = Side::of(new, name);
-        push_host(alloc, was, is, host, written)?;
-    }
-    Ok(())
-}
-
-/// Adds what went: each interface of the old file, in order.
-fn push_went(
-    alloc: Global,
-    old: &Watch,
-    new: &Watch,
-    written: &mut Written,
-) -> Result<(), AllocError>
-    ensures { OnOk result (Adds (flat_map (host_gone old.now new.now) (names_in old.now))
-        written.old written.new) }
-{
-    for (name, host) in old.hosts().iter() {
-        let name = name.as_slice();
-        let is = Side::of(new, name);
-        push_left_of(alloc, is, host, written)?;
-    }
-    Ok(())
 }
 
 /// Whether there are more bytes than so many.

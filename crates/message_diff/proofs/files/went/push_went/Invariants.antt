@@ -1,7 +1,7 @@
 use Rattle.std.specs.List.{flat_map}
-use Rattle.message_diff.specs.declared.files.Written.{Written}
+use Rattle.message_diff.specs.declared.files.written.Written.{Written}
 use Rattle.message_diff.specs.Files.{Adds, host_gone, names_in, names_of}
-use Rattle.message_diff.proofs.files.push_went.Given as goal
+use Rattle.message_diff.proofs.files.went.push_went.Given as goal
 
 abbrev pub invariant-loop-name : goal.invariant-loop-name
 invariant-loop-name l =

@@ -9,7 +9,7 @@ use Rattle.message_diff.specs.declared.store.Known.{Known}
 use Rattle.message_diff.specs.Files.{Adds, Found, Missing, found, found_in, found_last, gone_at, gone_of, tells}
 use Rattle.message_diff.proofs.Beside.{next_told, none}
 use Rattle.message_diff.proofs.Pictures.{key_total}
-use Rattle.message_diff.proofs.files.push_left_of.Goals as goal
+use Rattle.message_diff.proofs.files.went.push_left_of.Goals as goal
 
 pub loop-key-preserved : goal.loop-key-preserved
 loop-key-preserved c = λ all more.

@@ -8,7 +8,7 @@ use Rattle.message_diff.specs.declared.store.Known.{Known}
 use Rattle.message_diff.specs.Files.{Adds, known_at, news_at}
 use Rattle.message_diff.proofs.Beside.{next_told, none}
 use Rattle.message_diff.proofs.Pictures.{key_total}
-use Rattle.message_diff.proofs.files.push_host.Goals as goal
+use Rattle.message_diff.proofs.files.came.push_host.Goals as goal
 
 pub push_news-requires : goal.push_news-requires
 push_news-requires c =

@@ -5,7 +5,7 @@ use Rattle.std.proofs.lemmas.Result.{on_ok_weaker}
 use Rattle.message_diff.specs.Alone.{AddsAlone}
 use Rattle.message_diff.specs.Files.{Missing, known_at, tells}
 use Rattle.message_diff.proofs.Beside.{copied_some, told_went}
-use Rattle.message_diff.proofs.files.push_left.Goals as goal
+use Rattle.message_diff.proofs.files.went.push_left.Goals as goal
 
 pub returns-then-tells : goal.returns-then-tells
 returns-then-tells c =

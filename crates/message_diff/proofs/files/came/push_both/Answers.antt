@@ -5,7 +5,7 @@ use Rattle.message_diff.specs.Alone.{AddsAlone}
 use Rattle.message_diff.specs.Files.{words_told}
 use Rattle.message_diff.specs.Changed.{AddsChanged}
 use Rattle.message_diff.proofs.Beside.{changed_told, replaced_told}
-use Rattle.message_diff.proofs.files.push_both.Goals as goal
+use Rattle.message_diff.proofs.files.came.push_both.Goals as goal
 
 pub returns-then-is_replaced : goal.returns-then-is_replaced
 returns-then-is_replaced c =

@@ -4,7 +4,7 @@ use Rattle.std.specs.Option.{option_copied}
 use Rattle.std.proofs.lemmas.Result.{on_ok_weaker}
 use Rattle.message_diff.specs.Alone.{AddsAlone}
 use Rattle.message_diff.proofs.Beside.{told_refused, told_came}
-use Rattle.message_diff.proofs.files.push_news.Goals as goal
+use Rattle.message_diff.proofs.files.came.push_news.Goals as goal
 
 pub returns-in_default : goal.returns-in_default
 returns-in_default c =

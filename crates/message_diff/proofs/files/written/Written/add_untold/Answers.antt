@@ -1,7 +1,7 @@
 use Rattle.std.proofs.Common.{ℕ, List, refl, sym, ap}
 use Rattle.message_diff.specs.Files.{Missing}
 use Rattle.message_diff.proofs.Beside.{untold_again, untold_more}
-use Rattle.message_diff.proofs.files.Written.add_untold.Goals as goal
+use Rattle.message_diff.proofs.files.written.Written.add_untold.Goals as goal
 
 pub returns-then-is_last : goal.returns-then-is_last
 returns-then-is_last c = untold_again _ _ (sym c.if-is_last.ensures)
