@@ -93,7 +93,7 @@ def owner(text, at):
     """Returns the function, the named type or the macro of a file in which a place of it stands, as `Type::name` or
     `name`."""
     head = text[:at] + text[at:].partition("\n")[0]
-    items = re.findall(r"^( *)(?:pub(?:\(crate\))? )?(?:const )?(?:final )?(?:fn|type|macro_rules!) (\w+)", head, re.M)
+    items = re.findall(r"^( *)(?:pub(?:\(\w+\))? )?(?:const )?(?:final )?(?:fn|type|macro_rules!) (\w+)", head, re.M)
     if not items:
         return ""
     indent, name = items[-1]
