@@ -171,24 +171,34 @@ fn write_again(rt: &impl Abort, alloc: Global, data: &[u8], refused: &mut Refuse
     assert!(rt; data.starts_with(added.as_slice()));
 }
 
+/// An interface that is set has these members.
+fn is_made(rt: &impl Abort, alloc: Global, wanted: &[LinkInfo], refused: &mut Refused) {
+    let mut vxlan = new(rt, alloc, "vxlan", refused);
+    for (name, n) in SET {
+        set(rt, alloc, &mut vxlan, name, n, refused);
+    }
+    let made = list(rt, alloc, &vxlan, refused);
+    assert!(rt; made.as_slice() == wanted);
+}
+
+/// These members are read, and come back.
+fn is_read(rt: &impl Abort, alloc: Global, members: &[LinkInfo], refused: &mut Refused) {
+    let read = of(rt, alloc, members, refused);
+    assert!(rt; read.kind() == "vxlan");
+    assert!(rt; numbers(&read) == [Some(42), Some(4789), Some(1)]);
+    let again = list(rt, alloc, &read, refused);
+    assert!(rt; again.as_slice() == members);
+}
+
 /// Where memory is refused, the test says of which call; `scripts/test/refused_info.sh` refuses each one in turn.
 #[test]
 fn refused_memory_changes_nothing(rt: HostRuntime) {
     let alloc = rt.alloc();
     let mut refused = None;
-    let mut vxlan = new(&rt, alloc, "vxlan", &mut refused);
-    for (name, n) in SET {
-        set(&rt, alloc, &mut vxlan, name, n, &mut refused);
-    }
-    set_flags(&rt, alloc, &mut refused);
     let wanted = members(&rt, alloc, &VXLAN, &mut refused);
-    let made = list(&rt, alloc, &vxlan, &mut refused);
-    assert!(rt; made.as_slice() == wanted.as_slice());
-    let read = of(&rt, alloc, wanted.as_slice(), &mut refused);
-    assert!(rt; read.kind() == "vxlan");
-    assert!(rt; numbers(&read) == [Some(42), Some(4789), Some(1)]);
-    let again = list(&rt, alloc, &read, &mut refused);
-    assert!(rt; again.as_slice() == wanted.as_slice());
+    is_made(&rt, alloc, wanted.as_slice(), &mut refused);
+    set_flags(&rt, alloc, &mut refused);
+    is_read(&rt, alloc, wanted.as_slice(), &mut refused);
     write_again(&rt, alloc, &VXLAN[16..], &mut refused);
     if let Some(call) = refused {
         let _ = eprintln!(rt; "refused: {call}");
