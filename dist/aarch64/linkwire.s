@@ -2401,7 +2401,7 @@ line_filter.answers.AnsweringTake.take.460d80f9416d9dfa:
 	str	wzr, [x19]
 	strh	wzr, [x19, #4]
 	stp	x23, x25, [sp, #48]
-	bl	nla_wire.place.check_one.e185cabf809fc253
+	bl	nla_wire.place.check_one.c4c48bc1b6cb0726
 	ldrb	w8, [sp, #64]
 	cbnz	w8, .LBB11_210
 .LBB11_156:
@@ -2811,7 +2811,7 @@ line_filter.answers.AnsweringTake.take.460d80f9416d9dfa:
 	add	x3, x24, x19
 	mov	w0, w21
 	mov	x2, x22
-	bl	nla_wire.members.write_each.e185cabf809fc253
+	bl	nla_wire.members.write_each.c4c48bc1b6cb0726
 	ldp	x19, x21, [x23, #8]
 	sub	x8, x21, x19
 	cmp	x8, #2
@@ -5027,10 +5027,10 @@ nla_wire.members.measure_each.7562298f77a88fdb:
 .LCPI30_1:
 	.xword	7
 	.xword	0
-	.section	.text.nla_wire.place.check_one.e185cabf809fc253,"ax",@progbits
+	.section	.text.nla_wire.place.check_one.c4c48bc1b6cb0726,"ax",@progbits
 	.p2align	2
-	.type	nla_wire.place.check_one.e185cabf809fc253,@function
-nla_wire.place.check_one.e185cabf809fc253:
+	.type	nla_wire.place.check_one.c4c48bc1b6cb0726,@function
+nla_wire.place.check_one.c4c48bc1b6cb0726:
 	sub	sp, sp, #240
 	ldrh	w8, [x2]
 	stp	x26, x25, [sp, #176]
@@ -6370,8 +6370,8 @@ nla_wire.place.check_one.e185cabf809fc253:
 	stp	x9, x13, [sp, #24]
 	b	.LBB30_7
 .Lfunc_end30:
-	.size	nla_wire.place.check_one.e185cabf809fc253, .Lfunc_end30-nla_wire.place.check_one.e185cabf809fc253
-	.section	.rodata.nla_wire.place.check_one.e185cabf809fc253,"a",@progbits
+	.size	nla_wire.place.check_one.c4c48bc1b6cb0726, .Lfunc_end30-nla_wire.place.check_one.c4c48bc1b6cb0726
+	.section	.rodata.nla_wire.place.check_one.c4c48bc1b6cb0726,"a",@progbits
 	.p2align	1, 0x0
 .LJTI30_0:
 	.hword	(.LBB30_11-.LBB30_2)>>2
@@ -8631,10 +8631,10 @@ nla_wire.place.check_one.7562298f77a88fdb:
 .Lfunc_end45:
 	.size	nla_wire.place.check_one.7562298f77a88fdb, .Lfunc_end45-nla_wire.place.check_one.7562298f77a88fdb
 
-	.section	.text.nla_wire.members.write_each.e185cabf809fc253,"ax",@progbits
+	.section	.text.nla_wire.members.write_each.c4c48bc1b6cb0726,"ax",@progbits
 	.p2align	2
-	.type	nla_wire.members.write_each.e185cabf809fc253,@function
-nla_wire.members.write_each.e185cabf809fc253:
+	.type	nla_wire.members.write_each.c4c48bc1b6cb0726,@function
+nla_wire.members.write_each.c4c48bc1b6cb0726:
 	sub	sp, sp, #160
 	stp	x29, x30, [sp, #64]
 	add	x29, sp, #64
@@ -10111,8 +10111,8 @@ nla_wire.members.write_each.e185cabf809fc253:
 	add	sp, sp, #160
 	ret
 .Lfunc_end46:
-	.size	nla_wire.members.write_each.e185cabf809fc253, .Lfunc_end46-nla_wire.members.write_each.e185cabf809fc253
-	.section	.rodata.nla_wire.members.write_each.e185cabf809fc253,"a",@progbits
+	.size	nla_wire.members.write_each.c4c48bc1b6cb0726, .Lfunc_end46-nla_wire.members.write_each.c4c48bc1b6cb0726
+	.section	.rodata.nla_wire.members.write_each.c4c48bc1b6cb0726,"a",@progbits
 	.p2align	1, 0x0
 .LJTI46_0:
 	.hword	(.LBB46_76-.LBB46_2)>>2

@@ -2522,7 +2522,7 @@ line_filter.answers.AnsweringTake.take.460d80f9416d9dfa:
 	leaq	88(%rsp), %rdx
 	movq	48(%rsp), %rsi
 	movq	%r8, %r15
-	callq	nla_wire.place.check_one.e185cabf809fc253
+	callq	nla_wire.place.check_one.c4c48bc1b6cb0726
 	movq	%r15, %r8
 	cmpb	$0, 128(%rsp)
 	jne	.LBB10_196
@@ -2946,7 +2946,7 @@ line_filter.answers.AnsweringTake.take.460d80f9416d9dfa:
 	movq	48(%rsp), %rdi
 	movq	%r14, %rdx
 	movq	%r15, %r8
-	callq	nla_wire.members.write_each.e185cabf809fc253
+	callq	nla_wire.members.write_each.c4c48bc1b6cb0726
 	movq	40(%rsp), %r12
 	movq	8(%r12), %rbx
 	movq	16(%r12), %r13
@@ -5410,10 +5410,10 @@ nla_wire.members.measure_each.7562298f77a88fdb:
 	.size	nla_wire.members.measure_each.7562298f77a88fdb, .Lfunc_end28-nla_wire.members.measure_each.7562298f77a88fdb
 	.cfi_endproc
 
-	.section	.text.nla_wire.place.check_one.e185cabf809fc253,"ax",@progbits
+	.section	.text.nla_wire.place.check_one.c4c48bc1b6cb0726,"ax",@progbits
 	.p2align	4
-	.type	nla_wire.place.check_one.e185cabf809fc253,@function
-nla_wire.place.check_one.e185cabf809fc253:
+	.type	nla_wire.place.check_one.c4c48bc1b6cb0726,@function
+nla_wire.place.check_one.c4c48bc1b6cb0726:
 	.cfi_startproc
 	pushq	%rbp
 	.cfi_def_cfa_offset 16
@@ -6760,9 +6760,9 @@ nla_wire.place.check_one.e185cabf809fc253:
 	movq	88(%rsp), %rdx
 	jmp	.LBB29_287
 .Lfunc_end29:
-	.size	nla_wire.place.check_one.e185cabf809fc253, .Lfunc_end29-nla_wire.place.check_one.e185cabf809fc253
+	.size	nla_wire.place.check_one.c4c48bc1b6cb0726, .Lfunc_end29-nla_wire.place.check_one.c4c48bc1b6cb0726
 	.cfi_endproc
-	.section	.rodata.nla_wire.place.check_one.e185cabf809fc253,"a",@progbits
+	.section	.rodata.nla_wire.place.check_one.c4c48bc1b6cb0726,"a",@progbits
 	.p2align	2, 0x0
 .LJTI29_0:
 	.long	.LBB29_19-.LJTI29_0
@@ -9054,10 +9054,10 @@ nla_wire.place.check_one.7562298f77a88fdb:
 	.size	nla_wire.place.check_one.7562298f77a88fdb, .Lfunc_end44-nla_wire.place.check_one.7562298f77a88fdb
 	.cfi_endproc
 
-	.section	.text.nla_wire.members.write_each.e185cabf809fc253,"ax",@progbits
+	.section	.text.nla_wire.members.write_each.c4c48bc1b6cb0726,"ax",@progbits
 	.p2align	4
-	.type	nla_wire.members.write_each.e185cabf809fc253,@function
-nla_wire.members.write_each.e185cabf809fc253:
+	.type	nla_wire.members.write_each.c4c48bc1b6cb0726,@function
+nla_wire.members.write_each.c4c48bc1b6cb0726:
 	.cfi_startproc
 	pushq	%rbp
 	.cfi_def_cfa_offset 16
@@ -10758,9 +10758,9 @@ nla_wire.members.write_each.e185cabf809fc253:
 	.cfi_def_cfa_offset 8
 	retq
 .Lfunc_end45:
-	.size	nla_wire.members.write_each.e185cabf809fc253, .Lfunc_end45-nla_wire.members.write_each.e185cabf809fc253
+	.size	nla_wire.members.write_each.c4c48bc1b6cb0726, .Lfunc_end45-nla_wire.members.write_each.c4c48bc1b6cb0726
 	.cfi_endproc
-	.section	.rodata.nla_wire.members.write_each.e185cabf809fc253,"a",@progbits
+	.section	.rodata.nla_wire.members.write_each.c4c48bc1b6cb0726,"a",@progbits
 	.p2align	2, 0x0
 .LJTI45_0:
 	.long	.LBB45_76-.LJTI45_0

@@ -4,6 +4,7 @@
 pub(crate) mod field;
 pub(crate) mod holds;
 pub(crate) mod info;
+pub(crate) mod named;
 pub(crate) mod number;
 pub(crate) mod place;
 pub(crate) mod read;

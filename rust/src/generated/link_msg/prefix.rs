@@ -2,8 +2,10 @@
 //! The copied prefix: the attributes in front of a list that are canonical as they are spelled, and are copied.
 
 use crate::link_msg::attribute::LinkAttribute;
+use crate::link_msg::place::is_empty_ports;
+use crate::link_msg::shape::Shape;
 use crate::link_vals::AddressFamily;
-use crate::nla_wire::{NlasIterator, nla_align, padded_len};
+use crate::nla_wire::{NlaBuffer, NlasIterator, nla_align, padded_len};
 
 /// Whether at most three bytes are all zero.
 #[cfg_attr(not(debug_assertions), inline(always))]
@@ -22,6 +24,38 @@ fn is_padded(bytes: &[u8], front_len: u16) -> bool {
     let end = front_len as usize;
     let padded = nla_align(end);
     padded <= bytes.len() && is_clear(&bytes[end..padded])
+}
+
+impl LinkAttribute {
+    /// Whether a frame is canonical as it is spelled, but for its padding, and not an empty list of ports. One with
+    /// flags is not looked at.
+    #[cfg_attr(not(debug_assertions), inline(always))]
+    fn is_own_encoding(buffer: &NlaBuffer<'_>, family: AddressFamily) -> bool {
+        let payload = buffer.value();
+        if !has_no_flags(buffer) {
+            return false;
+        }
+        if is_empty_ports(buffer, payload.len()) {
+            return false;
+        }
+        let shape = match Shape::of(buffer.kind(), payload.len(), family) {
+            Some(shape) => shape,
+            _ => return true,
+        };
+        if !shape.is_copied() {
+            return false;
+        }
+        match shape.measure(payload) {
+            Some(len) => len == payload.len(),
+            None => false,
+        }
+    }
+}
+
+/// Whether the kind of a frame is its number alone.
+#[cfg_attr(not(debug_assertions), inline(always))]
+fn has_no_flags(buffer: &NlaBuffer<'_>) -> bool {
+    buffer.kind_with_flags() == buffer.kind()
 }
 
 /// How many bytes in front are attributes that are canonical as they are spelled, under the header's family.

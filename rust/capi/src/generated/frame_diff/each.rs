@@ -2,7 +2,9 @@
 //! What lists tell whose values are their own keys: each value that comes more often here than there.
 
 use crate::rattle::prelude::Vec;
-use crate::frame_diff::leaf::{Texts, Value, is_same, push_text, put_turned, tell_leaf};
+use crate::frame_diff::leaf::compare::is_same;
+use crate::frame_diff::leaf::show::push_text;
+use crate::frame_diff::leaf::{Texts, Value, put_turned, tell_leaf};
 use crate::frame_diff::path::join_each;
 use crate::frame_diff::side::Side;
 use crate::frame_shown::depth::Depth;

@@ -2,21 +2,22 @@
 //! What values that hold no others tell.
 
 use crate::rattle::prelude::Vec;
+
+pub(crate) mod compare;
+pub(crate) mod show;
+
 use crate::frame_diff::kept::Kept;
 use crate::frame_diff::keyed::Labelled;
+use crate::frame_diff::leaf::compare::is_shown_same;
+use crate::frame_diff::leaf::show::show_value;
 use crate::frame_diff::path::join;
 use crate::frame_diff::side::Side;
 use crate::frame_shown::depth::Depth;
-use crate::frame_shown::form::{Around, Field, Form, Group, List, Way};
-use crate::frame_shown::list::{show_one_array, show_one_list, show_way};
-use crate::frame_shown::tables::LINK_FLAGS;
-use crate::frame_shown::value::{show_field, show_spelled};
+use crate::frame_shown::form::{Around, Field, Group, List, Way};
 use crate::link_info::Plain;
 use crate::link_vlans::Run;
-use crate::nla_wire::{NLA_F_NESTED, NLA_F_NET_BYTEORDER, NLA_TYPE_MASK};
 use crate::shown::{Nest, Page, Room};
 use crate::rattle::alloc::{AllocError, Global};
-use std::mem;
 
 /// A value that holds no others.
 #[derive(Clone, Copy)]
@@ -69,9 +70,6 @@ pub struct Texts {
     other: Vec<u8>,
 }
 
-/// The most bytes of a text whose room is kept for the next one.
-const MOST_KEPT: usize = 4096;
-
 impl Texts {
     /// No room yet. It takes no memory.
     pub fn new(alloc: Global) -> Texts {
@@ -82,248 +80,6 @@ impl Texts {
             other: Vec::new(alloc),
         }
     }
-}
-
-/// Takes the room of a text, to write the next one there.
-fn take_room(alloc: Global, kept: &mut Vec<u8>) -> Vec<u8> {
-    let mut text = mem::replace(kept, Vec::new(alloc));
-    text.clear();
-    text
-}
-
-/// Keeps the room of a text for the next one.
-fn keep_room(text: Vec<u8>, kept: &mut Vec<u8>) {
-    if text.capacity() <= MOST_KEPT {
-        *kept = text;
-    }
-}
-
-/// The names of the two flags of a frame.
-const FRAME_FLAGS: [(u64, &str); 2] = [
-    (NLA_F_NESTED as u64, "nested"),
-    (NLA_F_NET_BYTEORDER as u64, "net-byteorder"),
-];
-
-/// Adds the flags of a frame.
-fn show_flags(page: &mut Page, name: &str, kind: u16) -> Result<(), AllocError> {
-    let flags = kind & (NLA_F_NESTED | NLA_F_NET_BYTEORDER);
-    page.flags(name, flags.into(), &FRAME_FLAGS)
-}
-
-/// Adds the flags of a link.
-fn show_link_flags(page: &mut Page, name: &str, bits: u64) -> Result<(), AllocError> {
-    page.flags(name, bits, &LINK_FLAGS)
-}
-
-/// The names of flags of VLANs (`BRIDGE_VLAN_INFO_*`, linux/if_bridge.h), without those of the ends of a range.
-pub(crate) const VLAN_FLAGS: [(u64, &str); 5] = [
-    (1, "master"),
-    (2, "pvid"),
-    (4, "untagged"),
-    (32, "brentry"),
-    (64, "only-opts"),
-];
-
-/// Adds the flags of a VLAN.
-fn show_vlan_flags(page: &mut Page, name: &str, bits: u64) -> Result<(), AllocError> {
-    page.flags(name, bits, &VLAN_FLAGS)
-}
-
-/// Adds the id of a tunnel, if it is one.
-fn show_id(page: &mut Page, name: &str, id: Option<u64>) -> Result<(), AllocError> {
-    match id {
-        Some(id) => page.number(name, id),
-        None => Ok(()),
-    }
-}
-
-/// Adds the last VLAN of a run, where that is another one than the first.
-fn show_end(page: &mut Page, run: Run) -> Result<(), AllocError> {
-    if run.first == run.last {
-        return Ok(());
-    }
-    show_id(page, "id-end", run.said.id(run.last))?;
-    page.keyed_number("vid-end", run.last.into())
-}
-
-/// Adds VLANs of which the same is said as one value.
-fn show_run(page: &mut Page, name: &str, run: Run) -> Result<(), AllocError> {
-    page.begin(name, Nest::Object)?;
-    show_id(page, "id", run.said.id(run.first))?;
-    show_vlan_flags(page, "flags", run.said.flags.into())?;
-    page.keyed_number("vid", run.first.into())?;
-    show_end(page, run)?;
-    page.end()
-}
-
-/// Adds the attributes of a list that have a name as a list of values.
-fn show_listed<D: Depth>(
-    cx: &Around<'_>,
-    page: &mut Page,
-    name: &str,
-    list: List,
-    bytes: &[u8],
-) -> Result<(), AllocError> {
-    show_one_list::<D>(cx, page, name, &list, bytes)?;
-    Ok(())
-}
-
-/// Adds the attributes that are the values of the list of a number.
-fn show_array<D: Depth>(
-    cx: &Around<'_>,
-    page: &mut Page,
-    name: &str,
-    list: List,
-    number: u16,
-    bytes: &[u8],
-) -> Result<(), AllocError> {
-    show_one_array::<D>(cx, page, name, &list, number, bytes)
-}
-
-/// Adds a name where it is not empty.
-fn show_name(page: &mut Page, text: &str) -> Result<(), AllocError> {
-    if text.is_empty() {
-        return Ok(());
-    }
-    page.keyed_string("name", text)
-}
-
-/// Adds an attribute that is kept as it is.
-fn show_kept(
-    page: &mut Page,
-    name: &str,
-    text: &str,
-    kind: u16,
-    payload: &[u8],
-) -> Result<(), AllocError> {
-    page.begin(name, Nest::Object)?;
-    page.keyed_number("number", (kind & NLA_TYPE_MASK).into())?;
-    show_name(page, text)?;
-    show_flags(page, "flags", kind)?;
-    page.hex("payload", payload)?;
-    page.end()
-}
-
-/// Adds those of attributes that are not passed over.
-fn show_others(
-    page: &mut Page,
-    name: &str,
-    others: &[Labelled<Option<Kept<'_>>>],
-) -> Result<(), AllocError> {
-    page.begin(name, Nest::List)?;
-    for one in others {
-        if let Some(kept) = one.value {
-            show_kept(page, "", kept.name, kept.kind, kept.payload)?;
-        }
-    }
-    page.end()
-}
-
-/// Adds the entries of a list of a group.
-fn show_entries<D: Depth>(
-    cx: &Around<'_>,
-    page: &mut Page,
-    name: &str,
-    group: Group,
-    entries: &[Vec<u8>],
-) -> Result<(), AllocError> {
-    page.begin(name, Nest::List)?;
-    for entry in entries {
-        let way = Way::Own(Form::List(group.entry()));
-        show_way::<D>(cx, page, "", way, entry.as_slice())?;
-    }
-    page.end()
-}
-
-/// Adds a value.
-fn show_value<D: Depth>(
-    cx: &Around<'_>,
-    page: &mut Page,
-    name: &str,
-    value: Value<'_>,
-) -> Result<(), AllocError> {
-    match value {
-        Value::Payload(way, payload) => show_way::<D>(cx, page, name, way, payload),
-        Value::Number(kind) => page.keyed_number(name, (kind & NLA_TYPE_MASK).into()),
-        Value::Name(text) => page.keyed_string(name, text),
-        Value::Flags(kind) => show_flags(page, name, kind),
-        Value::Unsigned(number) => page.keyed_number(name, number),
-        Value::Signed(number) => page.keyed_signed(name, number),
-        Value::Spelled(plain, bytes) => show_spelled(page, name, plain, bytes),
-        Value::Field(field, bytes, place) => show_field(cx, page, name, field, bytes, place),
-        Value::Octets(bytes) => page.hex(name, bytes),
-        Value::LinkFlags(bits) => show_link_flags(page, name, bits),
-        Value::VlanFlags(bits) => show_vlan_flags(page, name, bits),
-        Value::Vlans(run) => show_run(page, name, run),
-        Value::Listed(list, bytes) => show_listed::<D>(cx, page, name, list, bytes),
-        Value::Array(list, number, bytes) => {
-            show_array::<D>(cx, page, name, list, number, bytes)
-        }
-        Value::Entries(group, entries) => show_entries::<D>(cx, page, name, group, entries),
-        Value::Others(others) => show_others(page, name, others),
-        Value::Kept(text, kind, payload) => show_kept(page, name, text, kind, payload),
-    }
-}
-
-/// Adds the text of an object that holds this value alone.
-pub(crate) fn push_text<D: Depth>(
-    cx: &Around<'_>,
-    room: &mut Room,
-    value: Value<'_>,
-    out: &mut Vec<u8>,
-) -> Result<(), AllocError> {
-    let mut page = room.begin()?;
-    show_value::<D>(cx, &mut page, "", value)?;
-    room.finish(page, out)
-}
-
-/// Whether two texts are the same.
-pub(crate) fn is_same(one: &[u8], other: &[u8]) -> bool {
-    one == other
-}
-
-/// Whether two values are known to be shown as the same, whatever they are shown by.
-fn is_plainly_same(was: Value<'_>, is: Value<'_>) -> bool {
-    match (was, is) {
-        (Value::Unsigned(was), Value::Unsigned(is)) => was == is,
-        (Value::Signed(was), Value::Signed(is)) => was == is,
-        (Value::LinkFlags(was), Value::LinkFlags(is)) => was == is,
-        (Value::VlanFlags(was), Value::VlanFlags(is)) => was == is,
-        (Value::Octets(was), Value::Octets(is)) => is_same(was, is),
-        _ => false,
-    }
-}
-
-/// Whether two values have the same text.
-fn is_text_same<D: Depth>(
-    texts: &mut Texts,
-    cx: &Around<'_>,
-    theirs: &Around<'_>,
-    was: Value<'_>,
-    is: Value<'_>,
-) -> Result<bool, AllocError> {
-    let mut one = take_room(texts.alloc, &mut texts.one);
-    let mut other = take_room(texts.alloc, &mut texts.other);
-    push_text::<D>(cx, &mut texts.room, was, &mut one)?;
-    push_text::<D>(theirs, &mut texts.room, is, &mut other)?;
-    let same = is_same(one.as_slice(), other.as_slice());
-    keep_room(one, &mut texts.one);
-    keep_room(other, &mut texts.other);
-    Ok(same)
-}
-
-/// Whether two values are shown as the same.
-pub(crate) fn is_shown_same<D: Depth>(
-    texts: &mut Texts,
-    cx: &Around<'_>,
-    theirs: &Around<'_>,
-    was: Value<'_>,
-    is: Value<'_>,
-) -> Result<bool, AllocError> {
-    if is_plainly_same(was, is) {
-        return Ok(true);
-    }
-    is_text_same::<D>(texts, cx, theirs, was, is)
 }
 
 /// Adds the change of a value that one side alone has.

@@ -3,9 +3,10 @@
 
 use crate::rattle::prelude::{String, Vec};
 use crate::link_info::holds::holds;
+use crate::link_info::named::{bits_of, by_name};
 use crate::link_info::place::Place;
 use crate::link_info::read::read;
-use crate::link_info::style::{Names, Plain, Row, Style};
+use crate::link_info::style::Row;
 use crate::link_info::value::Value;
 use crate::link_info::write::push_payload;
 use crate::link_nest::LinkInfo;
@@ -97,52 +98,6 @@ fn put(frames: &mut Vec<DefaultNla>, frame: DefaultNla) -> Result<(), AllocError
             frames.push_reserved(frame);
             Ok(())
         }
-    }
-}
-
-/// The first number or bit of this name.
-fn number_named(names: Names, name: &str) -> Option<u64> {
-    names.iter().find(|row| row.1 == name).map(|row| row.0)
-}
-
-/// The names of numbers or bits of this style.
-fn names_of(style: Style) -> Names {
-    match style.plain() {
-        Plain::Named(_, names) => names,
-        Plain::BigEndianNamed(_, names) => names,
-        Plain::Flags(_, names) => names,
-        Plain::BigEndianFlags(_, names) => names,
-        _ => &[],
-    }
-}
-
-/// The number of a name that the style has; another value as it is.
-fn by_name<'v>(style: Style, value: Value<'v>) -> Value<'v> {
-    let name = match value {
-        Value::Text(name) => name,
-        _ => return value,
-    };
-    match number_named(names_of(style), name) {
-        Some(number) => Value::Unsigned(number),
-        None => value,
-    }
-}
-
-/// The bits of these names, if each has one.
-fn bits_named(names: Names, flags: &[&str]) -> Option<u64> {
-    let mut bits = 0;
-    for flag in flags {
-        bits |= number_named(names, flag)?;
-    }
-    Some(bits)
-}
-
-/// The bits of these names, by a style of flags that has each.
-fn bits_of(style: Style, flags: &[&str]) -> Option<u64> {
-    match style.plain() {
-        Plain::Flags(_, names) => bits_named(names, flags),
-        Plain::BigEndianFlags(_, names) => bits_named(names, flags),
-        _ => None,
     }
 }
 

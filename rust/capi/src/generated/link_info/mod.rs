@@ -5,6 +5,7 @@ pub mod field;
 pub mod holds;
 pub mod info;
 pub mod laws;
+pub(crate) mod named;
 pub mod number;
 pub mod place;
 pub mod read;

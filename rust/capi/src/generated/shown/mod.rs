@@ -2,11 +2,14 @@
 //! Values shown as JSON: objects that are written member by member, each on one line.
 
 mod address;
+mod at_once;
 mod block;
+mod digits;
 mod escape;
 pub mod laws;
 pub mod page;
 mod piece;
+mod quote;
 pub mod room;
 mod sheet;
 

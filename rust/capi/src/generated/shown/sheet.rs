@@ -2,11 +2,9 @@
 //! The text of tokens, as it grows.
 
 use crate::rattle::prelude::Vec;
+use crate::shown::at_once::{try_begun, try_named, try_number, try_numbered, try_string};
 use crate::shown::page::Nest;
-use crate::shown::piece::{
-    add_byte, add_bytes, add_name, add_number, add_numbered, add_string, try_begun, try_named,
-    try_number, try_numbered, try_string,
-};
+use crate::shown::piece::{add_byte, add_bytes, add_name, add_number, add_numbered, add_string};
 use crate::rattle::itoa::Buffer;
 use crate::rattle::alloc::{AllocError, Global};
 
