@@ -3,9 +3,8 @@
 use crate::messages::{PORT, bytes_of};
 use crate::told::list_of;
 use frame_shown::form::Order;
-use link_msg::CanonError;
 use link_msg::numbers::{IFLA_CARRIER_CHANGES, IFLA_IFALIAS};
-use message_diff::{Compared, Snapshot, push_compared, push_new};
+use message_diff::{Compared, Snapshot, push_new};
 use std::alloc::{AllocError, Global};
 
 /// The header of a message, and the name `lo`.
@@ -111,20 +110,13 @@ fn that_came(rt: HostRuntime) {
     assert!(rt; is_new(rt.alloc()) == Ok(true));
 }
 
-/// The line of two messages.
-fn line_of(alloc: Global, by: Compared, old: &[u8], new: &[u8]) -> Result<Vec<u8>, CanonError> {
-    let mut line = Vec::new(alloc);
-    push_compared(alloc, by, Order::Since, old, new, &mut line)?;
-    Ok(line)
-}
-
-/// Whether two messages that are accepted have one line, strictly and leniently.
+/// Whether between two messages that are accepted the same differs, strictly and leniently.
 fn is_one(alloc: Global, by: Compared, old: &[u8], new: &[u8]) -> bool {
     match (
-        line_of(alloc, by, old, new),
-        line_of(alloc, by.leniently(), old, new),
+        list_of(alloc, by, old, new),
+        list_of(alloc, by.leniently(), old, new),
     ) {
-        (Ok(one), Ok(other)) => one.as_slice() == other.as_slice() && !one.is_empty(),
+        (Ok(one), Ok(other)) => one.as_slice() == other.as_slice() && one.starts_with(b"[{"),
         _ => false,
     }
 }

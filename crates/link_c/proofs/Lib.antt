@@ -3,4 +3,3 @@ pub mod Picking
 pub mod Refusals
 pub mod Steps
 pub mod Texts
-pub mod Listed

@@ -1,5 +1,5 @@
 -- What is told of refusals from a place on: the first one, and where the others go on.
-use Rattle.std.specs.Prelude.{◌≡◌, ◌≢◌, ℕ, ◌+◌, ◌<◌, ◌≤◌, min, max, List, [], ◌∷◌, length, take, drop, false}
+use Rattle.std.specs.Prelude.{◌≡◌, ◌≢◌, ℕ, ◌+◌, ◌<◌, ◌≤◌, min, max, List, [], ◌∷◌, length, take, drop}
 use Rattle.std.specs.Prelude.{Result, Ok, Err, Option, Some, None}
 use Rattle.std.proofs.Common.{refl, sym, ◌∙◌, ap, subst, arith, inl, inr, drop-drop, length-drop, length-take-le}
 use Rattle.std.proofs.lemmas.Bool.{cases_lt}
@@ -14,25 +14,20 @@ use Rattle.nla_wire.proofs.Front.{step_rest}
 use Rattle.nla_wire.proofs.Items.{items_nil, items_case}
 use Rattle.nla_wire.proofs.Joined.{begins_once}
 use Rattle.nla_wire.proofs.Steps.{step_whole, step_begins, step_bad, bad_step, step_framed, step_rest_bytes, step_size}
-use Rattle.nla_wire.proofs.Steps.{length-begins, bytes_right}
+use Rattle.nla_wire.proofs.Steps.{bytes_right}
 use Rattle.link_vals.specs.declared.address_family.AddressFamily.{AddressFamily}
 use Rattle.link_msg.specs.Header.{header_size, header_of}
 use Rattle.link_msg.specs.Tables.{attribute_place, attribute_lawful}
 use Rattle.link_msg.specs.Told.{Told, told_of, after, told_on, told, told_all, told_from}
 use Rattle.link_msg.specs.declared.attribute.LinkAttribute.{LinkAttribute}
 use Rattle.link_msg.proofs.FirstFaults.{bad_some}
-use Rattle.link_c.specs.Lists.{IsNext, IsStep}
+use Rattle.link_c.specs.Lists.{IsStep}
 use Rattle.link_c.specs.Lists as lists
-use Rattle.link_c.specs.Refused.{StartsAs, TellsFrame, Tells, IsToldAt, Walks, WalkTellsAll, no_attribute}
+use Rattle.link_c.specs.Refused.{StartsAs, TellsFrame, Tells, IsToldAt, Walks, WalkTellsAll}
 use Rattle.link_c.specs.declared.list.Attribute.{Attribute}
 use Rattle.link_c.specs.declared.refused.Refused.{Refused}
-use Rattle.link_c.specs.declared.refusal.Refusal.{Refusal}
-use Rattle.link_c.specs.declared.refusal.Refusal.TheVariants as Refusals
 
 -- ** what starts at a place
-
-nil_none : (b : List ℕ) → b ≡ [] → BeginsWithNone b
-nil_none b is f rest begins = absurd (omega (arith, length-begins b f rest begins, ap length is))
 
 bad_none : (b : List ℕ) (c : Cause) → BadStart b c → BeginsWithNone b
 bad_none b c bad f rest begins =
@@ -44,21 +39,6 @@ pub told_frame : (b : List ℕ) (at next : ℕ) (a : Attribute) → IsStep b at 
 told_frame b at next a s None none = absurd (none (lists.told b a) (drop next b) s.begins)
 told_frame b at next a s (Some f) (rest, begins) =
     (refl, (begins_once (drop at b) (lists.told b a) f (drop next b) rest s.begins begins).0, s)
-
--- none is there, where no frame starts
-told_none : (b : List ℕ) (at : ℕ) → BeginsWithNone (drop at b) → (f : Option Frame) → StartsAs b at f
-    → TellsFrame b at f (length b) 0 no_attribute
-told_none b at none None h = (refl, refl, refl)
-told_none b at none (Some f) (rest, begins) = absurd (none f rest begins)
-
-pub told_end : (b : List ℕ) (at next : ℕ) (old new : Attribute) → IsNext b at next old new (Ok false)
-    → (f : Option Frame) → StartsAs b at f → TellsFrame b at f (length b) 0 no_attribute
-told_end b at next old new h = told_none b at (nil_none (drop at b) h.1)
-
-pub told_fault : (b : List ℕ) (at next : ℕ) (old new : Attribute) (e : Refusal) → IsNext b at next old new (Err e)
-    → (f : Option Frame) → StartsAs b at f → TellsFrame b at f (length b) 0 no_attribute
-told_fault b at next old new (Refusals.Fault c) h = told_none b at (bad_none (drop at b) c h.1)
-told_fault b at next old new e h = absurd h
 
 -- ** the first that is told
 

@@ -59,12 +59,6 @@ name_whole (x ∷ payload) h =
     named x payload (length (x ∷ payload)) (no_nul (x == 0) (h 0 (omega arith) (omega arith))) len
     ∙ ap Some (take_all (length (x ∷ payload)) (x ∷ payload) (omega arith))
 
--- where the first byte is one
-pub name_none : (payload : List ℕ) → IsFirstByte (is_byte 0) payload (Some 0) → name_in payload ≡ None
-name_none [] h = absurd (omega (arith, h.0.high))
-name_none (x ∷ payload) h =
-    ap (λ b. cond b None (Some (take (prefix_len (λ byte. not (byte == 0)) (x ∷ payload)) (x ∷ payload)))) h.1
-
 -- where one is found behind it
 pub name_before : (payload : List ℕ) (k : ℕ) → (k ≡ 0 → ⊥) → IsFirstByte (is_byte 0) payload (Some k)
     → name_in payload ≡ Some (take k payload)

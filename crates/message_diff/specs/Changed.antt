@@ -108,10 +108,6 @@ pub record AreBothOf (by : Compared) (order : Order) (old new : List ℕ) (was i
   pub old_text : HasTextBy by old was.text
   pub new_text : HasTextBy by new is.text
 
-abbrev pub AddsChangedBy : Compared → Order → List ℕ → List ℕ → List ℕ → List ℕ → Type 0
-AddsChangedBy by order old new before now =
-    (was : Shot) × (is : Shot) × AreBothOf by order old new was is × AddsChanged by [] was is before now
-
 -- ** the list alone
 
 -- it has no line's end

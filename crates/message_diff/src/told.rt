@@ -4,7 +4,7 @@ ghost use Rattle.std.specs.Prelude.{◌≡◌, ◌<◌, ◌↔◌, ◌++◌, ℕ
 ghost use Rattle.message_diff.specs.Announced.{without_event};
 ghost use Rattle.message_diff.specs.Compared.{TellsIfDiffers, Extends, IsRefusalOfTwoBy};
 ghost use Rattle.message_diff.specs.Alone.{AddsAlone};
-ghost use Rattle.message_diff.specs.Changed.{AddsChanged, AddsChangedBy, AddsList, AddsListBy};
+ghost use Rattle.message_diff.specs.Changed.{AddsChanged, AddsList, AddsListBy};
 
 use crate::alone::{push_alone, show_interface};
 use crate::changes::show_changes;
@@ -127,42 +127,9 @@ fn push_changes(
     push_inside(text.as_slice(), out)
 }
 
-/// Adds a line that tells what differs between the messages that the bytes are, if their encodings do, and returns
-/// whether they do. Attributes IFLA_EVENT, which say why a message was announced, are not compared.
-///
-/// Refuses as `Snapshot::of_link` does, each refusal of the old one before those of the new one; then nothing was
-/// added.
-pub fn push_compared(
-    alloc: Global,
-    by: Compared,
-    order: Order,
-    old: &[u8],
-    new: &[u8],
-    out: &mut Vec<u8>,
-) -> Result<bool, CanonError>
-    ensures told { IfOk result
-        (TellsIfDiffers by (without_event old.now) (without_event new.now)) }
-    ensures silent { IfOk result (λ told. told ≡ false → out.new ≡ out.old) }
-    ensures said { IfOk result
-        (λ told. IsTrue told → length out.old.items < length out.new.items) }
-    ensures line { IfOk result (λ told. IsTrue told
-        → AddsChangedBy by order (without_event old.now) (without_event new.now)
-        out.old.items out.new.items) }
-    ensures err { IfErr result
-        (IsRefusalOfTwoBy by (without_event old.now) (without_event new.now)) }
-{
-    let was = Snapshot::of_link(alloc, by, order, old)?;
-    let is = Snapshot::of_link(alloc, by, order, new)?;
-    let mut desk = Desk::new(alloc);
-    match push_changed(alloc, by, b"", &was, &is, &mut desk, out) {
-        Ok(told) => Ok(told),
-        Err(AllocError) => Err(CanonError::OutOfMemory),
-    }
-}
-
 /// Adds the list of what differs between the messages that the bytes are, if their encodings do, and returns whether
 /// they do. Attributes IFLA_EVENT, which say why a message was announced, are not compared. It is what a line of
-/// `push_compared` has as `changes`: a JSON list, and no line's end.
+/// `push_changed` has as `changes`: a JSON list, and no line's end.
 ///
 /// Refuses as `Snapshot::of_link` does, each refusal of the old one before those of the new one; then nothing was
 /// added.

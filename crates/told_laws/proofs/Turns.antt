@@ -39,9 +39,6 @@ ended_leads may false q o = (tt, refl)
 
 -- ** a message of the interface
 
-own_list : (key q : Key) (e : Entry) (t : Bool) → t ≡ true → cond t (e ∷ []) [] ≡ e ∷ []
-own_list key q e t h = ap (λ u. cond u (e ∷ []) []) h
-
 came_leads : (may : Bool) (key : Key) (shot : Shot) (t : Bool) → t ≡ true
     → Lead may None (cond t (Entry.came key shot ∷ []) []) (Some shot.text)
 came_leads may key shot true h = ((refl, tt), refl)
