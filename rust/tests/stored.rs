@@ -239,7 +239,8 @@ fn joined(source: &str) -> String {
 /// The rows are a label, a line and its answer, texts between quotes, in which only a CR is escaped.
 #[test]
 fn rows() {
-    let code = joined(&stored("src/tests/rows.rt")).replace("\\r", "\r");
+    let sources = ["rows.rt", "rows/lists.rt"].map(|it| joined(&stored(&format!("src/tests/{it}"))));
+    let code = sources.concat().replace("\\r", "\r");
     let texts: Vec<&str> = code.split('"').skip(1).step_by(2).collect();
     assert!(texts.len() > 150 && texts.len() % 3 == 0);
     for row in texts.chunks(3) {

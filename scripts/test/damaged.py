@@ -32,7 +32,7 @@ ROUNDS = 100  # how often each line is damaged
 
 def sources():
     """Returns the lines of linkshow's stored run, and the lines and canonical texts that linkwire's tests have."""
-    tests = "\n".join(map(read, sorted(glob.glob("crates/linkwire/src/tests/*.rt", root_dir=TOP))))
+    tests = "\n".join(map(read, sorted(glob.glob("crates/linkwire/src/tests/**/*.rt", root_dir=TOP, recursive=True))))
     found = re.findall("[0-9a-fA-F]{32,}", re.sub(r"\\\n\s*", "", tests))
     stored, tested = digits_of(read("crates/linkshow/stdin")), [it for it in found if len(it) % 2 == 0]
     assert stored and tested, "linkshow's stored run, or the tests of linkwire, have no lines"

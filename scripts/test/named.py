@@ -8,8 +8,8 @@ from collections import defaultdict
 from edits import TOP, lists, owner, pairs_of
 
 FUNCTION = re.compile(r'^( *)(?:pub(?:\(\w+\))? )?(?:const |final |unsafe )*(?:extern "C" )?fn (\w+)', re.M)
-TESTS = ["crates/*_tests/src/*.rt", "crates/diff_checks/src/*.rt", "crates/*/src/tests/*.rt", "crates/*/src/tests.rt",
-         "tests/**/*.c", "rust/tests/*.rs", "bench/*.[ch]"]
+TESTS = ["crates/*_tests/src/*.rt", "crates/diff_checks/src/*.rt", "crates/*/src/tests/**/*.rt",
+         "crates/*/src/tests.rt", "tests/**/*.c", "rust/tests/*.rs", "bench/*.[ch]"]
 
 
 def functions(path):
