@@ -124,7 +124,7 @@ if has_namespace 'the running kernel' -n; then
     ours unshare -n python3 tests/python/beside.py made
     ours python3 tests/python/pages.py README.md docs/PYTHON.md docs/FLEET.md
 fi
-ours nice -n 12 python3 tests/python/rules.py "$LINKDIFF"
+ours nice -n 3 python3 tests/python/rules.py "$LINKDIFF"
 ours python3 tests/python/beside.py
 ours python3 tests/python/fleet.py
 echo 'python passed'
