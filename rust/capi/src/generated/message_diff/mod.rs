@@ -28,4 +28,4 @@ pub use files::{Findings, Outcome, Untold, compare_readers};
 pub use run::{compare_lines, watch_lines};
 pub use snapshot::{Compared, Snapshot};
 pub use telling::Told;
-pub use told::{push_changed, push_compared, push_gone, push_list, push_new};
+pub use told::{push_changed, push_gone, push_list, push_new};

@@ -101,31 +101,9 @@ fn push_changes(
     push_inside(text.as_slice(), out)
 }
 
-/// Adds a line that tells what differs between the messages that the bytes are, if their encodings do, and returns
-/// whether they do. Attributes IFLA_EVENT, which say why a message was announced, are not compared.
-///
-/// Refuses as `Snapshot::of_link` does, each refusal of the old one before those of the new one; then nothing was
-/// added.
-pub fn push_compared(
-    alloc: Global,
-    by: Compared,
-    order: Order,
-    old: &[u8],
-    new: &[u8],
-    out: &mut Vec<u8>,
-) -> Result<bool, CanonError> {
-    let was = Snapshot::of_link(alloc, by, order, old)?;
-    let is = Snapshot::of_link(alloc, by, order, new)?;
-    let mut desk = Desk::new(alloc);
-    match push_changed(alloc, by, b"", &was, &is, &mut desk, out) {
-        Ok(told) => Ok(told),
-        Err(AllocError) => Err(CanonError::OutOfMemory),
-    }
-}
-
 /// Adds the list of what differs between the messages that the bytes are, if their encodings do, and returns whether
 /// they do. Attributes IFLA_EVENT, which say why a message was announced, are not compared. It is what a line of
-/// `push_compared` has as `changes`: a JSON list, and no line's end.
+/// `push_changed` has as `changes`: a JSON list, and no line's end.
 ///
 /// Refuses as `Snapshot::of_link` does, each refusal of the old one before those of the new one; then nothing was
 /// added.
